@@ -1,0 +1,11 @@
+-- Seasons: the parts of each year for which fares are filed.
+use Rattle.std.specs.Prelude.{ℕ, Bool, List, ◌&&◌, ◌||◌, nat_le, if◌then◌else◌}
+use Rattle.fare_codes.specs.declared.season.Season.{Season}
+use Rattle.fare_codes.specs.Day.{place_in_year}
+
+-- where first isn't after last a season holds the days from first to last; else it holds the days from first on and those up to last
+unfoldable pub season_holds : Season → List ℕ → Bool
+season_holds season on =
+    if nat_le (place_in_year season.first) (place_in_year season.last)
+    then (nat_le (place_in_year season.first) (place_in_year on) && nat_le (place_in_year on) (place_in_year season.last))
+    else (nat_le (place_in_year season.first) (place_in_year on) || nat_le (place_in_year on) (place_in_year season.last))

@@ -1,0 +1,35 @@
+ghost use Rattle.std.specs.Prelude.{◌≡◌, true, List, ℕ};
+ghost use Rattle.fare_codes.specs.Codes.{is_currency, read_currency};
+
+use crate::texts::all_uppercase;
+use std::marker::Model;
+
+/// A currency: three letters A to Z.
+#[derive(Clone, Copy, Debug, PartialEq, Eq, PartialOrd, Ord, Hash)]
+pub struct Currency {
+    letters: [u8; 3],
+}
+
+impl Model for Currency {
+    ghost Value = { List ℕ };
+
+    ghost view = { λ c. c.letters };
+
+    ghost invariant = { λ c. is_currency c.letters ≡ true };
+
+    ghost inverse = { λ bytes. record { letters = bytes } };
+}
+
+impl Currency {
+    /// The currency that these bytes spell; nothing exactly where they are not its form.
+    pub fn read(bytes: &[u8]) -> Option<Currency>
+        ensures { result ≡ read_currency bytes.now }
+    {
+        if bytes.len() != 3 || !all_uppercase(bytes) {
+            return None;
+        }
+        Some(Currency {
+            letters: [bytes[0], bytes[1], bytes[2]],
+        })
+    }
+}

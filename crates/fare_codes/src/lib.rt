@@ -1,0 +1,36 @@
+//! The codes of fare construction: places, carriers, rules, days, amounts and the small enums, each with the one text
+//! that stands for it. A contract sees a code as its text, and an amount as its number of hundredths.
+#![tactic(auto)]
+
+mod area;
+mod cabin;
+mod carrier;
+mod city;
+mod country;
+mod currency;
+mod day;
+mod indicator;
+mod kind;
+mod mode;
+mod month_day;
+mod nuc;
+mod over;
+mod rule_id;
+mod season;
+mod texts;
+
+pub use area::Area;
+pub use cabin::Cabin;
+pub use carrier::Carrier;
+pub use city::City;
+pub use country::Country;
+pub use currency::Currency;
+pub use day::Day;
+pub use indicator::Indicator;
+pub use kind::Kind;
+pub use mode::Mode;
+pub use month_day::MonthDay;
+pub use nuc::Nuc;
+pub use over::Over;
+pub use rule_id::RuleId;
+pub use season::Season;
