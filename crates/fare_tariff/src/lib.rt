@@ -1,0 +1,29 @@
+//! Tariff editions: the filed records, what makes a list of them valid, and the look-ups that the rules ask. An edition
+//! is seen as its number, its effective day and its list of records; each look-up answers as if it searched that list.
+#![tactic(auto)]
+
+mod city_record;
+mod currency_record;
+mod edition;
+mod extra_mileage_record;
+mod fare_key;
+mod fare_record;
+mod mileage_record;
+mod names;
+mod pair_record;
+mod record;
+mod rule_record;
+mod terms;
+
+pub use city_record::CityRec;
+pub use currency_record::CurRec;
+pub use edition::Edition;
+pub use extra_mileage_record::EmaRec;
+pub use fare_key::FareKey;
+pub use fare_record::FareRec;
+pub use mileage_record::MileRec;
+pub use names::{Names, RuleList};
+pub use pair_record::PairRec;
+pub use record::Record;
+pub use rule_record::RuleRec;
+pub use terms::Terms;

@@ -1,0 +1,11 @@
+//! Itineraries: what a traveller wants to fly, read from its texts, with the first fault of one that is none.
+//! A trip is seen as its sale day, its first city and its sectors; none of its calls but those of JSON takes memory.
+#![tactic(auto)]
+
+mod fault;
+mod sector;
+mod trip;
+
+pub use fault::{Member, TripFault};
+pub use sector::Sector;
+pub use trip::Trip;
