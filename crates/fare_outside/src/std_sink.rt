@@ -1,0 +1,38 @@
+ghost use Rattle.std.specs.Prelude.{None};
+
+use crate::count::raised;
+use crate::{Failed, Sink};
+use std::io::Write;
+
+/// Standard output. It doesn't tell its bytes, and counts each write that fails or takes nothing.
+#[derive(Drop)]
+pub struct StdSink {
+    runtime: HostRuntime,
+    faults: u64,
+}
+
+impl StdSink {
+    /// Standard output of this process.
+    pub fn new(rt: &HostRuntime) -> StdSink {
+        StdSink {
+            runtime: *rt,
+            faults: 0,
+        }
+    }
+}
+
+impl Sink for StdSink {
+    ghost taken = { λ _. None };
+
+    ghost faults = { λ sink. sink.faults };
+
+    fn write(&mut self, buf: &[u8]) -> Result<usize, Failed> {
+        match self.runtime.stdout().write(buf) {
+            Ok(count) if count > 0 || buf.is_empty() => Ok(count),
+            _ => {
+                self.faults = raised(self.faults);
+                Err(Failed)
+            }
+        }
+    }
+}

@@ -1,0 +1,38 @@
+ghost use Rattle.std.specs.Prelude.{None};
+
+use crate::count::raised;
+use crate::{Failed, Source};
+use std::io::Read;
+
+/// Standard input. It doesn't tell its bytes, and counts each read that fails.
+#[derive(Drop)]
+pub struct StdSource {
+    runtime: HostRuntime,
+    faults: u64,
+}
+
+impl StdSource {
+    /// Standard input of this process.
+    pub fn new(rt: &HostRuntime) -> StdSource {
+        StdSource {
+            runtime: *rt,
+            faults: 0,
+        }
+    }
+}
+
+impl Source for StdSource {
+    ghost left = { λ _. None };
+
+    ghost faults = { λ source. source.faults };
+
+    fn read(&mut self, buf: &mut [u8]) -> Result<usize, Failed> {
+        match self.runtime.stdin().read(buf) {
+            Ok(count) => Ok(count),
+            Err(_) => {
+                self.faults = raised(self.faults);
+                Err(Failed)
+            }
+        }
+    }
+}
