@@ -42,10 +42,18 @@ impl Source for PlainSource {
         ensures bytes { ReadConsumes (Some self.old) (Some self.new) result buf.new }
         ensures answer { result ≡ Ok (min (length buf.old) (length self.old)) }
     {
-        let left = &self.bytes[self.at..];
-        let count = buf.len().min(left.len());
-        buf[..count].copy_from_slice(&left[..count]);
+        let count = copy_front(&self.bytes[self.at..], buf);
         self.at += count;
         Ok(count)
     }
+}
+
+/// Copies to the front of `to` as many of the first bytes of `from` as fit, and says how many.
+fn copy_front(from: &[u8], to: &mut [u8]) -> usize
+    ensures count { result ≡ min (length to.old) (length from.now) }
+    ensures copied { take result to.new ≡ take result from.now }
+{
+    let count = to.len().min(from.len());
+    to[..count].copy_from_slice(&from[..count]);
+    count
 }

@@ -57,7 +57,7 @@ pub fn read_all<S: Source>(alloc: Global, src: &mut S, max: usize) -> Result<Vec
 {
     let mut bytes = Vec::new(alloc);
     let mut buf = [0; PIECE];
-    while bytes.len() <= max {
+    'pieces: while bytes.len() <= max {
         let most = PIECE.min((max - bytes.len()).saturating_add(1));
         let count = src.read(&mut buf[..most])?;
         if count == 0 {

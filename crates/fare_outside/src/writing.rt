@@ -13,7 +13,7 @@ pub fn write_all<K: Sink>(out: &mut K, bytes: &[u8]) -> Result<(), Failed>
     ensures cause { OnErr result (Rose (K.faults out.old) (K.faults out.new)) }
 {
     let mut at = 0;
-    while at < bytes.len() {
+    'pieces: while at < bytes.len() {
         at += out.write(&bytes[at..])?;
     }
     Ok(())
