@@ -33,9 +33,10 @@ impl MemSink {
     /// 1; 4,294,967,295 stands for all from that one on.
     pub fn new(alloc: Global, room: usize, fail: Vec<u32>) -> Result<MemSink, NoMemory>
         ensures { IfOk result (λ sink. sink ≡ record {
-            filled = record { taken = []; room = room };
-            calls = record { fail = fail.items; made = 0 };
-            faults = 0 }) }
+          filled = record { taken = []; room = room };
+          calls = record { fail = fail.items; made = 0 };
+          faults = 0;
+        }) }
     {
         Ok(MemSink {
             room: Room::new(alloc, room)?,

@@ -1,4 +1,5 @@
-ghost use Rattle.std.specs.Prelude.{◌≡◌, Some, true, false};
+ghost use Rattle.std.specs.Prelude.{◌≡◌, Ok, Some, true, false, length, IsTrue};
+ghost use Rattle.fare_outside.specs.Keeper.{ToldAfter, BodiesStay};
 
 use crate::{Bodies, KeepFault, Keeper};
 use std::alloc::Global;
@@ -45,12 +46,19 @@ impl Keeper for PlainKeeper {
 
     ghost ready = { λ keeper. keeper.is_ready };
 
-    fn open(&mut self, _alloc: Global, _name: &str) -> Result<(), KeepFault> {
+    fn open(&mut self, _alloc: Global, _name: &str) -> Result<(), KeepFault>
+        ensures opens { result ≡ Ok tt }
+        ensures ready { self.new ≡ record self.old { is_ready = true } }
+    {
         self.is_ready = true;
         Ok(())
     }
 
-    fn len(&mut self, _alloc: Global) -> Result<u64, KeepFault> {
+    fn len(&mut self, _alloc: Global) -> Result<u64, KeepFault>
+        requires { IsTrue self.old.is_ready }
+        ensures count { result ≡ Ok (length self.old.bodies) }
+        ensures same { self.new ≡ self.old }
+    {
         Ok(self.bodies.len() as u64)
     }
 

@@ -51,6 +51,7 @@ pub fn read_all<S: Source>(alloc: Global, src: &mut S, max: usize) -> Result<Vec
 
     ensures never_falls { S.faults src.old ≤ S.faults src.new }
     ensures cause { IsErrOf result ReadEnd.ReadFault → Rose (S.faults src.old) (S.faults src.new) }
+    ensures fault_within { IsErrOf result ReadEnd.ReadFault → TakesUpTo max (S.left src.old) (S.left src.new) }
 
     // Whatever it answers, no more than that is gone from the source.
     ensures taken { TakesUpTo (max + 1) (S.left src.old) (S.left src.new) }
@@ -58,7 +59,7 @@ pub fn read_all<S: Source>(alloc: Global, src: &mut S, max: usize) -> Result<Vec
     let mut bytes = Vec::new(alloc);
     let mut buf = [0; PIECE];
     'pieces: while bytes.len() <= max {
-        let most = PIECE.min((max - bytes.len()).saturating_add(1));
+        let most = piece_size(max - bytes.len());
         let count = src.read(&mut buf[..most])?;
         if count == 0 {
             return Ok(bytes);
@@ -66,4 +67,13 @@ pub fn read_all<S: Source>(alloc: Global, src: &mut S, max: usize) -> Result<Vec
         bytes.extend_from_slice(&buf[..count])?;
     }
     Err(ReadEnd::TooLong)
+}
+
+// One byte more than the room shows that the source is too long.
+fn piece_size(room: usize) -> usize
+    ensures some { 0 < result }
+    ensures piece { result ≤ PIECE }
+    ensures within { result ≤ room + 1 }
+{
+    if room < PIECE { room + 1 } else { PIECE }
 }

@@ -10,6 +10,7 @@ returns-clause-bytes c =
     let count = c.copy_front-count.result in
     let copied = rw (slice-end c.deref.result.now at, c.deref.ensures.value) at c.copy_front-count.ensures.copied in
     let size = rw (slice-end c.deref.result.now at, c.deref.ensures.value) at c.copy_front-count.ensures.count in
-    let split = rw (← copied) at (drop-piece xs at count) in
-    (sym c.self.view_is ∙ split,
-      λ none room. drop_all (at + count) xs (omega (arith, size, length-drop at xs)))
+    let split = rw (← copied) at (drop-piece xs at count) in (
+      sym c.self.view_is ∙ split,
+      λ none room. drop_all (at + count) xs (omega (arith, size, length-drop at xs)),
+    )
