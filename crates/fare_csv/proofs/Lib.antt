@@ -1,2 +1,4 @@
 pub mod Streaming
 pub mod FieldAt
+pub mod PlainLines
+mod RowExamples

@@ -1,2 +1,4 @@
 pub mod Rows
 pub mod RowsLeft
+pub mod Lines
+pub mod Written
