@@ -2,3 +2,4 @@ pub mod Streaming
 pub mod FieldAt
 pub mod PlainLines
 mod RowExamples
+pub mod NumberLemmas

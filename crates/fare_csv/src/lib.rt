@@ -2,4 +2,9 @@
 #![tactic(auto)]
 
 mod lines;
+mod numbers;
+mod read_record;
 mod rows;
+mod text_fault;
+
+pub use text_fault::TextFault;
