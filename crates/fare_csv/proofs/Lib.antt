@@ -3,3 +3,4 @@ pub mod FieldAt
 pub mod PlainLines
 mod RowExamples
 pub mod NumberLemmas
+pub mod RecordsLemmas

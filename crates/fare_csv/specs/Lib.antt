@@ -5,3 +5,4 @@ pub mod Written
 pub mod Numbers
 pub mod Fields
 pub mod RecordText
+pub mod TariffText

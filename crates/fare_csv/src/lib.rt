@@ -4,7 +4,9 @@
 mod lines;
 mod numbers;
 mod read_record;
+mod read_text;
 mod rows;
 mod text_fault;
+mod version;
 
 pub use text_fault::TextFault;
