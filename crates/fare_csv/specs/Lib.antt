@@ -7,3 +7,4 @@ pub mod Fields
 pub mod Head
 pub mod RecordText
 pub mod TariffText
+pub mod Filed
