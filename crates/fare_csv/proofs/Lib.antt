@@ -3,5 +3,6 @@ pub mod FieldAt
 pub mod PlainLines
 mod RowExamples
 pub mod NumberLemmas
+pub mod NameLemmas
 pub mod NumberTexts
 pub mod RecordsLemmas

@@ -8,3 +8,4 @@ pub mod Head
 pub mod RecordText
 pub mod TariffText
 pub mod Filed
+pub mod NameList

@@ -3,6 +3,7 @@
 
 mod head;
 mod lines;
+mod name_list;
 mod numbers;
 mod read_record;
 mod read_text;
