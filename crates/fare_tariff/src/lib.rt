@@ -8,11 +8,13 @@ mod edition;
 mod extra_mileage_record;
 mod fare_key;
 mod fare_record;
+mod look_up;
 mod mileage_record;
 mod names;
 mod pair_record;
 mod record;
 mod rule_record;
+mod same;
 mod terms;
 
 pub use city_record::CityRec;
