@@ -2,6 +2,9 @@
 //! is seen as its number, its effective day and its list of records; each look-up answers as if it searched that list.
 #![tactic(auto)]
 
+mod check;
+mod check_fault;
+mod check_kind;
 mod city_record;
 mod currency_record;
 mod edition;
@@ -17,6 +20,8 @@ mod rule_record;
 mod same;
 mod terms;
 
+pub use check_fault::CheckFault;
+pub use check_kind::CheckKind;
 pub use city_record::CityRec;
 pub use currency_record::CurRec;
 pub use edition::Edition;

@@ -3,7 +3,7 @@
 ghost use Rattle.std.specs.Prelude.{◌≡◌, bytes_eq};
 ghost use Rattle.fare_tariff.specs.Lookup.{same_indicator, same_cabin, same_kind, same_rule, same_pair};
 
-use fare_codes::{Cabin, Carrier, City, Country, Indicator, Kind, RuleId};
+use fare_codes::{Cabin, Carrier, City, Country, Indicator, Kind, MonthDay, RuleId};
 
 /// Whether two cities are the same.
 #[tactic(auto, using(crate::proofs::Tests::same_text))]
@@ -90,4 +90,11 @@ pub(crate) fn same_pairs(a: City, b: City, c: City, d: City) -> bool
     ensures { result ≡ same_pair a b c d }
 {
     (same_cities(a, c) && same_cities(b, d)) || (same_cities(a, d) && same_cities(b, c))
+}
+
+/// Whether two days of the year are the same.
+pub(crate) fn same_month_days(a: MonthDay, b: MonthDay) -> bool
+    ensures { result ≡ bytes_eq a b }
+{
+    a == b
 }

@@ -9,7 +9,7 @@ use crate::same::{same_cities, same_indicators, same_pairs};
 use fare_codes::{City, Indicator};
 
 /// The miles that a record permits between two cities for an indicator.
-fn mpm_in(a: City, b: City, ind: Indicator, one: &Record) -> Option<u32>
+pub(crate) fn mpm_in(a: City, b: City, ind: Indicator, one: &Record) -> Option<u32>
     ensures { result ≡ mpm_in a b ind one.now }
 {
     match one {
@@ -38,7 +38,7 @@ pub(crate) fn permitted_miles(records: &[Record], a: City, b: City, ind: Indicat
 }
 
 /// The ticketed point miles that a record files between two cities.
-fn tpm_in(a: City, b: City, one: &Record) -> Option<u32>
+pub(crate) fn tpm_in(a: City, b: City, one: &Record) -> Option<u32>
     ensures { result ≡ tpm_in a b one.now }
 {
     match one {

@@ -11,7 +11,7 @@ use crate::same::{same_cities, same_countries};
 use fare_codes::{City, Country};
 
 /// The city that a record files, where it is this one.
-fn city_in(city: City, one: &Record) -> Option<&CityRec>
+pub(crate) fn city_in(city: City, one: &Record) -> Option<&CityRec>
     ensures { option_copied result ≡ city_in city one.now }
 {
     match one {
@@ -40,7 +40,7 @@ pub(crate) fn city_record(records: &[Record], city: City) -> Option<&CityRec>
 }
 
 /// The currency that a record files, where it is that of this country.
-fn currency_in(country: Country, one: &Record) -> Option<&CurRec>
+pub(crate) fn currency_in(country: Country, one: &Record) -> Option<&CurRec>
     ensures { option_copied result ≡ currency_in country one.now }
 {
     match one {

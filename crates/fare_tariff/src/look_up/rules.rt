@@ -13,7 +13,7 @@ use crate::terms::Terms;
 use fare_codes::RuleId;
 
 /// The rule that a record files, where it is this one.
-fn rule_in(id: RuleId, one: &Record) -> Option<&RuleRec>
+pub(crate) fn rule_in(id: RuleId, one: &Record) -> Option<&RuleRec>
     ensures { option_copied result ≡ rule_in id one.now }
 {
     match one {
