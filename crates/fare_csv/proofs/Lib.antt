@@ -1,0 +1,6 @@
+pub mod Streaming
+pub mod FieldAt
+pub mod PlainLines
+mod RowExamples
+pub mod NumberLemmas
+pub mod RecordsLemmas
