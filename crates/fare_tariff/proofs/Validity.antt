@@ -4,7 +4,6 @@ use Rattle.std.specs.Option.{option_or}
 use Rattle.std.proofs.lemmas.Bool.{ltb-false}
 use Rattle.fare_tariff.specs.declared.record.Record.{Record}
 use Rattle.fare_tariff.specs.declared.check_kind.CheckKind.{CheckKind}
-use Rattle.fare_tariff.specs.declared.check_kind.CheckKind.TheVariants.{Duplicate, UnknownCity, UnknownRule, UnknownCurrency, TooManyFares, SamePoint, ZeroMileage, OutOfLimit, Overlap}
 use Rattle.fare_tariff.specs.Check.{first_fault, first_fault_from, kind_of, kind_where, fault_at, first_number, has_key_of, names_unknown_city, names_unknown_rule, names_unknown_currency, is_one_too_many, has_same_points, is_zero_mileage, is_out_of_limit, overlap_of}
 use Rattle.fare_tariff.proofs.Faults.{first_fault_more}
 
