@@ -1,6 +1,6 @@
 -- Names, one further.
-use Rattle.std.proofs.Common.{◌≡◌, ◌<◌, ◌+◌, ℕ, zero, suc, List, [], ◌∷◌, ◌++◌, length, take, drop, get_or, Option, Some, None, refl, sym, ap, ◌∙◌, map, arith, true, false}
-use Rattle.std.specs.Prelude.{◌==◌, ◌≤◌, count_by, nat_le}
+use Rattle.std.proofs.Common.{◌≡◌, ◌<◌, ◌+◌, ℕ, zero, suc, List, [], ◌∷◌, ◌++◌, length, take, drop, get_or, Option, Some, None, refl, sym, ap, ◌∙◌, map, arith, Bool, true, false, if◌then◌else◌}
+use Rattle.std.specs.Prelude.{◌==◌, ◌≤◌, count_by, nat_le, Result, Ok, Err, IfOk, IfSome}
 use Rattle.std.specs.Borrow.{Bor}
 use Rattle.std.proofs.lemmas.Bool.Decides.{nat_tests}
 use Rattle.std.proofs.lemmas.List.{take-append-drop, take_more, map-append}
@@ -67,3 +67,37 @@ read_list_many bytes h =
     let size = length-slice_split (λ byte. byte == 32) bytes in
     let over : nat_le (length (pieces_of bytes)) 64 ≡ false = grind (arith, nat_tests, size) in
     rw over refl
+
+-- as many names as pieces
+names_of-length : (pieces : List (List ℕ)) (names : List (Option RuleId)) → names_of pieces ≡ Some names → length names ≡ length pieces
+unfolding names_of
+names_of-length [] names h =
+    let none : names ≡ [] = cc h in
+    rw none refl
+names_of-length (piece ∷ pieces) names h = by (read_name piece) (names_of pieces) h (λ others e. names_of-length pieces others e)
+  where
+    by : (first : Option (Option RuleId)) (others : Option (List (Option RuleId))) → name_and first others ≡ Some names
+        → ((xs : List (Option RuleId)) → others ≡ Some xs → length xs ≡ length pieces) → length names ≡ length (piece ∷ pieces)
+    by None others e r = cc e
+    by (Some x) None e r = cc e
+    by (Some x) (Some xs) e r =
+        let all : names ≡ x ∷ xs = cc e in
+        rw (all, r xs refl) refl
+
+-- a list has at most 64 names
+pub read_list_short : (bytes : List ℕ) (names : List (Option RuleId)) → read_list bytes ≡ Some names → length names ≤ 64
+unfolding read_list
+read_list_short bytes names h = by (nat_le (length (pieces_of bytes)) 64) refl h
+  where
+    by : (b : Bool) → nat_le (length (pieces_of bytes)) 64 ≡ b → (if b then names_of (pieces_of bytes) else None) ≡ Some names → length names ≤ 64
+    by true t e =
+        let size = names_of-length (pieces_of bytes) names e in
+        grind (arith, nat_tests, size)
+    by false t e = cc e
+
+-- the names of a list of fewer than 64 spaces, where there are any
+pub few-short : {E : Type 0} (r : Result (Option (List (Option RuleId))) E) (bytes : List ℕ) → count_by (λ byte. byte == 32) bytes < 64
+    → IfOk r (λ list. list ≡ names_of (pieces_of bytes)) → IfOk r (λ list. IfSome list (λ names. length names ≤ 64))
+few-short (Err e) bytes few h = tt
+few-short (Ok None) bytes few h = tt
+few-short (Ok (Some names)) bytes few h = read_list_short bytes names (read_list_few bytes few ∙ sym h)

@@ -1,13 +1,14 @@
 -- The records of a tariff text: what the fields of each kind spell.
-use Rattle.std.specs.Prelude.{ℕ, List, [], Option, Some, None, option_map, Result, Ok, Err, ◌==◌, length, codes, if◌then◌else◌}
+use Rattle.std.specs.Prelude.{ℕ, Bool, true, false, List, [], Option, Some, None, option_map, Result, Ok, Err, ◌==◌, length, codes, if◌then◌else◌}
 use Rattle.std.specs.Str.{bytes_eq}
 use Rattle.fare_codes.specs.Codes.{read_city, read_country, read_currency, read_carrier, read_rule_id}
 use Rattle.fare_codes.specs.Words.{read_area, read_indicator, read_mode, read_cabin, read_kind}
 use Rattle.fare_codes.specs.declared.city.City.{City}
 use Rattle.fare_tariff.specs.declared.city_record.CityRec.{CityRec}
-use Rattle.fare_tariff.specs.Record.{CurrencyRecord, MileageRecord, PairRecord, AllowanceRecord}
+use Rattle.fare_tariff.specs.Record.{CurrencyRecord, RuleRecord, MileageRecord, PairRecord, AllowanceRecord}
 use Rattle.fare_csv.specs.declared.text_fault.TextFault.{TextFault}
 use Rattle.fare_csv.specs.Rows.{Fields}
+use Rattle.fare_csv.specs.NameList.{read_names}
 use Rattle.fare_csv.specs.Numbers.{read_number, read_rate}
 use Rattle.fare_csv.specs.Fields.{◌>>=◌, field, counted, in_form}
 
@@ -65,3 +66,24 @@ allowance_of number fields = do
   via ← in_form number 5 (read_via (field fields 4))
   miles ← in_form number 6 (read_number 0 99_999 (field fields 5))
   Ok (record { from = from; to = to; ind = ind; via = via; miles = miles })
+
+-- whether a surcharge is allowed, as `Y` or `N`
+unfoldable pub read_excess : List ℕ → Option Bool
+read_excess bytes =
+    if bytes_eq bytes (codes "Y") then Some true
+    else (if bytes_eq bytes (codes "N") then Some false else None)
+
+-- RULE: the id, the greatest stops and transfers, the least advance, the least and the greatest stay, the excess and the lists of units and ends
+unfoldable pub rule_of : ℕ → Fields → Result RuleRecord TextFault
+rule_of number fields = do
+  _ ← counted number 10 fields
+  id ← in_form number 2 (read_rule_id (field fields 1))
+  stops ← in_form number 3 (read_number 0 16 (field fields 2))
+  transfers ← in_form number 4 (read_number 0 16 (field fields 3))
+  advance ← in_form number 5 (read_number 0 999 (field fields 4))
+  min_stay ← in_form number 6 (read_number 0 999 (field fields 5))
+  max_stay ← in_form number 7 (read_number 0 999 (field fields 6))
+  excess ← in_form number 8 (read_excess (field fields 7))
+  units ← in_form number 9 (read_names (field fields 8))
+  ends ← in_form number 10 (read_names (field fields 9))
+  Ok (record { id = id; stops = stops; transfers = transfers; advance = advance; min_stay = min_stay; max_stay = max_stay; excess = excess; units = units; ends = ends })

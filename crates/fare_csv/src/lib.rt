@@ -6,6 +6,7 @@ mod lines;
 mod name_list;
 mod numbers;
 mod read_record;
+mod read_rule;
 mod read_text;
 mod rows;
 mod text_fault;

@@ -1,42 +1,13 @@
 //! Lists of rules.
 
-ghost use Rattle.std.specs.Prelude.{◌≡◌, ◌≤◌, ◌++◌, ◌∷◌, [], IfOk, OnOk, OnErr, map, count_by, ◌==◌};
+ghost use Rattle.std.specs.Prelude.{◌≡◌, ◌≤◌, IfOk, IfSome, length, map, count_by, ◌==◌};
+ghost use Rattle.fare_tariff.specs.Record.{name_count};
 ghost use Rattle.fare_csv.specs.NameList.{names_of, pieces_of, read_list, read_name, read_names};
 
 use fare_codes::RuleId;
 use fare_outside::NoMemory;
-use fare_tariff::Names;
+use fare_tariff::{Names, RuleList};
 use std::alloc::{AllocError, Global};
-use std::marker::Model;
-
-#[derive(Drop)]
-pub struct RuleList2 {
-    names: Vec<Option<RuleId>>,
-}
-
-impl Model for RuleList2 {
-    ghost use Rattle.std.specs.Prelude.{List, ℕ, Option};
-
-    ghost Value = { List (Option (List ℕ)) };
-
-    ghost view = { λ l. l.names.items };
-}
-
-impl RuleList2 {
-    pub fn new(alloc: Global) -> RuleList2
-        ensures { result ≡ [] }
-    {
-        RuleList2 { names: Vec::new(alloc) }
-    }
-
-    pub fn push(&mut self, name: Option<RuleId>) -> Result<(), NoMemory>
-        ensures pushed { OnOk result (self.new ≡ self.old ++ name ∷ []) }
-        ensures kept { OnErr result (self.new ≡ self.old) }
-    {
-        self.names.push(name)?;
-        Ok(())
-    }
-}
 
 /// A name of a list: a rule's id, or `-` for the free rule.
 #[tactic(auto, unfolding(crate::specs::NameList::read_name))]
@@ -64,10 +35,10 @@ fn spaces_of(bytes: &[u8]) -> usize
 }
 
 /// The names that pieces spell; nothing where one of them isn't in its form.
-fn names_of(alloc: Global, pieces: &[&[u8]]) -> Result<Option<RuleList2>, NoMemory>
+fn names_of(alloc: Global, pieces: &[&[u8]]) -> Result<Option<RuleList>, NoMemory>
     ensures { IfOk result (λ list. list ≡ names_of (map (λ piece. piece.now) pieces.now)) }
 {
-    let mut list = RuleList2::new(alloc);
+    let mut list = RuleList::new(alloc);
     for piece in pieces {
         let Some(name) = read_name(piece) else {
             return Ok(None);
@@ -78,13 +49,29 @@ fn names_of(alloc: Global, pieces: &[&[u8]]) -> Result<Option<RuleList2>, NoMemo
 }
 
 /// One to 64 names with a space between two of them.
-#[tactic(auto, using(crate::proofs::NameLemmas::read_list_few, crate::proofs::NameLemmas::read_list_many))]
-fn read_list(alloc: Global, bytes: &[u8]) -> Result<Option<RuleList2>, NoMemory>
-    ensures { IfOk result (λ list. list ≡ read_list bytes.now) }
+#[tactic(auto, using(crate::proofs::NameLemmas::read_list_few, crate::proofs::NameLemmas::read_list_many, crate::proofs::NameLemmas::read_list_short))]
+fn read_list(alloc: Global, bytes: &[u8]) -> Result<Option<RuleList>, NoMemory>
+    ensures value { IfOk result (λ list. list ≡ read_list bytes.now) }
+    ensures short { IfOk result (λ list. IfSome list (λ names. length names ≤ 64)) }
 {
     if spaces_of(bytes) >= 64 {
         return Ok(None);
     }
     let pieces = pieces_of(alloc, bytes)?;
     names_of(alloc, pieces.as_slice())
+}
+
+/// A list: `*`, or empty, or names.
+#[tactic(auto, unfolding(crate::specs::NameList::read_names))]
+pub(crate) fn read_names(alloc: Global, bytes: &[u8]) -> Result<Option<Names>, NoMemory>
+    ensures value { IfOk result (λ names. names ≡ read_names bytes.now) }
+    ensures short { IfOk result (λ names. IfSome names (λ all. name_count all ≤ 64)) }
+{
+    if bytes == b"*".as_slice() {
+        return Ok(Some(Names::All));
+    }
+    if bytes.is_empty() {
+        return Ok(Some(Names::Of(RuleList::new(alloc))));
+    }
+    Ok(read_list(alloc, bytes)?.map(Names::Of))
 }

@@ -3,6 +3,7 @@
 ghost use Rattle.std.specs.Prelude.{◌≡◌};
 ghost use Rattle.fare_csv.specs.declared.text_fault.TextFault.TheVariants.{Memory};
 
+use fare_outside::NoMemory;
 use std::alloc::{AllocError, AllocFailed};
 
 /// Why a text is no edition. Record numbers count the rows of the text from 1, and stay at the last
@@ -28,6 +29,14 @@ impl From<AllocError> for TextFault {
     ghost from_gives = { λ _ fault. fault ≡ Memory };
 
     fn from(_: AllocError) -> TextFault {
+        TextFault::Memory
+    }
+}
+
+impl From<NoMemory> for TextFault {
+    ghost from_gives = { λ _ fault. fault ≡ Memory };
+
+    fn from(_: NoMemory) -> TextFault {
         TextFault::Memory
     }
 }

@@ -12,4 +12,4 @@ returns-in_default c = sym (names_of-stop c.args.pieces.now c.loop-piece.piece-i
 
 pub loop-piece-preserved : goal.loop-piece-preserved
 loop-piece-preserved c =
-    rw c.in_ok-push.ensures.pushed (names_of-step c.args.pieces.now c.loop-piece.piece-index _ c.loop-piece.list c.in-Some.name (omega arith) c.loop-piece.invariant (sym c.read_name.ensures ∙ c.in-Some.is))
+    rw c.in_ok-push.ensures.ok (names_of-step c.args.pieces.now c.loop-piece.piece-index _ c.loop-piece.list c.in-Some.name (omega arith) c.loop-piece.invariant (sym c.read_name.ensures ∙ c.in-Some.is))
