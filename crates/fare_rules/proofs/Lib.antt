@@ -5,3 +5,8 @@ pub mod Cases
 pub mod WorkedMiles
 pub mod WorkedPrices
 pub mod BrokenRules
+pub mod NumberLemmas
+pub mod OrderLemmas
+pub mod LawfulLemmas
+pub mod CoverLemmas
+pub mod BestLemmas
