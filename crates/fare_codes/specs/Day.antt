@@ -1,6 +1,5 @@
 -- Days and days of the year, as their texts.
 use Rattle.std.specs.Prelude.{ℕ, ◌+◌, ◌*◌, ◌-◌, Bool, List, length, ◌==◌, ◌&&◌, nat_le, slice_index, drop, pos, unsigned_abs}
-use Rattle.std.specs.List.{list_all}
 use Rattle.std.specs.Char.{is_ascii_digit}
 use Rattle.jiff_core.specs.Calendar.{days_in_month, days_from_civil}
 

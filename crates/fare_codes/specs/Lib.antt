@@ -1,3 +1,5 @@
 pub mod Codes
 pub mod Day
+pub mod Over
 pub mod Season
+pub mod Words

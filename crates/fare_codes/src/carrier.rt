@@ -1,7 +1,8 @@
-ghost use Rattle.std.specs.Prelude.{◌≡◌, true, List, ℕ};
+ghost use Rattle.std.specs.Prelude.{◌≡◌, ◌↔◌, true, List, ℕ, IsTrue};
 ghost use Rattle.fare_codes.specs.Codes.{is_carrier, read_carrier};
 
-use crate::texts::all_code_characters;
+use crate::texts::{all_code_characters, ascii_text};
+use arrayvec::ArrayString;
 use std::marker::Model;
 
 /// A carrier: two characters, each a letter A to Z or a digit.
@@ -31,5 +32,29 @@ impl Carrier {
         Some(Carrier {
             letters: [bytes[0], bytes[1]],
         })
+    }
+
+    /// Its letters; read back they are the carrier.
+    #[tactic(auto, using(crate::proofs::TextLemmas::code_characters_are_ascii))]
+    pub fn text(self) -> ArrayString<16>
+        ensures text { result.bytes ≡ self }
+        ensures form { is_carrier self ≡ true }
+        ensures read_back { read_carrier self ≡ Some self }
+    {
+        ascii_text(&self.letters)
+    }
+
+    /// Whether both are the same carrier.
+    pub fn is(self, other: Carrier) -> bool
+        ensures { IsTrue result ↔ (self ≡ other) }
+    {
+        self.letters == other.letters
+    }
+}
+
+/// `AA`, which stands in room that is not yet used.
+impl Default for Carrier {
+    fn default() -> Carrier {
+        Carrier { letters: *b"AA" }
     }
 }

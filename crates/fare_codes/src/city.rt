@@ -1,7 +1,8 @@
-ghost use Rattle.std.specs.Prelude.{◌≡◌, true, List, ℕ};
+ghost use Rattle.std.specs.Prelude.{◌≡◌, ◌↔◌, true, List, ℕ, IsTrue};
 ghost use Rattle.fare_codes.specs.Codes.{is_city, read_city};
 
-use crate::texts::all_uppercase;
+use crate::texts::{all_uppercase, ascii_text};
+use arrayvec::ArrayString;
 use std::marker::Model;
 
 /// A city: three letters A to Z.
@@ -31,5 +32,29 @@ impl City {
         Some(City {
             letters: [bytes[0], bytes[1], bytes[2]],
         })
+    }
+
+    /// Its letters; read back they are the city.
+    #[tactic(auto, using(crate::proofs::TextLemmas::uppercase_is_ascii))]
+    pub fn text(self) -> ArrayString<16>
+        ensures text { result.bytes ≡ self }
+        ensures form { is_city self ≡ true }
+        ensures read_back { read_city self ≡ Some self }
+    {
+        ascii_text(&self.letters)
+    }
+
+    /// Whether both are the same city.
+    pub fn is(self, other: City) -> bool
+        ensures { IsTrue result ↔ (self ≡ other) }
+    {
+        self.letters == other.letters
+    }
+}
+
+/// `AAA`, which stands in room that is not yet used.
+impl Default for City {
+    fn default() -> City {
+        City { letters: *b"AAA" }
     }
 }

@@ -1,7 +1,8 @@
-ghost use Rattle.std.specs.Prelude.{◌≡◌, true, List, ℕ};
+ghost use Rattle.std.specs.Prelude.{◌≡◌, ◌↔◌, true, List, ℕ, IsTrue};
 ghost use Rattle.fare_codes.specs.Codes.{is_country, read_country};
 
-use crate::texts::all_uppercase;
+use crate::texts::{all_uppercase, ascii_text};
+use arrayvec::ArrayString;
 use std::marker::Model;
 
 /// A country: two letters A to Z.
@@ -31,5 +32,22 @@ impl Country {
         Some(Country {
             letters: [bytes[0], bytes[1]],
         })
+    }
+
+    /// Its letters; read back they are the country.
+    #[tactic(auto, using(crate::proofs::TextLemmas::uppercase_is_ascii))]
+    pub fn text(self) -> ArrayString<16>
+        ensures text { result.bytes ≡ self }
+        ensures form { is_country self ≡ true }
+        ensures read_back { read_country self ≡ Some self }
+    {
+        ascii_text(&self.letters)
+    }
+
+    /// Whether both are the same country.
+    pub fn is(self, other: Country) -> bool
+        ensures { IsTrue result ↔ (self ≡ other) }
+    {
+        self.letters == other.letters
     }
 }

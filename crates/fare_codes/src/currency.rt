@@ -1,7 +1,8 @@
-ghost use Rattle.std.specs.Prelude.{◌≡◌, true, List, ℕ};
+ghost use Rattle.std.specs.Prelude.{◌≡◌, ◌↔◌, true, List, ℕ, IsTrue};
 ghost use Rattle.fare_codes.specs.Codes.{is_currency, read_currency};
 
-use crate::texts::all_uppercase;
+use crate::texts::{all_uppercase, ascii_text};
+use arrayvec::ArrayString;
 use std::marker::Model;
 
 /// A currency: three letters A to Z.
@@ -31,5 +32,22 @@ impl Currency {
         Some(Currency {
             letters: [bytes[0], bytes[1], bytes[2]],
         })
+    }
+
+    /// Its letters; read back they are the currency.
+    #[tactic(auto, using(crate::proofs::TextLemmas::uppercase_is_ascii))]
+    pub fn text(self) -> ArrayString<16>
+        ensures text { result.bytes ≡ self }
+        ensures form { is_currency self ≡ true }
+        ensures read_back { read_currency self ≡ Some self }
+    {
+        ascii_text(&self.letters)
+    }
+
+    /// Whether both are the same currency.
+    pub fn is(self, other: Currency) -> bool
+        ensures { IsTrue result ↔ (self ≡ other) }
+    {
+        self.letters == other.letters
     }
 }

@@ -1,5 +1,8 @@
-ghost use Rattle.std.specs.Prelude.{◌≡◌, true, List, ℕ};
+ghost use Rattle.std.specs.Prelude.{◌≡◌, ◌↔◌, ◌≤◌, true, IsTrue, length};
+ghost use Rattle.fare_codes.specs.Codes.{is_rule_id, read_rule_id, padded};
 
+use crate::texts::{all_code_characters, ascii_text};
+use arrayvec::ArrayString;
 use std::marker::Model;
 
 /// A rule's id: one to eight characters, each a letter A to Z or a digit.
@@ -26,4 +29,46 @@ impl Model for RuleId {
       characters = h.3 i;
       len = length-take-le r.len r.characters (omega (arith, h.0, h.1)) i;
     } };
+}
+
+impl RuleId {
+    /// The rule's id that these bytes spell; nothing exactly where they are not its form.
+    pub fn read(bytes: &[u8]) -> Option<RuleId>
+        ensures { result ≡ read_rule_id bytes.now }
+    {
+        if bytes.is_empty() || bytes.len() > 8 || !all_code_characters(bytes) {
+            return None;
+        }
+        Some(RuleId {
+            characters: with_zeros(bytes),
+            len: bytes.len() as u8,
+        })
+    }
+
+    /// Its characters; read back they are the rule's id.
+    #[tactic(auto, using(crate::proofs::TextLemmas::code_characters_are_ascii))]
+    pub fn text(self) -> ArrayString<16>
+        ensures text { result.bytes ≡ self }
+        ensures form { is_rule_id self ≡ true }
+        ensures read_back { read_rule_id self ≡ Some self }
+    {
+        ascii_text(&self.characters[..self.len as usize])
+    }
+
+    /// Whether both are the same rule's id.
+    pub fn is(self, other: RuleId) -> bool
+        ensures { IsTrue result ↔ (self ≡ other) }
+    {
+        self == other
+    }
+}
+
+/// These bytes with zeros behind them.
+fn with_zeros(bytes: &[u8]) -> [u8; 8]
+    requires { length bytes.now ≤ 8 }
+    ensures { result ≡ padded bytes.now }
+{
+    let mut characters = [0; 8];
+    characters[..bytes.len()].copy_from_slice(bytes);
+    characters
 }
