@@ -1,1 +1,4 @@
+pub mod DayExamples
+pub mod DayLemmas
+pub mod DayTextLemmas
 pub mod TextLemmas

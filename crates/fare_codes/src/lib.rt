@@ -4,6 +4,7 @@
 
 mod area;
 mod cabin;
+mod calendar;
 mod carrier;
 mod city;
 mod country;
