@@ -7,3 +7,4 @@ pub mod Itinerary
 pub mod Trip
 pub mod Steps
 pub mod ShortLine
+pub mod FaultText

@@ -3,6 +3,7 @@
 #![tactic(auto)]
 
 mod fault;
+mod fault_text;
 mod pieces;
 mod place;
 mod sector;
