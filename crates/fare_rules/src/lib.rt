@@ -4,12 +4,14 @@
 
 mod amount;
 mod broken;
+mod laws;
 mod miles;
 mod part;
 mod unit_sheet;
 
 pub use amount::Amount;
 pub use broken::Broken;
+pub use laws::{best_is_one, order_is_total};
 pub use miles::{Mileage, Miles};
 pub use part::Part;
 pub use unit_sheet::{UnitKind, UnitSheet};
