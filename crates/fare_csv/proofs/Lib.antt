@@ -4,4 +4,5 @@ pub mod PlainLines
 mod RowExamples
 pub mod RangeLemmas
 pub mod NameLemmas
+pub mod PlainFields
 pub mod RecordsLemmas

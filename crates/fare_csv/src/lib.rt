@@ -2,6 +2,7 @@
 #![tactic(auto)]
 
 mod edition;
+mod fault_text;
 mod head;
 mod lines;
 mod name_list;
