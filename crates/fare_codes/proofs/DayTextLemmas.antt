@@ -1,5 +1,5 @@
 -- What the tests of a day's text say of its digits.
-use Rattle.std.proofs.Common.{◌≡◌, ◌≤◌, ℕ, Bool, true, List, [], ◌∷◌, length, ◌&&◌, ◌==◌, nat_le, arith, pos, slice_index, get_or, refl, sym, ◌<◌, ◌+◌, suc}
+use Rattle.std.proofs.Common.{◌≡◌, ◌≤◌, ℕ, Bool, true, List, length, ◌&&◌, ◌==◌, nat_le, arith, pos, slice_index, get_or, sym, ◌<◌, ◌+◌}
 use Rattle.std.proofs.lemmas.Bool.Decides.{nat_tests}
 use Rattle.std.proofs.lemmas.Bool.{eqb-true}
 use borrow.Author.Count.{below_none, below_more}
@@ -7,16 +7,13 @@ use Rattle.std.specs.List.{list_all}
 use Rattle.std.specs.Char.{is_ascii}
 use Rattle.fare_codes.specs.Day.{is_day, has_day_shape, is_civil, are_two_digits, two_digits, year_of, day_number, calendar_number}
 use Rattle.jiff_core.specs.Calendar.{days_in_month}
+use Rattle.fare_codes.proofs.TextLemmas.{both, ascii_from_reads}
 use Rattle.fare_codes.proofs.DayLemmas.{days_from_civil-since}
 
 -- each of seven tests holds
 all_seven : (a b c d e f g : Bool) → (a && b && c && d && e && f && g) ≡ true
     → (a ≡ true) × (b ≡ true) × (c ≡ true) × (d ≡ true) × (e ≡ true) × (f ≡ true) × (g ≡ true)
 all_seven a b c d e f g h = grind arith
-
--- both tests hold
-both : (a b : Bool) → (a && b) ≡ true → (a ≡ true) × (b ≡ true)
-both a b h = grind arith
 
 -- the digits that stand in a day's text
 pub digits_of_shape : (text : List ℕ) → has_day_shape text ≡ true
@@ -28,23 +25,15 @@ digits_of_shape text h =
     (ten, parts.1, parts.2, parts.4, parts.6)
 
 -- the hyphens that stand in a day's text
-hyphens_of_shape : (text : List ℕ) → has_day_shape text ≡ true → (slice_index text 4 ≡ 45) × (slice_index text 7 ≡ 45)
+pub hyphens_of_shape : (text : List ℕ) → has_day_shape text ≡ true → (slice_index text 4 ≡ 45) × (slice_index text 7 ≡ 45)
 unfolding has_day_shape
 hyphens_of_shape text h =
     let parts = all_seven (length text == 10) (are_two_digits text 0) (are_two_digits text 2) (slice_index text 4 == 45) (are_two_digits text 5) (slice_index text 7 == 45) (are_two_digits text 8) h in
     (eqb-true _ _ parts.3, eqb-true _ _ parts.5)
 
 -- two digits are ASCII
-digits_are_ascii : (text : List ℕ) (place : ℕ) → are_two_digits text place ≡ true → (get_or text place 0 < 128) × (get_or text (place + 1) 0 < 128)
+pub digits_are_ascii : (text : List ℕ) (place : ℕ) → are_two_digits text place ≡ true → (get_or text place 0 < 128) × (get_or text (place + 1) 0 < 128)
 digits_are_ascii text place h = (grind (arith, nat_tests), grind (arith, nat_tests))
-
--- a text whose bytes are each below 128 is ASCII
-ascii_from_reads : (text : List ℕ) → ((k : ℕ) → k < length text → get_or text k 0 < 128) → list_all is_ascii text ≡ true
-ascii_from_reads [] reads = refl
-ascii_from_reads (c ∷ cs) reads =
-    let first : c < 128 = reads 0 (omega arith) in
-    let rest : (k : ℕ) → k < length cs → get_or cs k 0 < 128 = λ k h. reads (suc k) (omega arith) in
-    grind (arith, nat_tests, ascii_from_reads cs rest)
 
 -- a day's text is ASCII
 pub day_is_ascii : (text : List ℕ) → is_day text ≡ true → list_all is_ascii text ≡ true

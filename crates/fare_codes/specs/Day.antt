@@ -66,11 +66,15 @@ day_number text = days_since_1970 (year_of text) (two_digits text 5) (two_digits
 abbrev pub calendar_number : List ℕ → ℤ
 calendar_number text = days_from_civil (pos (year_of text)) (two_digits text 5) (two_digits text 8)
 
--- a day of the year is `MM-DD`, a day that the year 2000 has
-unfoldable pub is_month_day : List ℕ → Bool
-is_month_day text =
+-- digits and a hyphen stand at the places of `MM-DD`
+unfoldable pub has_month_day_shape : List ℕ → Bool
+has_month_day_shape text =
     (length text == 5) && are_two_digits text 0 && (slice_index text 2 == 45) && are_two_digits text 3
-    && is_in_calendar 2000 (two_digits text 0) (two_digits text 3)
+
+-- a day of the year is `MM-DD`, a day that the year 2000 has
+abbrev pub is_month_day : List ℕ → Bool
+is_month_day text =
+    has_month_day_shape text && is_in_calendar 2000 (two_digits text 0) (two_digits text 3)
 
 -- the day of the year that bytes spell
 abbrev pub read_month_day : List ℕ → Option (List ℕ)

@@ -1,7 +1,8 @@
 ghost use Rattle.std.specs.Prelude.{◌≡◌, ◌↔◌, ◌<◌, ◌≤◌, true, IsTrue, IfSome, length, pos, if◌then◌else◌};
-ghost use Rattle.fare_codes.specs.Day.{is_day, read_day, day_number, calendar_number, has_day_shape, year_of, is_civil};
+ghost use Rattle.fare_codes.specs.Day.{is_day, read_day, day_number, calendar_number, has_day_shape, year_of, is_civil, month_day_of};
 
 use crate::calendar::{day_number_of, has_two_digits, two_digits_at};
+use crate::month_day::MonthDay;
 use crate::texts::ascii_text;
 use arrayvec::ArrayString;
 use std::marker::Model;
@@ -67,6 +68,14 @@ impl Day {
         ensures bound { result ≤ 2_932_896 }
     {
         self.number
+    }
+
+    /// The day of the year, which is the text without the year.
+    #[tactic(auto, using(crate::proofs::MonthDayLemmas::month_day_of_day))]
+    pub fn month_day(self) -> MonthDay
+        ensures { result ≡ month_day_of self }
+    {
+        MonthDay::from_bytes(&self.text[5..])
     }
 
     /// Whether both are the same day.

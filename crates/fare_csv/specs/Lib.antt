@@ -1,0 +1,10 @@
+pub mod Rows
+pub mod RowsLeft
+pub mod Lines
+pub mod Written
+pub mod Numbers
+pub mod Fields
+pub mod Head
+pub mod RecordText
+pub mod TariffText
+pub mod Filed
