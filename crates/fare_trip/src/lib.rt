@@ -20,3 +20,6 @@ pub use sector::Sector;
 pub use short_line::read_short;
 pub use trip::Trip;
 pub use written::trip_text;
+
+#[cfg(test)]
+mod tests;
