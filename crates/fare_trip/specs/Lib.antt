@@ -1,5 +1,10 @@
 pub use Rattle.fare_codes.specs.Codes
 pub use Rattle.fare_codes.specs.Day
 pub use Rattle.fare_codes.specs.Season
+pub use Rattle.fare_codes.specs.Words
+pub use Rattle.fare_codes.specs.Over
 pub mod Itinerary
 pub mod Trip
+pub mod Steps
+pub mod ShortLine
+pub mod FaultText

@@ -3,9 +3,14 @@
 #![tactic(auto)]
 
 mod fault;
+mod fault_text;
+mod pieces;
+mod place;
 mod sector;
+mod short_line;
 mod trip;
 
 pub use fault::{Member, TripFault};
 pub use sector::Sector;
+pub use short_line::read_short;
 pub use trip::Trip;

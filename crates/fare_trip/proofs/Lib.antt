@@ -1,0 +1,2 @@
+pub mod TripLemmas
+pub mod PieceLemmas
