@@ -1,3 +1,5 @@
+ghost use Rattle.std.specs.Prelude.{◌≡◌};
+
 use fare_codes::RuleId;
 use std::marker::Model;
 
@@ -13,6 +15,15 @@ impl Model for RuleList {
     ghost Value = { List (Option (List ℕ)) };
 
     ghost view = { λ l. l.names.items };
+}
+
+impl RuleList {
+    /// The names, in their order.
+    pub fn names(&self) -> &[Option<RuleId>]
+        ensures { result.now ≡ self.now }
+    {
+        self.names.as_slice()
+    }
 }
 
 /// The rules that a rule may be combined with.
