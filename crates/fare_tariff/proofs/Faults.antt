@@ -1,12 +1,10 @@
 -- The first fault of a list, one record on.
-use Rattle.std.proofs.Common.{◌≡◌, ℕ, ◌+◌, ◌<◌, ◌≤◌, List, [], ◌∷◌, length, get_or, take, drop, Option, Some, None, refl}
+use Rattle.std.proofs.Common.{◌≡◌, ℕ, ◌+◌, ◌<◌, ◌≤◌, List, length, get_or, take, drop, Some, None, refl}
 use Rattle.std.specs.Option.{option_or}
 use Rattle.std.proofs.lemmas.List.{at_drop_more, at_drop_all}
 use Rattle.fare_tariff.specs.declared.record.Record.{Record}
-use Rattle.fare_tariff.specs.declared.check_fault.CheckFault.{CheckFault}
 use Rattle.fare_tariff.specs.declared.check_fault.CheckFault.TheVariants.{At}
 use Rattle.fare_tariff.specs.declared.check_kind.CheckKind.{CheckKind}
-use Rattle.fare_tariff.specs.Lookup.{number_at}
 use Rattle.fare_tariff.specs.Check.{first_fault_from, fault_at, kind_of}
 
 -- the first fault of what is left of a list is that of its first record, or of what is left after it

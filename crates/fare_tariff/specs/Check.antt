@@ -3,7 +3,6 @@ use Rattle.std.specs.Prelude.{ℕ, ◌+◌, ◌<◌, ◌≤◌, ◌≡◌, Bool,
 use Rattle.std.specs.List.{list_any}
 use Rattle.std.specs.Option.{option_or, option_to_list}
 use Rattle.fare_codes.specs.declared.city.City.{City}
-use Rattle.fare_codes.specs.declared.country.Country.{Country}
 use Rattle.fare_codes.specs.declared.rule_id.RuleId.{RuleId}
 use Rattle.fare_codes.specs.declared.indicator.Indicator.{Indicator}
 use Rattle.fare_codes.specs.declared.day.Day.{Day}
@@ -16,7 +15,7 @@ use Rattle.fare_tariff.specs.declared.check_kind.CheckKind.{CheckKind}
 use Rattle.fare_tariff.specs.declared.check_kind.CheckKind.TheVariants.{Duplicate, UnknownCity, UnknownRule, UnknownCurrency, TooManyFares, SamePoint, ZeroMileage, OutOfLimit, Overlap}
 use Rattle.fare_tariff.specs.declared.check_fault.CheckFault.{CheckFault}
 use Rattle.fare_tariff.specs.declared.check_fault.CheckFault.TheVariants.{Memory, At}
-use Rattle.fare_tariff.specs.Record.{FareRecord, AllowanceRecord}
+use Rattle.fare_tariff.specs.Record.{FareRecord}
 use Rattle.fare_tariff.specs.Tariff.{Tariff}
 use Rattle.fare_tariff.specs.Lookup.{first_some, same_indicator, same_pair, city_in, currency_in, has_key, rule_in, mpm_in, tpm_in, number_at, is_fare_between}
 

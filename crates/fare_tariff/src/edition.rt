@@ -1,4 +1,4 @@
-ghost use Rattle.std.specs.Prelude.{◌≡◌, ◌<◌, ◌≤◌};
+ghost use Rattle.std.specs.Prelude.{◌≡◌, ◌<◌, ◌≤◌, length};
 ghost use Rattle.fare_tariff.specs.Check.{Gives, check_edition};
 
 use crate::check::first_fault;
@@ -68,8 +68,10 @@ impl Edition {
     }
 
     /// Its records, of which the first has the record number 2.
+    #[tactic(auto, using(crate::proofs::Validity::length_in_limit))]
     pub fn records(&self) -> &[Record]
         ensures records { result.now ≡ self.now.records }
+        ensures in_limit { length result.now ≤ 400_000 }
     {
         self.records.as_slice()
     }

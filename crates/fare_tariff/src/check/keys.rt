@@ -1,13 +1,12 @@
 //! Records with the same key, and fares whose seasons overlap.
 
-ghost use Rattle.std.specs.Prelude.{◌≡◌, ◌<◌, ◌≤◌, length, position, option_map, IfSome};
-ghost use Rattle.fare_tariff.specs.Lookup.{number_at};
+ghost use Rattle.std.specs.Prelude.{◌≡◌, ◌<◌, ◌≤◌, length, position, IfSome};
 ghost use Rattle.fare_tariff.specs.Check.{same_season, key_of, is_fare_of, same_via, is_allowance_of, has_key_of, first_number, seasons_overlap, is_fare_over, overlap_of};
 
 use crate::extra_mileage_record::EmaRec;
 use crate::fare_key::FareKey;
 use crate::fare_record::FareRec;
-use crate::look_up::{city_in, currency_in, has_key, mpm_in, rule_in, tpm_in};
+use crate::look_up::{city_in, currency_in, has_key, mpm_in, number_at, rule_in, tpm_in};
 use crate::record::Record;
 use crate::same::{same_cities, same_indicators, same_month_days, same_pairs};
 use fare_codes::{City, Season};
@@ -92,23 +91,12 @@ fn first_of_key(earlier: &[Record], one: &Record) -> Option<usize>
     earlier.iter().position(|other| has_key_of(one, other))
 }
 
-/// The record number of the record at a place.
-fn number_of(place: Option<usize>) -> Option<u32>
-    requires { IfSome place (λ at. at < 400_000) }
-    ensures { result ≡ option_map number_at place }
-{
-    match place {
-        Some(place) => Some(place as u32 + 2),
-        None => None,
-    }
-}
-
 /// The number of the first earlier record with the same key.
 pub(crate) fn duplicate_of(earlier: &[Record], one: &Record) -> Option<u32>
     requires { length earlier.now ≤ 400_000 }
     ensures { result ≡ first_number (has_key_of one.now) earlier.now }
 {
-    number_of(first_of_key(earlier, one))
+    number_at(first_of_key(earlier, one))
 }
 
 /// Whether a season holds a day of another.
@@ -143,7 +131,7 @@ fn first_overlap(earlier: &[Record], fare: &FareRec) -> Option<u32>
     requires { length earlier.now ≤ 400_000 }
     ensures { result ≡ first_number (is_fare_over (key_of fare.now) fare.now.season) earlier.now }
 {
-    number_of(first_over(earlier, &key_of(fare), &fare.season))
+    number_at(first_over(earlier, &key_of(fare), &fare.season))
 }
 
 /// The number of the first earlier fare with a record's key whose season overlaps its season.

@@ -2,11 +2,37 @@
 
 ghost use Rattle.std.specs.Prelude.{◌≡◌, bytes_eq};
 ghost use Rattle.std.specs.List.{list_any};
-ghost use Rattle.fare_tariff.specs.Lookup.{first_some, greatest, mpm_in, tpm_in, allowed_in, is_by_way_of};
+ghost use Rattle.fare_tariff.specs.Lookup.{first_some, greatest, mpm_in, tpm_in, allowed_in, is_by_way_of, mpm, tpm, allowance};
 
+use crate::edition::Edition;
 use crate::record::Record;
 use crate::same::{same_cities, same_indicators, same_pairs};
 use fare_codes::{City, Indicator};
+
+impl Edition {
+    /// The maximum permitted mileage of an unordered pair of cities and an indicator; nothing means that no record has
+    /// them as its key.
+    pub fn mpm(&self, a: City, b: City, ind: Indicator) -> Option<u32>
+        ensures { result ≡ mpm self.now a b ind }
+    {
+        permitted_miles(self.records(), a, b, ind)
+    }
+
+    /// The ticketed point mileage of an unordered pair of cities; nothing means that no record has it as its key.
+    pub fn tpm(&self, a: City, b: City) -> Option<u32>
+        ensures { result ≡ tpm self.now a b }
+    {
+        ticketed_miles(self.records(), a, b)
+    }
+
+    /// The greatest extra mileage allowance of an unordered pair of cities and an indicator that is filed for every way
+    /// or by way of one of these cities; 0 where there is none.
+    pub fn allowance(&self, a: City, b: City, ind: Indicator, via: &[City]) -> u32
+        ensures { result ≡ allowance self.now a b ind via.now }
+    {
+        allowed_miles(self.records(), a, b, ind, via)
+    }
+}
 
 /// The miles that a record permits between two cities for an indicator.
 pub(crate) fn mpm_in(a: City, b: City, ind: Indicator, one: &Record) -> Option<u32>
@@ -26,7 +52,7 @@ pub(crate) fn mpm_in(a: City, b: City, ind: Indicator, one: &Record) -> Option<u
 
 /// The maximum permitted mileage of an unordered pair of cities and an indicator.
 #[tactic(auto, using(crate::proofs::Scans::first_some_more, crate::proofs::Scans::first_some_all))]
-pub(crate) fn permitted_miles(records: &[Record], a: City, b: City, ind: Indicator) -> Option<u32>
+fn permitted_miles(records: &[Record], a: City, b: City, ind: Indicator) -> Option<u32>
     ensures { result ≡ first_some (mpm_in a b ind) records.now }
 {
     for one in records {
@@ -55,7 +81,7 @@ pub(crate) fn tpm_in(a: City, b: City, one: &Record) -> Option<u32>
 
 /// The ticketed point mileage of an unordered pair of cities.
 #[tactic(auto, using(crate::proofs::Scans::first_some_more, crate::proofs::Scans::first_some_all))]
-pub(crate) fn ticketed_miles(records: &[Record], a: City, b: City) -> Option<u32>
+fn ticketed_miles(records: &[Record], a: City, b: City) -> Option<u32>
     ensures { result ≡ first_some (tpm_in a b) records.now }
 {
     for one in records {
@@ -104,13 +130,7 @@ fn allowed_in(a: City, b: City, ind: Indicator, cities: &[City], one: &Record) -
 
 /// The greatest extra mileage allowance of an unordered pair of cities and an indicator by way of some cities.
 #[tactic(auto, using(crate::proofs::Scans::greatest_more, crate::proofs::Scans::greatest_all))]
-pub(crate) fn allowed_miles(
-    records: &[Record],
-    a: City,
-    b: City,
-    ind: Indicator,
-    cities: &[City],
-) -> u32
+fn allowed_miles(records: &[Record], a: City, b: City, ind: Indicator, cities: &[City]) -> u32
     ensures { result ≡ greatest (allowed_in a b ind cities.now) records.now }
 {
     let mut most = 0;

@@ -2,13 +2,30 @@
 
 ghost use Rattle.std.specs.Prelude.{◌≡◌};
 ghost use Rattle.std.specs.Option.{option_copied};
-ghost use Rattle.fare_tariff.specs.Lookup.{first_some, city_in, currency_in};
+ghost use Rattle.fare_tariff.specs.Lookup.{first_some, city_in, currency_in, city_record, currency_of};
 
 use crate::city_record::CityRec;
 use crate::currency_record::CurRec;
+use crate::edition::Edition;
 use crate::record::Record;
 use crate::same::{same_cities, same_countries};
 use fare_codes::{City, Country};
+
+impl Edition {
+    /// The record of a city; nothing means that no record has it as its key.
+    pub fn city(&self, c: City) -> Option<&CityRec>
+        ensures { option_copied result ≡ city_record self.now c }
+    {
+        city_record(self.records(), c)
+    }
+
+    /// The record of a country's currency; nothing means that no record has the country as its key.
+    pub fn currency_of(&self, c: Country) -> Option<&CurRec>
+        ensures { option_copied result ≡ currency_of self.now c }
+    {
+        currency_record(self.records(), c)
+    }
+}
 
 /// The city that a record files, where it is this one.
 pub(crate) fn city_in(city: City, one: &Record) -> Option<&CityRec>

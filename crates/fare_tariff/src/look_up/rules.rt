@@ -1,16 +1,79 @@
 //! Rules: their terms, and which may be combined.
 
-ghost use Rattle.std.specs.Prelude.{◌≡◌};
+ghost use Rattle.std.specs.Prelude.{◌≡◌, option_map};
 ghost use Rattle.std.specs.Option.{option_copied};
 ghost use Rattle.std.specs.List.{list_any};
-ghost use Rattle.fare_tariff.specs.Lookup.{first_some, rule_in, terms_of, free_terms, lists, same_rule};
+ghost use Rattle.fare_tariff.specs.Lookup.{first_some, rule_in, rule_record, terms_of, free_terms, terms, lists, lists_in, same_rule, unit_names, end_names, unit_ok, ends_ok};
 
+use crate::edition::Edition;
 use crate::names::Names;
 use crate::record::Record;
 use crate::rule_record::RuleRec;
 use crate::same::{same_ids, same_rules};
 use crate::terms::Terms;
 use fare_codes::RuleId;
+
+impl Edition {
+    /// The terms of a rule field; nothing means that the rule isn't filed.
+    pub fn terms(&self, rule: Option<RuleId>) -> Option<Terms>
+        ensures { result ≡ terms self.now rule }
+    {
+        match rule {
+            None => Some(free_terms()),
+            Some(id) => self.filed_terms(id),
+        }
+    }
+
+    /// The terms that a rule's record states.
+    fn filed_terms(&self, id: RuleId) -> Option<Terms>
+        ensures { result ≡ option_map terms_of (rule_record self.now id) }
+    {
+        match rule_record(self.records(), id) {
+            None => None,
+            Some(filed) => Some(terms_of(filed)),
+        }
+    }
+
+    /// Whether fares of two rules may share a pricing unit: each rule lists the other.
+    pub fn unit_ok(&self, a: Option<RuleId>, b: Option<RuleId>) -> bool
+        ensures { result ≡ unit_ok self.now a b }
+    {
+        self.unit_lists(&a, &b) && self.unit_lists(&b, &a)
+    }
+
+    /// Whether fares of two rules may be combined end on end: each rule lists the other.
+    pub fn ends_ok(&self, a: Option<RuleId>, b: Option<RuleId>) -> bool
+        ensures { result ≡ ends_ok self.now a b }
+    {
+        self.ends_list(&a, &b) && self.ends_list(&b, &a)
+    }
+
+    /// Whether a rule's names for a pricing unit list another.
+    fn unit_lists(&self, rule: &Option<RuleId>, other: &Option<RuleId>) -> bool
+        ensures { result ≡ lists_in (unit_names self.now rule.now) other.now }
+    {
+        match rule {
+            None => true,
+            Some(id) => match rule_record(self.records(), *id) {
+                None => false,
+                Some(filed) => lists(&filed.units, other),
+            },
+        }
+    }
+
+    /// Whether a rule's names for end on end list another.
+    fn ends_list(&self, rule: &Option<RuleId>, other: &Option<RuleId>) -> bool
+        ensures { result ≡ lists_in (end_names self.now rule.now) other.now }
+    {
+        match rule {
+            None => true,
+            Some(id) => match rule_record(self.records(), *id) {
+                None => false,
+                Some(filed) => lists(&filed.ends, other),
+            },
+        }
+    }
+}
 
 /// The rule that a record files, where it is this one.
 pub(crate) fn rule_in(id: RuleId, one: &Record) -> Option<&RuleRec>
@@ -42,7 +105,7 @@ pub(crate) fn rule_record(records: &[Record], id: RuleId) -> Option<&RuleRec>
 }
 
 /// The terms that a rule's record states.
-pub(crate) fn terms_of(filed: &RuleRec) -> Terms
+fn terms_of(filed: &RuleRec) -> Terms
     ensures { result ≡ terms_of filed.now }
 {
     Terms {
@@ -56,7 +119,7 @@ pub(crate) fn terms_of(filed: &RuleRec) -> Terms
 }
 
 /// The terms of the free rule.
-pub(crate) fn free_terms() -> Terms
+fn free_terms() -> Terms
     ensures { result ≡ free_terms }
 {
     Terms {
@@ -70,7 +133,7 @@ pub(crate) fn free_terms() -> Terms
 }
 
 /// Whether names list a rule; `*` lists all.
-pub(crate) fn lists(names: &Names, rule: &Option<RuleId>) -> bool
+fn lists(names: &Names, rule: &Option<RuleId>) -> bool
     ensures { result ≡ lists names.now rule.now }
 {
     match names {
