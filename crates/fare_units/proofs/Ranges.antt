@@ -1,5 +1,5 @@
 -- Searches, tests and filters over ranges of numbers, one number on.
-use Rattle.std.proofs.Common.{◌≡◌, ℕ, ◌+◌, ◌-◌, ◌<◌, ◌≤◌, Bool, true, false, List, [], ◌∷◌, ◌++◌, Option, Some, None, cond, max, find, filter, refl, ap, append_assoc, ◌∙◌, arith, zero, suc, ◌||◌, ◌&&◌}
+use Rattle.std.proofs.Common.{◌≡◌, ℕ, ◌+◌, ◌-◌, ◌<◌, ◌≤◌, Bool, true, false, List, [], ◌∷◌, ◌++◌, Option, Some, None, cond, max, find, filter, length, refl, ap, append_assoc, ◌∙◌, arith, zero, suc, ◌||◌, ◌&&◌}
 use Rattle.std.specs.List.{range_with_len, list_any, list_all}
 use Rattle.fare_rules.specs.declared.part.Part.{Part}
 use Rattle.fare_rules.specs.Numbers.{numbers, greatest_of, greater}
@@ -69,3 +69,14 @@ filter_more kept test first past h passes = rw (append_assoc, filter_next test f
 
 pub filter_over : (kept : List ℕ) (test : ℕ → Bool) (first past : ℕ) → first < past → test first ≡ false → kept ++ filter test (numbers (first + 1) past) ≡ kept ++ filter test (numbers first past)
 filter_over kept test first past h fails = rw (filter_next test first past h, fails) refl
+
+-- how many were found and are left, one number on: one more where it passes
+one_more : (b : Bool) (x : ℕ) (xs : List ℕ) → length (cond b (x ∷ xs) xs) ≡ cond b 1 0 + length xs
+one_more true x xs = omega arith
+one_more false x xs = omega arith
+
+pub count_more : (found : ℕ) (test : ℕ → Bool) (first past : ℕ) → first < past → found + cond (test first) 1 0 + length (filter test (numbers (first + 1) past)) ≡ found + length (filter test (numbers first past))
+count_more found test first past h = rw (filter_next test first past h, one_more (test first) first (filter test (numbers (first + 1) past))) (omega arith)
+
+pub count_none : (found : ℕ) (test : ℕ → Bool) (first past : ℕ) → past ≤ first → found + length (filter test (numbers first past)) ≡ found
+count_none found test first past h = rw (filter_none test first past h) (omega arith)

@@ -6,3 +6,5 @@ pub use Rattle.fare_rules.specs.Lawful
 pub use Rattle.fare_rules.specs.Order
 pub use Rattle.fare_rules.specs.Best
 pub mod Advance
+pub mod Places
+pub mod Tests

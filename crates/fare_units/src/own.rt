@@ -2,6 +2,7 @@
 
 ghost use Rattle.std.specs.Prelude.{◌≡◌, ◌≤◌, length};
 ghost use Rattle.fare_rules.specs.Construction.{own, first_of, last_of};
+ghost use Rattle.fare_units.specs.Places.{ArePlaces};
 
 use crate::places::unit_of;
 use arrayvec::ArrayVec;
@@ -11,10 +12,11 @@ use fare_rules::Part;
 pub(crate) type Places = ArrayVec<usize, 16>;
 
 /// The places of the parts of a unit.
-#[tactic(auto, using(crate::proofs::OwnLemmas::own_more, crate::proofs::OwnLemmas::own_over, crate::proofs::OwnLemmas::own_all), unfolding(fare_rules::specs::Construction::own))]
+#[tactic(auto, using(crate::proofs::OwnLemmas::own_more, crate::proofs::OwnLemmas::own_over, crate::proofs::OwnLemmas::own_all, crate::proofs::OwnLemmas::own_are_places), unfolding(fare_rules::specs::Construction::own))]
 pub(crate) fn own(parts: &[Part], unit: usize) -> Places
     requires { length parts.now ≤ 16 }
-    ensures { result.items ≡ own parts.now unit }
+    ensures own { result.items ≡ own parts.now unit }
+    ensures places { ArePlaces parts.now result.items }
 {
     let mut own = ArrayVec::new();
     for k in 1..parts.len() + 1 {
