@@ -21,6 +21,8 @@ mod numbers;
 mod over;
 mod rule_id;
 mod season;
+#[cfg(test)]
+mod tests;
 mod texts;
 
 pub use amounts::{convert, surcharged};
