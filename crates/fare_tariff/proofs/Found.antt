@@ -48,10 +48,10 @@ first_some_found : {A : Type 0} (answer : Record → Option A) (all : List Recor
 first_some_found answer [] v h = cc
 first_some_found answer (x ∷ xs) v h =
     elim (option_or-some (answer x) (first_some answer xs) v h) [
-      inl here ↦ record { place = zero; within = omega arith; at = λ d. here }
-    | inr later ↦
-      let rest = first_some_found answer xs v later in
-      record { place = suc rest.place; within = omega (arith, rest.within); at = λ d. rest.at d }
+      | inl here ↦ record { place = zero; within = omega arith; at = λ d. here }
+      | inr later ↦
+          let rest = first_some_found answer xs v later in
+          record { place = suc rest.place; within = omega (arith, rest.within); at = λ d. rest.at d }
     ]
 
 -- the record that is found has none of the kinds

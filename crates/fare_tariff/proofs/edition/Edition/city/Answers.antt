@@ -9,5 +9,5 @@ use Rattle.fare_tariff.proofs.edition.Edition.city.Goals as goal
 pub returns-clause-filed : goal.returns-clause-filed
 returns-clause-filed c =
     of_copied c.city_record.result (IsFiledCity c.args.self.now c.args.c) (λ r h.
-      let found : city_record c.args.self.now c.args.c ≡ Some r = cc in
-      filed_city c.args.self.now c.args.c r c.records.ensures.valid.no_fault found)
+    let found : city_record c.args.self.now c.args.c ≡ Some r = cc in
+    filed_city c.args.self.now c.args.c r c.records.ensures.valid.no_fault found)
