@@ -18,3 +18,5 @@ pub mod FirstPartLemmas
 pub mod RuleLemmas
 pub mod OneSectorLemmas
 pub mod CheapestLemmas
+pub mod PriceLemmas
+pub mod TotalLemmas
