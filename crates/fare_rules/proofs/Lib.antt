@@ -20,3 +20,4 @@ pub mod OneSectorLemmas
 pub mod CheapestLemmas
 pub mod PriceLemmas
 pub mod TotalLemmas
+pub mod FreeLemmas
