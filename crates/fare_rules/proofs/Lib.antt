@@ -5,6 +5,7 @@ pub mod Cases
 pub mod WorkedMiles
 pub mod WorkedPrices
 pub mod BrokenRules
+pub mod SampledPrices
 pub mod NumberLemmas
 pub mod OrderLemmas
 pub mod LawfulLemmas
