@@ -1,0 +1,7 @@
+pub mod Streaming
+pub mod FieldAt
+pub mod PlainLines
+mod RowExamples
+pub mod RangeLemmas
+pub mod NameLemmas
+pub mod RecordsLemmas

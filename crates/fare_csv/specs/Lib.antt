@@ -1,0 +1,13 @@
+pub mod Rows
+pub mod RowsLeft
+pub mod Lines
+pub mod Written
+pub mod Numbers
+pub mod Fields
+pub mod Head
+pub mod RecordKind
+pub mod RecordText
+pub mod CheckedFault
+pub mod TariffText
+pub mod Filed
+pub mod NameList

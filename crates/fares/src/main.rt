@@ -1,0 +1,60 @@
+//! The fares desk: quotes air itineraries by mileage fare construction. `run` is the whole program over any source,
+//! sink, store, door and gate; `main` calls it over the real ones.
+#![tactic(auto)]
+
+mod answer;
+mod exit;
+mod fault_text;
+mod price;
+mod quote;
+mod run;
+mod words;
+
+use crate::exit::Exit;
+use crate::fault_text::fault_text;
+use crate::run::run;
+use fare_outside::{Bodies, OpenGate, PlainDoor, PlainKeeper, StdSink, StdSource};
+use std::alloc::{AllocError, Global};
+use std::io::ErrorKind;
+use std::process::ExitCode;
+use std::{env, io};
+
+fn main(rt: HostRuntime) -> ExitCode {
+    let exit = match words_after_the_first(&rt) {
+        Ok(words) => run_for_real(&rt, words.as_slice()),
+        Err(exit) => exit,
+    };
+    if exit.status() != 0 {
+        tell(&rt, &exit);
+    }
+    ExitCode::from(exit.status())
+}
+
+/// The words behind the program's own name. A word that isn't UTF-8 is no word that the program takes.
+fn words_after_the_first(rt: &HostRuntime) -> Result<Vec<String>, Exit> {
+    let mut words = Vec::new(rt.alloc());
+    for word in env::args(rt).map_err(exit_of)?.skip(1) {
+        words.push(word).map_err(|_| Exit::Memory)?;
+    }
+    Ok(words)
+}
+
+fn exit_of(error: io::Error) -> Exit {
+    match error.kind() {
+        ErrorKind::OutOfMemory => Exit::Memory,
+        _ => Exit::Usage,
+    }
+}
+
+fn run_for_real(rt: &HostRuntime, words: &[String]) -> Exit {
+    let alloc = rt.alloc();
+    let mut source = StdSource::new(rt);
+    let mut sink = StdSink::new(rt);
+    let mut store = PlainKeeper::new(Bodies::new(alloc));
+    let mut door = PlainDoor::new();
+    run(rt, alloc, words, &mut source, &mut sink, &mut store, &mut door, &OpenGate)
+}
+
+/// Prints why the program ends, on standard error; nothing more can be done where that fails too.
+fn tell(rt: &HostRuntime, exit: &Exit) {
+}
