@@ -22,3 +22,4 @@ pub mod CheapestLemmas
 pub mod PriceLemmas
 pub mod TotalLemmas
 pub mod FreeLemmas
+pub mod ExistenceLemmas
