@@ -2,6 +2,7 @@ pub mod Filed
 pub mod Editions
 pub mod Trips
 pub mod Cases
+pub mod Oceans
 pub mod WorkedMiles
 pub mod WorkedPrices
 pub mod BrokenRules
