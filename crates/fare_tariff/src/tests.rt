@@ -260,16 +260,19 @@ fn no_faults(rt: HostRuntime) -> Result<(), Fail> {
     Ok(())
 }
 
-#[test]
-fn too_many_fares(rt: HostRuntime) -> Result<(), Fail> {
+/// Fares of 65 carriers from LON to ROM.
+fn crowd() -> [Sample; 65] {
     let mut samples = [PLACES[0]; 65];
     for (place, sample) in samples.iter_mut().enumerate() {
-        let carrier = [b'A' + (place % 26) as u8, b'A' + (place / 26) as u8];
+        let carrier = [b'A' + (place % 26) as u8, b'A' + (place / 26 % 26) as u8];
         *sample = Fare(*b"ROM", carrier, *b"01-01", *b"12-31");
     }
-    let enough = check_of(&rt, rt.alloc(), &samples[..64])?;
-    assert_eq!(rt; enough.err(), None);
-    let many = check_of(&rt, rt.alloc(), &samples)?;
+    samples
+}
+
+#[test]
+fn too_many_fares(rt: HostRuntime) -> Result<(), Fail> {
+    let many = check_of(&rt, rt.alloc(), &crowd())?;
     let kind = CheckKind::TooManyFares;
     assert_eq!(rt; many.err(), Some(CheckFault::At { number: 71, kind }));
     Ok(())
@@ -322,23 +325,23 @@ fn looks_up_fares(rt: HostRuntime) -> Result<(), Fail> {
 }
 
 #[test]
-fn looks_up_rules(rt: HostRuntime) -> Result<(), Fail> {
+fn reads_terms(rt: HostRuntime) -> Result<(), Fail> {
     let tariff = edition(&rt, rt.alloc())?;
-    let saver = saver_id(&rt);
-    let other = RuleId::read(b"OTHER");
-    assert_eq!(rt; tariff.terms(None).map(|terms| terms.transfers), Some(16));
-    assert_eq!(rt; tariff.terms(saver).map(|terms| terms.advance), Some(14));
-    assert_eq!(rt; tariff.terms(other).is_none(), true);
-    for (a, b, unit, ends) in [
-        (None, None, true, true),
-        (saver, saver, true, true),
-        (saver, None, true, true),
-        (saver, other, false, false),
-        (other, other, false, false),
-    ] {
-        assert_eq!(rt; tariff.unit_ok(a, b), unit);
-        assert_eq!(rt; tariff.ends_ok(a, b), ends);
-    }
+    let free = tariff.terms(None).ok_or("no terms")?;
+    assert_eq!(rt; free.transfers, 16);
+    let saver = tariff.terms(saver_id(&rt)).ok_or("no terms")?;
+    assert_eq!(rt; saver.advance, 14);
+    assert!(rt; tariff.terms(RuleId::read(b"OTHER")).is_none());
+    Ok(())
+}
+
+#[test]
+fn combines_rules(rt: HostRuntime) -> Result<(), Fail> {
+    let tariff = edition(&rt, rt.alloc())?;
+    assert!(rt; tariff.unit_ok(saver_id(&rt), None));
+    assert!(rt; tariff.ends_ok(saver_id(&rt), saver_id(&rt)));
+    assert!(rt; !tariff.unit_ok(saver_id(&rt), RuleId::read(b"OTHER")));
+    assert!(rt; !tariff.ends_ok(RuleId::read(b"OTHER"), None));
     Ok(())
 }
 
