@@ -4,5 +4,12 @@ pub mod Lines
 pub mod Written
 pub mod Numbers
 pub mod Fields
+pub mod Head
+pub mod RecordKind
 pub mod RecordText
+pub mod CheckedFault
+pub mod FaultText
 pub mod TariffText
+pub mod Filed
+pub mod NameList
+pub mod CanonicalText
