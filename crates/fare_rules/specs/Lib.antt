@@ -24,3 +24,6 @@ pub mod Order
 pub mod Best
 pub mod Completion
 pub mod FirstK
+pub mod OneSector
+pub mod Free
+pub mod Valid
