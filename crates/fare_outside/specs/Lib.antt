@@ -1,0 +1,8 @@
+pub mod Cause
+pub mod Source
+pub mod Sink
+pub mod Keeper
+pub mod Door
+pub mod Calls
+pub mod Room
+pub mod Objects

@@ -1,0 +1,52 @@
+//! Everything that the desk reads, writes, keeps or answers lies behind five traits: a source, a sink, a keeper, a
+//! door and a gate. This layer states what may be known of each, and has objects in memory and over the real streams.
+//!
+//! - `source`, `sink`, `keeper`, `door`, `gate`: the traits, with the words of their clauses in `specs/`;
+//! - `reading`, `writing`: a whole source, and a whole text, over any source and sink;
+//! - `bytes`, `bodies`: lists that grow, or refuse and stay as they were;
+//! - `plain_*`: objects in memory that never fail; `mem_*`: the same with a list of failing calls;
+//! - `std_*`: standard input and standard output.
+#![tactic(auto)]
+
+mod bodies;
+mod bytes;
+mod calls;
+mod count;
+mod door;
+mod failed;
+mod gate;
+mod keeper;
+mod mem_sink;
+mod mem_source;
+mod no_memory;
+mod plain_door;
+mod plain_keeper;
+mod plain_sink;
+mod plain_source;
+mod reading;
+mod room;
+mod sink;
+mod source;
+mod std_sink;
+mod std_source;
+mod writing;
+
+pub use bodies::Bodies;
+pub use bytes::Bytes;
+pub use door::{Door, MOST_HELD};
+pub use failed::Failed;
+pub use gate::{Gate, OpenGate};
+pub use keeper::{KeepFault, Keeper};
+pub use mem_sink::MemSink;
+pub use mem_source::MemSource;
+pub use no_memory::NoMemory;
+pub use plain_door::PlainDoor;
+pub use plain_keeper::PlainKeeper;
+pub use plain_sink::PlainSink;
+pub use plain_source::PlainSource;
+pub use reading::{ReadEnd, read_all};
+pub use sink::Sink;
+pub use source::Source;
+pub use std_sink::StdSink;
+pub use std_source::StdSource;
+pub use writing::write_all;

@@ -1,0 +1,62 @@
+ghost use Rattle.std.specs.Prelude.{[], Some, None};
+
+use crate::{Door, Failed};
+
+/// A door to which no connection comes.
+#[derive(Drop)]
+pub struct PlainDoor {
+    seal: (),
+}
+
+impl PlainDoor {
+    /// A door with no connection to come.
+    pub fn new() -> PlainDoor {
+        PlainDoor { seal: () }
+    }
+}
+
+impl Door for PlainDoor {
+    ghost waiting = { λ _. Some [] };
+
+    ghost left = { λ _. Some [] };
+
+    ghost sent = { λ _. None };
+
+    ghost held = { λ _. [] };
+
+    ghost current = { λ _. None };
+
+    ghost faults = { λ _. 0 };
+
+    ghost cuts = { λ _. 0 };
+
+    fn listen(&mut self, _port: u16) -> Result<(), Failed> {
+        Ok(())
+    }
+
+    fn next(&mut self) -> Result<bool, Failed> {
+        Ok(false)
+    }
+
+    fn read(&mut self, _buf: &mut [u8]) -> Result<usize, Failed> {
+        Ok(0)
+    }
+
+    fn write(&mut self, buf: &[u8]) -> Result<usize, Failed> {
+        Ok(buf.len())
+    }
+
+    fn close(&mut self) {}
+
+    fn more(&mut self) -> bool {
+        false
+    }
+
+    fn hold(&mut self) -> bool {
+        unreachable!()
+    }
+
+    fn resume(&mut self) -> bool {
+        false
+    }
+}
