@@ -1,0 +1,5 @@
+pub mod Streaming
+pub mod FieldAt
+pub mod PlainLines
+mod RowExamples
+pub mod NumberLemmas
