@@ -1,0 +1,3 @@
+pub mod Exit
+pub mod Words
+pub mod Outcome
