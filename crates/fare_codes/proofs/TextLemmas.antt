@@ -1,6 +1,7 @@
 -- The characters of codes are ASCII.
-use Rattle.std.proofs.Common.{◌≡◌, ◌<◌, ℕ, true, List, [], ◌∷◌, length, get_or, arith, refl, ap}
+use Rattle.std.proofs.Common.{◌≡◌, ◌<◌, ℕ, suc, Bool, true, List, [], ◌∷◌, ◌&&◌, length, get_or, arith, refl, ap}
 use Rattle.std.proofs.lemmas.Grind.{common_steps}
+use Rattle.std.proofs.lemmas.Bool.Decides.{nat_tests}
 use Rattle.std.proofs.lemmas.List.Folds.{list_all_at}
 use Rattle.std.proofs.lemmas.Str.{encode_ascii}
 use Rattle.std.specs.List.{list_all}
@@ -24,3 +25,15 @@ ascii_at bytes i h a = grind (arith, common_steps, list_all_at is_ascii bytes i 
 -- an ASCII character takes one byte
 pub length-ascii_char : (c : ℕ) → c < 128 → length (encode_utf8 c) ≡ 1
 length-ascii_char c h = ap length (encode_ascii c h)
+
+-- both tests hold
+pub both : (a b : Bool) → (a && b) ≡ true → (a ≡ true) × (b ≡ true)
+both a b h = grind arith
+
+-- a text whose bytes are each below 128 is ASCII
+pub ascii_from_reads : (text : List ℕ) → ((k : ℕ) → k < length text → get_or text k 0 < 128) → list_all is_ascii text ≡ true
+ascii_from_reads [] reads = refl
+ascii_from_reads (c ∷ cs) reads =
+    let first : c < 128 = reads 0 (omega arith) in
+    let rest : (k : ℕ) → k < length cs → get_or cs k 0 < 128 = λ k h. reads (suc k) (omega arith) in
+    grind (arith, nat_tests, ascii_from_reads cs rest)

@@ -2,23 +2,28 @@
 //! that stands for it. A contract sees a code as its text, and an amount as its number of hundredths.
 #![tactic(auto)]
 
+mod amounts;
 mod area;
 mod cabin;
+mod calendar;
 mod carrier;
 mod city;
 mod country;
 mod currency;
 mod day;
+mod decimals;
 mod indicator;
 mod kind;
 mod mode;
 mod month_day;
 mod nuc;
+mod numbers;
 mod over;
 mod rule_id;
 mod season;
 mod texts;
 
+pub use amounts::{convert, surcharged};
 pub use area::Area;
 pub use cabin::Cabin;
 pub use carrier::Carrier;
@@ -26,11 +31,13 @@ pub use city::City;
 pub use country::Country;
 pub use currency::Currency;
 pub use day::Day;
+pub use decimals::{rate_text, read_rate};
 pub use indicator::Indicator;
 pub use kind::Kind;
 pub use mode::Mode;
 pub use month_day::MonthDay;
 pub use nuc::Nuc;
+pub use numbers::{number_text, read_number};
 pub use over::Over;
 pub use rule_id::RuleId;
 pub use season::Season;

@@ -1,3 +1,9 @@
+ghost use Rattle.std.specs.Prelude.{◌≡◌, ◌↔◌, ◌≤◌, true, IsTrue, length};
+ghost use Rattle.fare_codes.specs.Day.{is_month_day, read_month_day, has_month_day_shape, place_in_year};
+
+use crate::calendar::{day_number_of, has_two_digits, two_digits_at};
+use crate::texts::ascii_text;
+use arrayvec::ArrayString;
 use std::marker::Model;
 
 /// A day of the year, without its year. A contract sees its text, `MM-DD`.
@@ -17,4 +23,65 @@ impl Model for MonthDay {
     ghost invariant = { λ d. is_month_day d.text ≡ true };
 
     ghost inverse = { λ text. record { text = text } };
+}
+
+impl MonthDay {
+    /// The day of the year that these bytes spell; nothing exactly where they are not `MM-DD` with a day that the year
+    /// 2000 has.
+    #[tactic(auto, using(crate::proofs::MonthDayLemmas::digits_of_month_day))]
+    pub fn read(bytes: &[u8]) -> Option<MonthDay>
+        ensures { result ≡ read_month_day bytes.now }
+    {
+        if !is_shaped(bytes) {
+            return None;
+        }
+        day_number_of(2000, two_digits_at(bytes, 0), two_digits_at(bytes, 3))?;
+        Some(MonthDay::from_bytes(bytes))
+    }
+
+    /// The day of the year whose text this is.
+    pub(crate) fn from_bytes(bytes: &[u8]) -> MonthDay
+        requires form { is_month_day bytes.now ≡ true }
+        requires fits { length bytes.now ≡ 5 }
+        ensures { result ≡ bytes.now }
+    {
+        let mut text = [0; 5];
+        text.copy_from_slice(bytes);
+        MonthDay { text }
+    }
+
+    /// `MM-DD`; read back it is the day of the year.
+    #[tactic(auto, using(crate::proofs::MonthDayLemmas::month_day_is_ascii))]
+    pub fn text(self) -> ArrayString<16>
+        ensures text { result.bytes ≡ self }
+        ensures form { is_month_day self ≡ true }
+        ensures read_back { read_month_day self ≡ Some self }
+    {
+        ascii_text(&self.text)
+    }
+
+    /// Its place among the days of the year: 100 times the month, and the day.
+    #[tactic(auto, using(crate::proofs::MonthDayLemmas::digits_of_month_day, crate::proofs::MonthDayLemmas::place_in_bounds))]
+    pub fn place(self) -> u32
+        ensures value { result ≡ place_in_year self }
+        ensures first { 101 ≤ result }
+        ensures last { result ≤ 1231 }
+    {
+        100 * two_digits_at(&self.text, 0) as u32 + two_digits_at(&self.text, 3) as u32
+    }
+
+    /// Whether both are the same day of the year.
+    pub fn is(self, other: MonthDay) -> bool
+        ensures { IsTrue result ↔ (self ≡ other) }
+    {
+        self == other
+    }
+}
+
+/// Whether the bytes are digits and a hyphen at the places of `MM-DD`.
+#[tactic(auto, unfolding(crate::specs::Day::has_month_day_shape))]
+fn is_shaped(bytes: &[u8]) -> bool
+    ensures { result ≡ has_month_day_shape bytes.now }
+{
+    bytes.len() == 5 && has_two_digits(bytes, 0) && bytes[2] == b'-' && has_two_digits(bytes, 3)
 }

@@ -1,3 +1,7 @@
+ghost use Rattle.std.specs.Prelude.{◌≡◌, ◌↔◌, ℕ, List, true, IsTrue};
+ghost use Rattle.fare_codes.specs.Day.{is_month_day};
+ghost use Rattle.fare_codes.specs.Season.{season_holds, whole_year};
+
 use crate::month_day::MonthDay;
 
 /// The part of each year for which a fare is filed: from its first day to its last, over the year's end where the
@@ -8,4 +12,40 @@ pub struct Season {
     pub first: MonthDay,
     /// The last day that the season holds.
     pub last: MonthDay,
+}
+
+impl Season {
+    /// `01-01` to `12-31`, which holds each day of the year.
+    #[tactic(auto, using(crate::proofs::SeasonLemmas::whole_year_holds), unfolding(crate::specs::Day::has_month_day_shape))]
+    pub fn whole_year() -> Season
+        ensures value { result ≡ whole_year }
+        ensures each_day { (on : List ℕ) → is_month_day on ≡ true → season_holds result on ≡ true }
+    {
+        Season {
+            first: MonthDay::from_bytes(b"01-01"),
+            last: MonthDay::from_bytes(b"12-31"),
+        }
+    }
+
+    /// Whether the season holds the day of the year.
+    #[tactic(auto, unfolding(crate::specs::Season::season_holds))]
+    pub fn holds(self, on: MonthDay) -> bool
+        ensures { result ≡ season_holds self on }
+    {
+        let first = self.first.place();
+        let last = self.last.place();
+        let day = on.place();
+        if first <= last {
+            first <= day && day <= last
+        } else {
+            first <= day || day <= last
+        }
+    }
+
+    /// Whether both have the same first and last day.
+    pub fn is(self, other: Season) -> bool
+        ensures { IsTrue result ↔ (self ≡ other) }
+    {
+        self.first.is(other.first) && self.last.is(other.last)
+    }
 }

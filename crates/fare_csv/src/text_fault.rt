@@ -1,5 +1,10 @@
 //! Why a text is no edition.
 
+ghost use Rattle.std.specs.Prelude.{◌≡◌};
+ghost use Rattle.fare_csv.specs.declared.text_fault.TextFault.TheVariants.{Memory};
+
+use std::alloc::{AllocError, AllocFailed};
+
 /// Why a text is no edition. Record numbers count the rows of the text from 1, and stay at the last
 /// value of a u32.
 #[derive(Clone, Copy, Debug, PartialEq, Eq)]
@@ -17,4 +22,20 @@ pub enum TextFault {
     AfterEnd(u32),
     /// There is no END: the number behind the last record's.
     NoEnd(u32),
+}
+
+impl From<AllocError> for TextFault {
+    ghost from_gives = { λ _ fault. fault ≡ Memory };
+
+    fn from(_: AllocError) -> TextFault {
+        TextFault::Memory
+    }
+}
+
+impl<T: Drop> From<AllocFailed<T>> for TextFault {
+    ghost from_gives = { λ _ fault. fault ≡ Memory };
+
+    fn from(_: AllocFailed<T>) -> TextFault {
+        TextFault::Memory
+    }
 }

@@ -4,3 +4,4 @@ pub use Rattle.fare_codes.specs.Season
 pub mod Record
 pub mod Tariff
 pub mod Lookup
+pub mod Check

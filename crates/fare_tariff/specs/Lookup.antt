@@ -20,7 +20,7 @@ use Rattle.fare_tariff.specs.declared.names.Names.{Names}
 use Rattle.fare_tariff.specs.declared.names.Names.TheVariants.{All, Of}
 use Rattle.fare_tariff.specs.declared.terms.Terms.{Terms}
 use Rattle.fare_tariff.specs.declared.fare_key.FareKey.{FareKey}
-use Rattle.fare_tariff.specs.Record.{CurrencyRecord, RuleRecord, FareRecord, MileageRecord, PairRecord, AllowanceRecord}
+use Rattle.fare_tariff.specs.Record.{CurrencyRecord, RuleRecord, FareRecord}
 use Rattle.fare_tariff.specs.Tariff.{Tariff}
 
 -- the first answer that a record of a list gives

@@ -1,5 +1,5 @@
 -- The records of a tariff, as the rules see them, and the ranges of their numbers.
-use Rattle.std.specs.Prelude.{ℕ, ◌<◌, ◌≤◌, ◌^◌, Bool, List, length, Option}
+use Rattle.std.specs.Prelude.{ℕ, ◌<◌, ◌≤◌, ◌^◌, Bool, length, Option}
 use Rattle.fare_codes.specs.declared.city.City.{City}
 use Rattle.fare_codes.specs.declared.country.Country.{Country}
 use Rattle.fare_codes.specs.declared.currency.Currency.{Currency}

@@ -1,6 +1,13 @@
+ghost use Rattle.std.specs.Prelude.{◌≡◌, ◌<◌, ◌≤◌, length};
+ghost use Rattle.fare_tariff.specs.Check.{Gives, check_edition};
+
+use crate::check::first_fault;
+use crate::check_fault::CheckFault;
 use crate::record::Record;
 use fare_codes::Day;
+use std::alloc::Global;
 use std::marker::Model;
+use std::thread::Threads;
 
 /// A published tariff edition, valid by its type: no record of it has a fault.
 #[derive(Drop)]
@@ -11,10 +18,61 @@ pub struct Edition {
 }
 
 impl Model for Edition {
-    ghost use Rattle.std.specs.Prelude.{◌≡◌};
     ghost use Rattle.fare_tariff.specs.Tariff.{Tariff};
+    ghost use Rattle.fare_tariff.specs.Check.{IsEdition};
 
     ghost Value = { Tariff };
 
     ghost view = { λ e. record { number = e.number; effective = e.effective; records = e.records.items } };
+
+    ghost invariant = { λ e. IsEdition e.number e.records.items };
+}
+
+impl Edition {
+    /// The edition with just these records, or the fault of the least record that has one.
+    pub fn check<R: Threads + Sync>(
+        _rt: &R,
+        _alloc: Global,
+        number: u32,
+        effective: Day,
+        records: Vec<Record>,
+    ) -> Result<Edition, CheckFault>
+        requires above_zero { 0 < number }
+        requires in_range { number ≤ 99_999 }
+        ensures { Gives result (check_edition number effective records.items) }
+    {
+        match first_fault(records.as_slice()) {
+            Some(fault) => Err(fault),
+            None => Ok(Edition {
+                number,
+                effective,
+                records,
+            }),
+        }
+    }
+
+    /// Its number.
+    pub fn number(&self) -> u32
+        ensures value { result ≡ self.now.number }
+        ensures above_zero { 0 < result }
+        ensures in_range { result ≤ 99_999 }
+    {
+        self.number
+    }
+
+    /// The day from which it may be selected.
+    pub fn effective(&self) -> Day
+        ensures { result ≡ self.now.effective }
+    {
+        self.effective
+    }
+
+    /// Its records, of which the first has the record number 2.
+    #[tactic(auto, using(crate::proofs::Validity::length_in_limit))]
+    pub fn records(&self) -> &[Record]
+        ensures records { result.now ≡ self.now.records }
+        ensures in_limit { length result.now ≤ 400_000 }
+    {
+        self.records.as_slice()
+    }
 }

@@ -1,5 +1,14 @@
 pub use Rattle.fare_codes.specs.Codes
 pub use Rattle.fare_codes.specs.Day
 pub use Rattle.fare_codes.specs.Season
+pub use Rattle.fare_codes.specs.Words
+pub use Rattle.fare_codes.specs.Over
+pub use Rattle.serde_json.specs.Data
+pub use Rattle.serde_json.specs.Read
+pub use Rattle.serde_json.specs.View
 pub mod Itinerary
 pub mod Trip
+pub mod Steps
+pub mod ShortLine
+pub mod FaultText
+pub mod ItineraryText

@@ -1,5 +1,5 @@
 -- Which sale days, cities and sectors make a trip, and the first fault of those that make none.
-use Rattle.std.specs.Prelude.{ℕ, ◌+◌, Bool, true, false, not, List, [], ◌∷◌, length, Option, Some, None, Result, Ok, Err, ◌==◌, ◌&&◌, ◌||◌, nat_lt, bytes_eq, min, if◌then◌else◌}
+use Rattle.std.specs.Prelude.{◌≡◌, ◌≢◌, ◌≤◌, ◌<◌, ℕ, ◌+◌, ◌-◌, Bool, true, false, List, [], ◌∷◌, length, Option, Some, None, Result, Ok, Err, ◌==◌, ◌&&◌, ◌||◌, nat_lt, bytes_eq, min, if◌then◌else◌}
 use Rattle.std.specs.Option.{option_or}
 use Rattle.fare_codes.specs.declared.city.City.{City}
 use Rattle.fare_codes.specs.declared.day.Day.{Day}
@@ -7,7 +7,7 @@ use Rattle.fare_codes.specs.Day.{day_number}
 use Rattle.fare_trip.specs.declared.sector.Sector.{Sector}
 use Rattle.fare_trip.specs.declared.fault.TripFault.{TripFault}
 use Rattle.fare_trip.specs.declared.fault.TripFault.TheVariants as fault
-use Rattle.fare_trip.specs.Itinerary.{Itinerary}
+use Rattle.fare_trip.specs.Itinerary.{Itinerary, count, point, sector}
 
 -- a number as a fault carries it: the last 32-bit number where it would be greater
 abbrev pub carried : ℕ → ℕ
@@ -45,3 +45,17 @@ make_trip sale from sectors =
     else (if nat_lt 16 (length sectors) then Err (fault.TooMany (carried (length sectors)))
     else unless_fault (sectors_fault (length sectors) 1 from sale false sectors)
     (record { sale = sale; from = from; sectors = sectors }))
+
+-- the day behind which a sector's day may not fall: the sale day for the first sector, else that of the sector before
+abbrev pub day_before : Itinerary → ℕ → Day
+day_before trip number = if number == 1 then trip.sale else (sector trip (number - 1)).day
+
+-- what holds of every trip that was made
+pub record IsTrip (trip : Itinerary) : Type 0 where
+  pub some : 1 ≤ count trip
+  pub at_most : count trip ≤ 16
+  pub points_differ : (number : ℕ) → 1 ≤ number → number ≤ count trip → point trip (number - 1) ≢ point trip number
+  pub days_rise : (number : ℕ) → 1 ≤ number → number ≤ count trip → day_number (day_before trip number) ≤ day_number (sector trip number).day
+  pub first_flown : (sector trip 1).surface ≡ false
+  pub last_flown : (sector trip (count trip)).surface ≡ false
+  pub surfaces_apart : (number : ℕ) → 1 ≤ number → number < count trip → (sector trip number).surface ≡ true → (sector trip (number + 1)).surface ≡ false

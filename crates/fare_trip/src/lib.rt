@@ -3,9 +3,18 @@
 #![tactic(auto)]
 
 mod fault;
+mod fault_text;
+mod itinerary_text;
+mod members;
+mod pieces;
+mod place;
 mod sector;
+mod short_line;
+mod texts;
 mod trip;
 
 pub use fault::{Member, TripFault};
+pub use itinerary_text::{read_trip, trip_of};
 pub use sector::Sector;
+pub use short_line::read_short;
 pub use trip::Trip;

@@ -18,3 +18,18 @@ pub struct Sector {
     /// Whether the traveller makes it by own means.
     pub surface: bool,
 }
+
+/// A sector that stands in room that is not yet used.
+impl Default for Sector {
+    fn default() -> Sector {
+        Sector {
+            to: City::default(),
+            carrier: Carrier::default(),
+            day: Day::default(),
+            cabin: Cabin::Y,
+            over: Over::Unmarked,
+            stop: true,
+            surface: false,
+        }
+    }
+}

@@ -1,0 +1,110 @@
+//! The records of a text, row by row.
+
+ghost use Rattle.std.specs.Prelude.{◌≡◌, [], ◌∷◌, ◌≤◌, IfOk, Ok, codes, bytes_eq};
+ghost use Rattle.fare_csv.specs.Fields.{Gives, field};
+ghost use Rattle.fare_csv.specs.TariffText.{end_of, record_of, records_of, tariff_of};
+ghost use Rattle.fare_csv.specs.Filed.{filed_tariff};
+ghost use Rattle.fare_csv.specs.Rows.{rows_of};
+
+use crate::head::read_head;
+use crate::read_record::{
+    counted, read_allowance, read_city, read_currency, read_mileage, read_pair,
+};
+use crate::rows::{Row, Rows};
+use crate::text_fault::TextFault;
+use crate::version::Version;
+use fare_codes::Day;
+use fare_tariff::Record;
+use std::alloc::Global;
+
+/// The record of a row that isn't END, by its first field.
+#[tactic(auto, unfolding(crate::specs::TariffText::record_of, crate::specs::Fields::Gives, crate::specs::Fields::GivesFault))]
+fn read_record(row: &Row, version: Version, number: u32) -> Result<Record, TextFault>
+    ensures { Gives (λ one. one) result (record_of version number row.now) }
+{
+    match row.field(0) {
+        b"CUR" => Ok(Record::Cur(read_currency(row, number)?)),
+        b"CITY" => Ok(Record::City(read_city(row, number)?)),
+        b"MPM" => Ok(Record::Mpm(read_mileage(row, number)?)),
+        b"TPM" => Ok(Record::Tpm(read_pair(row, number)?)),
+        b"EMA" => Ok(Record::Ema(read_allowance(row, number)?)),
+        _ => Err(TextFault::UnknownRecord(number)),
+    }
+}
+
+/// Whether a row is that of END, by its first field.
+fn is_end(row: &Row) -> bool
+    ensures { result ≡ bytes_eq (field row.now 0) (codes "END") }
+{
+    matches!(row.field(0), b"END")
+}
+
+/// Looks at an END row, behind which no row may stand.
+#[tactic(auto, unfolding(crate::specs::TariffText::end_of, crate::specs::TariffText::nothing_after, crate::specs::Fields::Gives, crate::specs::Fields::GivesFault))]
+fn read_end(rows: &mut Rows, row: &mut Row, number: u32) -> Result<(), TextFault>
+    ensures { Gives (λ done. done) result (end_of number row.old rows.old) }
+{
+    counted(row, number, 1)?;
+    if rows.read_row(row)? {
+        return Err(TextFault::AfterEnd(number.saturating_add(1)));
+    }
+    Ok(())
+}
+
+/// The records between HEAD and END.
+#[tactic(auto, unfolding(crate::specs::Fields::Gives, crate::specs::Fields::GivesFault))]
+fn read_records(
+    alloc: Global,
+    rows: &mut Rows,
+    version: Version,
+) -> Result<Vec<Record>, TextFault>
+    ensures { Gives (λ records. records.items) result (records_of version 2 rows.old) }
+{
+    let mut records = Vec::new(alloc);
+    let mut row = Row::new(alloc);
+    let mut number = 2;
+    while rows.read_row(&mut row)? {
+        if is_end(&row) {
+            read_end(rows, &mut row, number)?;
+            return Ok(records);
+        }
+        records.push(read_record(&row, version, number)?)?;
+        number = number.saturating_add(1);
+    }
+    Err(TextFault::NoEnd(number))
+}
+
+/// What a text spells, before its records are checked against one another.
+#[derive(Drop)]
+pub(crate) struct Filed {
+    pub number: u32,
+    pub effective: Day,
+    pub records: Vec<Record>,
+}
+
+/// Whether a row is that of HEAD, by its first field.
+fn is_head(row: &Row) -> bool
+    ensures { result ≡ bytes_eq (field row.now 0) (codes "HEAD") }
+{
+    matches!(row.field(0), b"HEAD")
+}
+
+/// HEAD and the records of a text.
+#[tactic(auto, unfolding(crate::specs::Fields::Gives, crate::specs::Fields::GivesFault, crate::specs::TariffText::headed, crate::specs::TariffText::tariff_of))]
+pub(crate) fn read_filed(alloc: Global, bytes: &[u8]) -> Result<Filed, TextFault>
+    ensures reading { Gives filed_tariff result (tariff_of (rows_of bytes.now)) }
+    ensures range { IfOk result (λ filed. (1 ≤ filed.number) × (filed.number ≤ 99_999)) }
+{
+    let mut rows = Rows::new(alloc, bytes);
+    let mut row = Row::new(alloc);
+    if !rows.read_row(&mut row)? || !is_head(&row) {
+        return Err(TextFault::NoHeader);
+    }
+    let head = read_head(&row)?;
+    let records = read_records(alloc, &mut rows, head.version)?;
+    Ok(Filed {
+        number: head.number,
+        effective: head.effective,
+        records,
+    })
+}

@@ -1,0 +1,184 @@
+ghost use Rattle.std.specs.Prelude.{◌≡◌, ◌≢◌, ◌<◌, length, IfSome, OnOk, IsErrOf};
+ghost use Rattle.std.specs.Io.KnownBytes.{Appends, Keeps};
+ghost use Rattle.fare_outside.specs.Cause.{Rose};
+ghost use Rattle.fare_outside.specs.Sink.{AppendsPrefix};
+ghost use Rattle.fare_outside.specs.Keeper.{ToldAfter, BodyAppended};
+
+use crate::*;
+use std::alloc::Global;
+use std::test::Fail;
+
+/// How a run through all five traits ended.
+#[derive(Clone, Copy, Debug, PartialEq, Eq)]
+enum Ending {
+    Done,
+    ReadFault,
+    TooLong,
+    WriteFault,
+    KeeperFault,
+    DoorFault,
+    Memory,
+}
+
+/// Reads at most nine bytes, keeps them, and writes them out.
+fn run_once<S: Source, K: Sink, P: Keeper, D: Door, G: Gate>(
+    alloc: Global,
+    src: &mut S,
+    out: &mut K,
+    store: &mut P,
+    door: &mut D,
+    gate: &G,
+) -> Ending
+    ensures read_fault { result ≡ Ending.ReadFault → Rose (S.faults src.old) (S.faults src.new) }
+    ensures write_fault { result ≡ Ending.WriteFault → Rose (K.faults out.old) (K.faults out.new) }
+    ensures keeper_fault { result ≡ Ending.KeeperFault → Rose (P.faults store.old) (P.faults store.new) }
+    ensures door_fault { result ≡ Ending.DoorFault → Rose (D.faults door.old) (D.faults door.new) }
+    ensures too_long { result ≡ Ending.TooLong → IfSome (S.left src.old) (λ left. 9 < length left) }
+
+    ensures written { result ≡ Ending.Done → IfSome (S.left src.old) (Appends (K.taken out.old) (K.taken out.new)) }
+    ensures kept { result ≡ Ending.Done → IfSome (S.left src.old) (λ left.
+        ToldAfter (P.bodies store.old) (P.bodies store.new) (BodyAppended left)) }
+    ensures prefix { result ≡ Ending.WriteFault → IfSome (S.left src.old)
+        (AppendsPrefix (K.taken out.old) (K.taken out.new)) }
+    ensures silent { result ≢ Ending.Done → result ≢ Ending.WriteFault → Keeps (K.taken out.old) (K.taken out.new) }
+{
+    let bytes = match read_all(alloc, src, 9) {
+        Ok(bytes) => bytes,
+        Err(ReadEnd::Memory) => return Ending::Memory,
+        Err(ReadEnd::ReadFault) => return Ending::ReadFault,
+        Err(ReadEnd::TooLong) => return Ending::TooLong,
+    };
+    match keep(alloc, store, &bytes) {
+        Ok(()) => {}
+        Err(KeepFault::Memory) => return Ending::Memory,
+        Err(KeepFault::Failed) => return Ending::KeeperFault,
+    }
+    gate.begin(1);
+    if door.listen(80).is_err() {
+        return Ending::DoorFault;
+    }
+    match write_all(out, &bytes) {
+        Ok(()) => Ending::Done,
+        Err(Failed) => Ending::WriteFault,
+    }
+}
+
+fn keep<P: Keeper>(alloc: Global, store: &mut P, body: &[u8]) -> Result<(), KeepFault>
+    ensures ok { OnOk result (ToldAfter (P.bodies store.old) (P.bodies store.new) (BodyAppended body.now)) }
+    ensures cause { IsErrOf result KeepFault.Failed → Rose (P.faults store.old) (P.faults store.new) }
+{
+    store.open(alloc, "run")?;
+    store.append(alloc, body)
+}
+
+fn some_bytes(alloc: Global, bytes: &[u8]) -> Result<Vec<u8>, Fail> {
+    Ok(Vec::from_slice(alloc, bytes)?)
+}
+
+#[test]
+fn five_traits_serve_one_run(rt: HostRuntime) -> Result<(), Fail> {
+    let alloc = rt.alloc();
+    let mut src = PlainSource::new(some_bytes(alloc, b"one body")?);
+    let mut out = PlainSink::new(alloc, 8)?;
+    let mut store = PlainKeeper::new(Bodies::new(alloc));
+    let mut door = PlainDoor::new();
+    let end = run_once(alloc, &mut src, &mut out, &mut store, &mut door, &OpenGate);
+    assert_eq!(rt; end, Ending::Done);
+    assert_eq!(rt; out.bytes(), b"one body".as_slice());
+    assert_eq!(rt; store.kept().get(0), Some(b"one body".as_slice()));
+    Ok(())
+}
+
+#[test]
+fn a_keeper_answers_by_place(rt: HostRuntime) -> Result<(), Fail> {
+    let alloc = rt.alloc();
+    let mut store = PlainKeeper::new(Bodies::new(alloc));
+    store.open(alloc, "editions")?;
+    store.append(alloc, b"one")?;
+    store.replace(alloc, 1, b"another")?;
+    assert_eq!(rt; store.load(alloc, 1)?.as_slice(), b"another".as_slice());
+    assert_eq!(rt; store.len(alloc)?, 1);
+    Ok(())
+}
+
+#[test]
+fn a_plain_door_stays_shut(rt: HostRuntime) {
+    let mut door = PlainDoor::new();
+    assert_eq!(rt; door.listen(80), Ok(()));
+    assert_eq!(rt; door.next(), Ok(false));
+    assert_eq!(rt; door.read(&mut [0; 4]), Ok(0));
+    assert_eq!(rt; door.write(b"none reads it"), Ok(13));
+    assert!(rt; !door.more() && !door.resume());
+    door.close();
+}
+
+#[test]
+fn a_source_is_read_whole_or_refused(rt: HostRuntime) -> Result<(), Fail> {
+    let alloc = rt.alloc();
+    let mut whole = MemSource::new(some_bytes(alloc, b"itinerary")?, Vec::new(alloc));
+    assert_eq!(rt;
+        read_all(alloc, &mut whole, 9)?.as_slice(),
+        b"itinerary".as_slice()
+    );
+    let mut long = MemSource::new(some_bytes(alloc, b"itinerary")?, Vec::new(alloc));
+    assert_eq!(rt; read_all(alloc, &mut long, 8).err(), Some(ReadEnd::TooLong));
+    // The first read takes all; the second, which would find the end, fails.
+    let mut broken = MemSource::new(some_bytes(alloc, b"itinerary")?, vec![in alloc; 2]?);
+    assert_eq!(rt;
+        read_all(alloc, &mut broken, 9).err(),
+        Some(ReadEnd::ReadFault)
+    );
+    Ok(())
+}
+
+#[test]
+fn a_large_source_is_read_fast(rt: HostRuntime) -> Result<(), Fail> {
+    let alloc = rt.alloc();
+    let mut src = PlainSource::new(vec![in alloc; 7; 16_777_216]?);
+    assert_eq!(rt; read_all(alloc, &mut src, 16_777_216)?.len(), 16_777_216);
+    Ok(())
+}
+
+#[test]
+fn a_sink_takes_what_fits(rt: HostRuntime) -> Result<(), Fail> {
+    let alloc = rt.alloc();
+    let mut narrow = PlainSink::new(alloc, 4)?;
+    assert_eq!(rt; write_all(&mut narrow, b"fares"), Err(Failed));
+    assert_eq!(rt; narrow.bytes(), b"fare".as_slice());
+    let mut broken = MemSink::new(alloc, 9, vec![in alloc; 2]?)?;
+    assert_eq!(rt; broken.write(b"fare"), Ok(4));
+    assert_eq!(rt; broken.write(b"fare"), Err(Failed));
+    assert_eq!(rt; write_all(&mut broken, b"fares"), Ok(()));
+    assert_eq!(rt; broken.bytes(), b"farefares".as_slice());
+    Ok(())
+}
+
+#[test]
+fn bytes_and_bodies_grow(rt: HostRuntime) -> Result<(), Fail> {
+    let alloc = rt.alloc();
+    let mut bytes = Bytes::from(some_bytes(alloc, b"OK")?);
+    bytes.extend(b" 1")?;
+    let mut bodies = Bodies::new(alloc);
+    bodies.push(bytes.as_slice())?;
+    bodies.push(Bytes::new(alloc).as_slice())?;
+    assert_eq!(rt; bodies.len(), 2);
+    assert_eq!(rt; bodies.get(0), Some(b"OK 1".as_slice()));
+    assert_eq!(rt; bodies.get(1), Some(b"".as_slice()));
+    assert_eq!(rt; bodies.get(2), None);
+    Ok(())
+}
+
+#[test]
+fn standard_input_ends(rt: HostRuntime) -> Result<(), Fail> {
+    let mut src = StdSource::new(&rt);
+    let bytes = read_all(rt.alloc(), &mut src, 1_000_000)?;
+    assert!(rt; bytes.len() <= 1_000_000);
+    Ok(())
+}
+
+#[test]
+fn standard_output_takes_a_text(rt: HostRuntime) -> Result<(), Fail> {
+    let mut out = StdSink::new(&rt);
+    write_all(&mut out, b"standard output\n")?;
+    Ok(())
+}

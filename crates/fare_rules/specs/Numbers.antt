@@ -1,0 +1,24 @@
+-- Ranges of numbers, and what is looked for among them.
+use Rattle.std.specs.Prelude.{ℕ, ◌-◌, List, [], ◌∷◌, Option, Some, None, max}
+use Rattle.std.specs.List.{range_with_len}
+use Rattle.std.specs.Option.{option_or}
+
+-- the numbers from a first one on and below another
+abbrev pub numbers : ℕ → ℕ → List ℕ
+numbers first past = range_with_len first (past - first)
+
+-- the greater of two amounts, of which either may be missing
+abbrev pub greater : Option ℕ → Option ℕ → Option ℕ
+greater None b = b
+greater (Some a) None = Some a
+greater (Some a) (Some b) = Some (max a b)
+
+-- the greatest amount that the members of a list give, where one gives any
+abbrev pub greatest_of : {A : Type 0} → (A → Option ℕ) → List A → Option ℕ
+greatest_of amount [] = None
+greatest_of amount (one ∷ rest) = greater (amount one) (greatest_of amount rest)
+
+-- the first answer that is given in a list of answers
+abbrev pub first_given : {A : Type 0} → List (Option A) → Option A
+first_given [] = None
+first_given (one ∷ rest) = option_or one (first_given rest)

@@ -1,0 +1,17 @@
+//! The rule book: every rule of fare construction that more than one crate cites, as definitions in `specs/`, and the
+//! plain data that the rules speak of. It computes nothing itself; its public functions are the laws of the rules.
+#![tactic(auto)]
+
+mod amount;
+mod broken;
+mod laws;
+mod miles;
+mod part;
+mod unit_sheet;
+
+pub use amount::Amount;
+pub use broken::Broken;
+pub use laws::{best_is_one, order_is_total};
+pub use miles::{Mileage, Miles};
+pub use part::Part;
+pub use unit_sheet::{UnitKind, UnitSheet};

@@ -1,0 +1,4 @@
+pub mod Tests
+pub mod Scans
+pub mod Faults
+pub mod Validity

@@ -1,0 +1,8 @@
+//! The check of a list of records: the kinds of a record, each as its own test, and the first fault.
+
+mod keys;
+mod kind;
+mod names;
+mod numbers;
+
+pub(crate) use kind::first_fault;

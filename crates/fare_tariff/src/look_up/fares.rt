@@ -1,0 +1,144 @@
+//! Fares, by their record numbers and their keys.
+
+ghost use Rattle.std.specs.Prelude.{◌≡◌, ◌-◌, ◌<◌, ◌≤◌, length, nat_le, IfSome, option_map, option_and_then, position, slice_get, if◌then◌else◌, None};
+ghost use Rattle.std.specs.Option.{option_copied};
+ghost use Rattle.fare_tariff.specs.Lookup.{fare_in, has_key, is_fare_on, is_fare_between, number_at, numbers_from, fare_number, fare_at, nth_fare};
+
+use crate::edition::Edition;
+use crate::fare_key::FareKey;
+use crate::fare_record::FareRec;
+use crate::record::Record;
+use crate::same::{
+    same_cabins, same_carriers, same_cities, same_indicators, same_kinds, same_rules,
+};
+use fare_codes::{City, Indicator, MonthDay};
+
+impl Edition {
+    /// The record number of the fare with this key whose season holds a day; nothing means that no record has the key
+    /// on that day.
+    pub fn fare(&self, key: &FareKey, on: MonthDay) -> Option<u32>
+        ensures { result ≡ fare_number self.now key.now on }
+    {
+        fare_number(self.records(), key, on)
+    }
+
+    /// The fare that the record of a number files; nothing where it files none.
+    pub fn fare_at(&self, number: u32) -> Option<&FareRec>
+        ensures { option_copied result ≡ fare_at self.now number }
+    {
+        fare_record(self.records(), number)
+    }
+
+    /// The record number of the `k`-th fare, from 0 and in the order of the records, from a city to another for an
+    /// indicator.
+    pub fn nth_fare(&self, from: City, to: City, ind: Indicator, k: u32) -> Option<u32>
+        ensures { result ≡ nth_fare self.now from to ind k }
+    {
+        nth_fare_number(self.records(), from, to, ind, k)
+    }
+}
+
+/// The fare that a record files, if any.
+fn fare_in(one: &Record) -> Option<&FareRec>
+    ensures { option_copied result ≡ fare_in one.now }
+{
+    match one {
+        Record::Fare(filed) => Some(filed),
+        _ => None,
+    }
+}
+
+/// The fare that the record of a number files.
+fn fare_record(records: &[Record], number: u32) -> Option<&FareRec>
+    ensures { option_copied result ≡ (if nat_le 2 number then option_and_then fare_in (slice_get records.now (number - 2)) else None) }
+{
+    if number < 2 {
+        return None;
+    }
+    match records.get(number as usize - 2) {
+        None => None,
+        Some(one) => fare_in(one),
+    }
+}
+
+/// Whether a fare has a key.
+pub(crate) fn has_key(key: &FareKey, fare: &FareRec) -> bool
+    ensures { result ≡ has_key key.now fare.now }
+{
+    same_cities(fare.from, key.from)
+        && same_cities(fare.to, key.to)
+        && same_indicators(fare.ind, key.ind)
+        && same_carriers(fare.carrier, key.carrier)
+        && same_cabins(fare.class, key.class)
+        && same_kinds(fare.kind, key.kind)
+        && same_rules(&fare.rule, &key.rule)
+}
+
+/// Whether a record files a fare that has a key and whose season holds a day.
+fn is_fare_on(key: &FareKey, on: MonthDay, one: &Record) -> bool
+    ensures { result ≡ is_fare_on key.now on one.now }
+{
+    match one {
+        Record::Fare(filed) => has_key(key, filed) && filed.season.holds(on),
+        _ => false,
+    }
+}
+
+/// The place of the first fare that has a key and whose season holds a day.
+fn fare_place(records: &[Record], key: &FareKey, on: MonthDay) -> Option<usize>
+    ensures place { result ≡ position (is_fare_on key.now on) records.now }
+    ensures within { IfSome result (λ place. place < length records.now) }
+{
+    records.iter().position(|one| is_fare_on(key, on, one))
+}
+
+/// The record number of the record at a place.
+pub(crate) fn number_at(place: Option<usize>) -> Option<u32>
+    requires { IfSome place (λ at. at < 400_000) }
+    ensures { result ≡ option_map number_at place }
+{
+    match place {
+        Some(at) => Some(at as u32 + 2),
+        None => None,
+    }
+}
+
+/// The record number of the fare with a key whose season holds a day.
+fn fare_number(records: &[Record], key: &FareKey, on: MonthDay) -> Option<u32>
+    requires { length records.now ≤ 400_000 }
+    ensures { result ≡ option_map number_at (position (is_fare_on key.now on) records.now) }
+{
+    number_at(fare_place(records, key, on))
+}
+
+/// Whether a record files a fare from a city to another for an indicator.
+pub(crate) fn is_fare_between(from: City, to: City, ind: Indicator, one: &Record) -> bool
+    ensures { result ≡ is_fare_between from to ind one.now }
+{
+    match one {
+        Record::Fare(filed) => {
+            same_cities(filed.from, from)
+                && same_cities(filed.to, to)
+                && same_indicators(filed.ind, ind)
+        }
+        _ => false,
+    }
+}
+
+/// The record number of the `k`-th fare, from 0, of a city, another and an indicator.
+#[tactic(auto, using(crate::proofs::Scans::numbers_from_more, crate::proofs::Scans::numbers_from_all))]
+fn nth_fare_number(records: &[Record], from: City, to: City, ind: Indicator, k: u32) -> Option<u32>
+    requires { length records.now ≤ 400_000 }
+    ensures { result ≡ slice_get (numbers_from (is_fare_between from to ind) 2 records.now) k }
+{
+    let mut left = k;
+    for (place, one) in records.iter().enumerate() {
+        if is_fare_between(from, to, ind, one) {
+            if left == 0 {
+                return Some(place as u32 + 2);
+            }
+            left -= 1;
+        }
+    }
+    None
+}

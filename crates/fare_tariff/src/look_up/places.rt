@@ -1,0 +1,86 @@
+//! Cities and the currencies of countries.
+
+ghost use Rattle.std.specs.Prelude.{◌≡◌};
+ghost use Rattle.std.specs.Option.{option_copied};
+ghost use Rattle.fare_tariff.specs.Lookup.{first_some, city_in, currency_in, city_record, currency_of};
+
+use crate::city_record::CityRec;
+use crate::currency_record::CurRec;
+use crate::edition::Edition;
+use crate::record::Record;
+use crate::same::{same_cities, same_countries};
+use fare_codes::{City, Country};
+
+impl Edition {
+    /// The record of a city; nothing means that no record has it as its key.
+    pub fn city(&self, c: City) -> Option<&CityRec>
+        ensures { option_copied result ≡ city_record self.now c }
+    {
+        city_record(self.records(), c)
+    }
+
+    /// The record of a country's currency; nothing means that no record has the country as its key.
+    pub fn currency_of(&self, c: Country) -> Option<&CurRec>
+        ensures { option_copied result ≡ currency_of self.now c }
+    {
+        currency_record(self.records(), c)
+    }
+}
+
+/// The city that a record files, where it is this one.
+pub(crate) fn city_in(city: City, one: &Record) -> Option<&CityRec>
+    ensures { option_copied result ≡ city_in city one.now }
+{
+    match one {
+        Record::City(filed) => {
+            if same_cities(filed.code, city) {
+                Some(filed)
+            } else {
+                None
+            }
+        }
+        _ => None,
+    }
+}
+
+/// The record of a city.
+#[tactic(auto, using(crate::proofs::Scans::first_some_more, crate::proofs::Scans::first_some_all))]
+pub(crate) fn city_record(records: &[Record], city: City) -> Option<&CityRec>
+    ensures { option_copied result ≡ first_some (city_in city) records.now }
+{
+    for one in records {
+        if let Some(filed) = city_in(city, one) {
+            return Some(filed);
+        }
+    }
+    None
+}
+
+/// The currency that a record files, where it is that of this country.
+pub(crate) fn currency_in(country: Country, one: &Record) -> Option<&CurRec>
+    ensures { option_copied result ≡ currency_in country one.now }
+{
+    match one {
+        Record::Cur(filed) => {
+            if same_countries(filed.country, country) {
+                Some(filed)
+            } else {
+                None
+            }
+        }
+        _ => None,
+    }
+}
+
+/// The currency of a country.
+#[tactic(auto, using(crate::proofs::Scans::first_some_more, crate::proofs::Scans::first_some_all))]
+pub(crate) fn currency_record(records: &[Record], country: Country) -> Option<&CurRec>
+    ensures { option_copied result ≡ first_some (currency_in country) records.now }
+{
+    for one in records {
+        if let Some(filed) = currency_in(country, one) {
+            return Some(filed);
+        }
+    }
+    None
+}

@@ -1,0 +1,3 @@
+pub mod TripLemmas
+pub mod PieceLemmas
+pub mod JsonLemmas
