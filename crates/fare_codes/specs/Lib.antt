@@ -5,3 +5,4 @@ pub mod Numbers
 pub mod Over
 pub mod Season
 pub mod Words
+pub use Rattle.jiff_core.specs.Calendar

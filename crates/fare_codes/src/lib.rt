@@ -1,5 +1,13 @@
 //! The codes of fare construction: places, carriers, rules, days, amounts and the small enums, each with the one text
 //! that stands for it. A contract sees a code as its text, and an amount as its number of hundredths.
+//!
+//! - Letters and digits: `City`, `Country`, `Currency`, `Carrier` and `RuleId`.
+//! - Words: `Area`, `Indicator`, `Over`, `Cabin`, `Kind` and `Mode`.
+//! - Days: `Day`, `MonthDay` and `Season`.
+//! - Numbers: `Nuc`, and the plain numbers and rates that records write.
+//! - Amounts: `surcharged` and `convert`.
+//!
+//! Each `read` answers the one value whose text the bytes are, or nothing; each `text` writes it. No call takes memory.
 #![tactic(auto)]
 
 mod amounts;
@@ -21,6 +29,8 @@ mod numbers;
 mod over;
 mod rule_id;
 mod season;
+#[cfg(test)]
+mod tests;
 mod texts;
 
 pub use amounts::{convert, surcharged};

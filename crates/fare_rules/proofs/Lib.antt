@@ -10,3 +10,11 @@ pub mod OrderLemmas
 pub mod LawfulLemmas
 pub mod CoverLemmas
 pub mod BestLemmas
+pub mod ReferenceLemmas
+pub mod CircleLemmas
+pub mod AmountLemmas
+pub mod MemberLemmas
+pub mod FirstPartLemmas
+pub mod RuleLemmas
+pub mod OneSectorLemmas
+pub mod CheapestLemmas

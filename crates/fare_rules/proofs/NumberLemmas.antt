@@ -1,5 +1,5 @@
 -- Ranges of numbers one step at a time, and what a search over one says of each of its members.
-use Rattle.std.proofs.Common.{◌≡◌, ℕ, zero, suc, ◌+◌, ◌-◌, ◌<◌, ◌≤◌, Bool, true, false, cond, ◌&&◌, ◌||◌, [], ◌∷◌, ◌++◌, ap, sym, subst, ◌∙◌, arith, inl, inr}
+use Rattle.std.proofs.Common.{◌≡◌, refl, ℕ, zero, suc, ◌+◌, ◌-◌, ◌<◌, ◌≤◌, Bool, true, false, cond, ◌&&◌, ◌||◌, [], ◌∷◌, ◌++◌, ap, sym, subst, ◌∙◌, arith, inl, inr}
 use Rattle.std.specs.Prelude.{Option, Some, None, find, filter, sum_by}
 use Rattle.std.specs.List.{range_with_len, list_any, list_all}
 use Rattle.std.proofs.lemmas.Bool.{cases_Bool, cases_eq}
@@ -86,3 +86,32 @@ found_none test first (suc n) e k low high =
 
 pub find_none : (test : ℕ → Bool) (first past : ℕ) → find test (numbers first past) ≡ None → (k : ℕ) → first ≤ k → k < past → test k ≡ false
 find_none test first past e k low high = found_none test first (past - first) e k low (omega arith)
+
+true_false : true ≡ false → ⊥
+true_false e = cc
+
+neither_true : (a b : Bool) → (a || b) ≡ false → (a ≡ false) × (b ≡ false)
+neither_true false b e = (refl, e)
+neither_true true b e = absurd (true_false e)
+
+rest_none : (p test : ℕ → Bool) (first n : ℕ) → list_any test (filter p (range_with_len first (suc n))) ≡ false → list_any test (filter p (range_with_len (first + 1) n)) ≡ false
+rest_none p test first n e =
+    elim (cases_Bool (p first)) [
+      | inl t ↦ (neither_true (test first) (list_any test (filter p (range_with_len (first + 1) n))) (rw t at e)).1
+      | inr f ↦ rw f at e
+    ]
+
+-- where no member of a range that passes one test passes another, each member that passes the first fails the other
+kept_none : (p test : ℕ → Bool) (first n : ℕ) → list_any test (filter p (range_with_len first n)) ≡ false → (k : ℕ) → first ≤ k → k < first + n → p k ≡ true → test k ≡ false
+kept_none p test first zero e k low high h = absurd (omega arith)
+kept_none p test first (suc n) e k low high h =
+    elim (cases_eq k first) [
+      | inl same ↦
+          let here : p first ≡ true = subst (λ i. p i ≡ true) same h in
+          let parts = neither_true (test first) (list_any test (filter p (range_with_len (first + 1) n))) (rw here at e) in
+          subst (λ i. test i ≡ false) (sym same) parts.0
+      | inr other ↦ kept_none p test (first + 1) n (rest_none p test first n e) k (omega arith) (omega arith) h
+    ]
+
+pub any_kept_none : (p test : ℕ → Bool) (first past : ℕ) → list_any test (filter p (numbers first past)) ≡ false → (k : ℕ) → first ≤ k → k < past → p k ≡ true → test k ≡ false
+any_kept_none p test first past e k low high h = kept_none p test first (past - first) e k low (omega arith) h

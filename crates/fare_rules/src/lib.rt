@@ -11,7 +11,10 @@ mod unit_sheet;
 
 pub use amount::Amount;
 pub use broken::Broken;
-pub use laws::{best_is_one, order_is_total};
+pub use laws::{
+    best_is_one, best_of_one_sector, circle_minimum_takes_each_end, first_part_is_a_choice,
+    lawful_in_words, no_reference_to_itself, order_is_total, parts_have_amounts,
+};
 pub use miles::{Mileage, Miles};
 pub use part::Part;
 pub use unit_sheet::{UnitKind, UnitSheet};

@@ -1,3 +1,4 @@
 pub mod TripLemmas
 pub mod PieceLemmas
 pub mod JsonLemmas
+pub mod WrittenLemmas

@@ -12,3 +12,4 @@ pub mod Steps
 pub mod ShortLine
 pub mod FaultText
 pub mod ItineraryText
+pub mod Written

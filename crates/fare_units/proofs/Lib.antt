@@ -1,0 +1,5 @@
+pub mod Ranges
+pub mod OwnLemmas
+pub mod OrderLemmas
+pub mod SameLemmas
+pub mod ShapeLemmas

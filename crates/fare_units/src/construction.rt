@@ -1,0 +1,67 @@
+ghost use Rattle.std.specs.Prelude.{◌≡◌, ◌≤◌, ◌<◌, ◌++◌, ◌∷◌, [], ◌↔◌, List, IsOk, IfErr, OnOk, OnErr, length, take};
+
+use fare_rules::Part;
+use std::marker::Model;
+
+/// How many parts a construction holds at most: one for each sector of a trip.
+const MOST: usize = 16;
+
+/// What stands in the room that no part takes.
+const BLANK: Part = Part {
+    end: 0,
+    unit: 0,
+    fare: 0,
+};
+
+/// A construction: a list of at most 16 parts. It takes no memory.
+#[derive(Drop)]
+pub struct Construction {
+    parts: [Part; 16],
+    count: usize,
+}
+
+impl Model for Construction {
+    ghost use Rattle.std.specs.Prelude.{◌≤◌, List, take};
+    ghost use Rattle.fare_rules.specs.declared.part.Part.{Part};
+
+    ghost Value = { List Part };
+
+    ghost view = { λ c. take c.count c.parts };
+
+    ghost invariant = { λ c. c.count ≤ 16 };
+}
+
+impl Construction {
+    /// A construction without parts.
+    pub fn new() -> Construction
+        ensures { result ≡ [] }
+    {
+        Construction {
+            parts: [BLANK; MOST],
+            count: 0,
+        }
+    }
+
+    /// Puts a part at the end, or hands it back exactly where 16 are held; then nothing changes.
+    pub fn try_push(&mut self, p: Part) -> Result<(), Part>
+        ensures room { IsOk result ↔ (length self.old < 16) }
+        ensures pushed { OnOk result (self.new ≡ self.old ++ p ∷ []) }
+        ensures unchanged { OnErr result (self.new ≡ self.old) }
+        ensures handed_back { IfErr result (λ part. part ≡ p) }
+    {
+        if self.count == MOST {
+            return Err(p);
+        }
+        self.parts[self.count] = p;
+        self.count += 1;
+        Ok(())
+    }
+
+    /// Its parts, in the order of travel.
+    pub fn parts(&self) -> &[Part]
+        ensures parts { result.now ≡ self.now }
+        ensures few { length result.now ≤ 16 }
+    {
+        &self.parts[..self.count]
+    }
+}

@@ -1,0 +1,23 @@
+//! Constructions and their pricing units: whether a list of parts is lawful and what it costs, which of two constructions
+//! is before the other, and the best one of a trip, found by enumerating all.
+#![tactic(auto)]
+
+mod combine;
+mod construction;
+mod cover;
+mod crossing;
+mod direction;
+mod fares;
+mod order;
+mod own;
+mod places;
+mod same;
+mod shape;
+mod spans;
+mod stays;
+mod unit_rules;
+
+pub use construction::Construction;
+pub use direction::priced_back;
+pub use fare_rules::{Broken, Part, UnitKind, UnitSheet};
+pub use order::earlier;
