@@ -3,7 +3,10 @@
 #![tactic(auto)]
 
 mod exit;
+mod input;
 mod price;
+mod quotation;
+mod quote;
 mod run;
 mod words;
 

@@ -4,7 +4,8 @@ ghost use Rattle.std.specs.Io.KnownBytes.{Appends};
 ghost use Rattle.fare_outside.specs.Cause.{Rose};
 ghost use Rattle.fare_outside.specs.Sink.{AppendsPrefix};
 ghost use Rattle.fares.specs.Words.{is_price};
-ghost use Rattle.fares.specs.Outcome.{IsOutcome, EndsIn, IsSilent, WritesNothing};
+ghost use Rattle.fares.specs.Outcome.{IsOutcome};
+ghost use Rattle.fares.specs.Run.{EndsIn, IsSilent, WritesNothing};
 
 use crate::exit::Exit;
 use crate::price::{PRICE_LIMIT, price};
