@@ -15,7 +15,7 @@ use Rattle.fare_csv.specs.Rows.{Fields, rows_from, rows_of}
 use Rattle.fare_csv.proofs.Streaming.{rows_from-end, rows_from-more, rows_of-from}
 
 -- both of two tests
-both : (a b : Bool) → (a && b) ≡ true → (a ≡ true) × (b ≡ true)
+pub both : (a b : Bool) → (a && b) ≡ true → (a ≡ true) × (b ≡ true)
 both true b e = (refl, e)
 both false b e = absurd (false≢true e)
 

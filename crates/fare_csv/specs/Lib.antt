@@ -8,6 +8,8 @@ pub mod Head
 pub mod RecordKind
 pub mod RecordText
 pub mod CheckedFault
+pub mod FaultText
 pub mod TariffText
 pub mod Filed
 pub mod NameList
+pub mod CanonicalText

@@ -1,7 +1,9 @@
 //! The text of a tariff: reads it as an edition, and writes an edition as its one canonical text.
 #![tactic(auto)]
 
+mod canonical;
 mod edition;
+mod fault_text;
 mod head;
 mod lines;
 mod name_list;
@@ -14,6 +16,9 @@ mod record_kind;
 mod rows;
 mod text_fault;
 mod version;
+mod write_names;
+mod write_record;
 
+pub use canonical::edition_text;
 pub use edition::read_edition;
 pub use text_fault::TextFault;
