@@ -1,8 +1,9 @@
 //! The source of `price`: an itinerary on its first line, and a tariff text behind it.
 
-ghost use Rattle.std.specs.Prelude.{◌≡◌, nat_eq, codes};
+ghost use Rattle.std.specs.Prelude.{◌≡◌, ◌+◌, ◌≤◌, length, drop};
+ghost use Rattle.std.specs.List.{position_or_len};
 ghost use Rattle.fares.specs.declared.exit.Exit.TheVariants.{BadTariff, BadTrip};
-ghost use Rattle.fares.specs.Input.{itinerary_text, tariff_text, itinerary_of};
+ghost use Rattle.fares.specs.Input.{is_line_feed, itinerary_text, tariff_text, itinerary_of};
 ghost use Rattle.fares.specs.Run.{Reads};
 ghost use Rattle.fare_csv.specs.TariffText.{edition_of};
 
@@ -13,15 +14,35 @@ use fare_trip::{Trip, TripFault, read_short, read_trip};
 use std::alloc::Global;
 use std::thread::Threads;
 
+/// Where the first LF stands; the length where there is none.
+#[tactic(auto, using(std::proofs::lemmas::List::Sums::position_or_len_is))]
+fn line_end(source: &[u8]) -> usize
+    ensures place { result ≡ position_or_len is_line_feed source.now }
+    ensures within { result ≤ length source.now }
+{
+    for (i, byte) in source.iter().enumerate() {
+        if *byte == b'\n' {
+            return i;
+        }
+    }
+    source.len()
+}
+
 /// The bytes before the first LF, and those behind it.
 pub fn split_source(source: &[u8]) -> (&[u8], &[u8])
     ensures itinerary { result.0.now ≡ itinerary_text source.now }
     ensures tariff { result.1.now ≡ tariff_text source.now }
 {
-    match source.iter().position(|byte| *byte == b'\n') {
-        Some(end) => (&source[..end], &source[end + 1..]),
-        None => (source, &[]),
-    }
+    let end = line_end(source);
+    (&source[..end], behind(source, end))
+}
+
+/// What stands behind a place of a text.
+fn behind(text: &[u8], place: usize) -> &[u8]
+    requires { place ≤ length text.now }
+    ensures { result.now ≡ drop (place + 1) text.now }
+{
+    if place == text.len() { &[] } else { &text[place + 1..] }
 }
 
 /// The edition of a tariff text.
