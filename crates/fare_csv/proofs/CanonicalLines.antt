@@ -1,5 +1,5 @@
 -- The lines of records, one record further.
-use Rattle.std.proofs.Common.{◌≡◌, ◌<◌, ◌+◌, ℕ, List, [], ◌∷◌, ◌++◌, length, take, get_or, refl, sym, ap, ◌∙◌, arith, map, append_assoc}
+use Rattle.std.proofs.Common.{◌≡◌, ◌<◌, ◌+◌, ℕ, List, [], ◌∷◌, ◌++◌, length, take, get_or, refl, sym, ap, ◌∙◌, map, append_assoc}
 use Rattle.std.proofs.lemmas.List.{append-nil, map-append, take_more}
 use Rattle.fare_tariff.specs.declared.record.Record.{Record}
 use Rattle.fare_tariff.specs.Tariff.{Tariff}

@@ -1,12 +1,12 @@
 -- The text of names, one name further.
-use Rattle.std.proofs.Common.{◌≡◌, ◌<◌, ◌+◌, ℕ, zero, suc, List, [], ◌∷◌, ◌++◌, length, take, get_or, Bool, true, false, Option, refl, sym, ap, ◌∙◌, arith, map, append_assoc, length-take-le, if◌then◌else◌}
-use Rattle.std.specs.Prelude.{◌==◌, ◌&&◌}
-use Rattle.std.specs.List.{join_with_byte, list_all}
+use Rattle.std.proofs.Common.{◌≡◌, ◌<◌, ◌+◌, ℕ, zero, suc, List, [], ◌∷◌, ◌++◌, length, take, get_or, true, false, Option, refl, sym, ap, ◌∙◌, arith, map, append_assoc, length-take-le, if◌then◌else◌}
+use Rattle.std.specs.Prelude.{◌==◌}
+use Rattle.std.specs.List.{join_with_byte}
 use Rattle.std.proofs.lemmas.Bool.{ne_eqb}
 use Rattle.std.proofs.lemmas.List.{map-append, take_more}
 use Rattle.std.proofs.lemmas.List.Folds.{list_all-append}
 use Rattle.fare_csv.specs.CanonicalText.{name_text}
-use Rattle.fare_csv.specs.Lines.{is_plain_byte, is_plain_field}
+use Rattle.fare_csv.specs.Lines.{is_plain_field}
 
 -- one more piece behind some
 join-behind : (c : ℕ) (first : List ℕ) (pieces : List (List ℕ)) (piece : List ℕ)

@@ -13,3 +13,5 @@ pub mod TariffText
 pub mod Filed
 pub mod NameList
 pub mod CanonicalText
+pub use Rattle.fare_tariff.specs.Tariff
+pub use Rattle.fare_tariff.specs.Check

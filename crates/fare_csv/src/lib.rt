@@ -14,6 +14,8 @@ mod read_rule;
 mod read_text;
 mod record_kind;
 mod rows;
+#[cfg(test)]
+mod tests;
 mod text_fault;
 mod version;
 mod write_names;

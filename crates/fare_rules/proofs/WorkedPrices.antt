@@ -35,8 +35,8 @@ use Rattle.jiff_core.specs.Calendar.{days_of_months}
 use Rattle.fare_rules.specs.Order.{is_before, compare_parts}
 use Rattle.fare_rules.proofs.Filed.{city, part}
 use Rattle.fare_rules.proofs.Cases.{Case, case, found, expected, priced}
-use Rattle.fare_rules.proofs.Editions.{through_fare, beside_paris, pacific_circle, round_the_world, end_on_end, side_trip, paris_and_lyon, summer_and_winter}
-use Rattle.fare_rules.proofs.Trips.{stopping_in_paris, changing_in_paris, straight_to_rome, paris_twice, by_the_pacific, on_two_carriers, back_from_lyon}
+use Rattle.fare_rules.proofs.Editions.{through_fare, beside_paris, pacific_circle, round_the_world, end_on_end, side_trip, paris_and_lyon, inside_a_country, summer_and_winter}
+use Rattle.fare_rules.proofs.Trips.{stopping_in_paris, changing_in_paris, straight_to_rome, paris_twice, by_the_pacific, on_two_carriers, back_from_lyon, manchester_and_back}
 
 -- the through fare with 700 miles from Paris
 abbrev plain : Tariff
@@ -67,6 +67,8 @@ lawful_constructions =
     ∷ case round_the_world on_two_carriers (part 2 1 12 ∷ part 5 1 13 ∷ []) (priced 280_000)
     -- an open jaw between Paris and Lyon
     ∷ case (paris_and_lyon (city "LYS" "FR" Two)) back_from_lyon (part 1 1 9 ∷ part 3 1 10 ∷ []) (priced 19_000)
+    -- a round trip inside one country, whose last part goes back
+    ∷ case inside_a_country manchester_and_back (part 1 1 4 ∷ part 2 1 4 ∷ []) (priced 12_000)
     -- a fare of the summer
     ∷ case summer_and_winter (straight_to_rome "2025-04-10") (part 1 1 4 ∷ []) (priced 40_000)
     -- the winter lasts to 31 March

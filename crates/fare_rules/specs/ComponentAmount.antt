@@ -27,7 +27,7 @@ use Rattle.fare_rules.specs.Base.{base}
 abbrev pub is_same_city : Itinerary → ℕ → ℕ → Bool
 is_same_city trip i j = bytes_eq (point trip i) (point trip j)
 
--- a point is the city of an earlier point of a span that begins at another
+-- a point of a span that begins at a point a is the city of an earlier point of it
 abbrev pub is_repeated : Itinerary → ℕ → ℕ → Bool
 is_repeated trip a i = list_any (is_same_city trip i) (numbers a i)
 

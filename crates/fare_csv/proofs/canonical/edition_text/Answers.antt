@@ -1,4 +1,4 @@
-use Rattle.std.proofs.Common.{◌≡◌, arith, sym, take}
+use Rattle.std.proofs.Common.{◌≡◌, arith, take}
 use Rattle.std.proofs.lemmas.List.{take_all}
 use Rattle.fare_csv.proofs.CanonicalLines.{lines-start, lines-step, lines-whole}
 use Rattle.fare_csv.proofs.canonical.edition_text.Goals as goal

@@ -1,4 +1,4 @@
-use Rattle.std.proofs.Common.{arith, refl}
+use Rattle.std.proofs.Common.{refl}
 use Rattle.fare_csv.specs.Lines.{is_plain_row}
 use Rattle.fare_csv.proofs.PlainFields.{area-plain, city-plain, country-plain}
 use Rattle.fare_csv.proofs.write_record.write_city.Goals as goal
