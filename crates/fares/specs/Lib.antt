@@ -1,4 +1,5 @@
 pub mod Exit
+pub mod FaultText
 pub mod Words
 pub mod Input
 pub mod Quotation

@@ -43,7 +43,7 @@ IsPlacedQuoted tariff trip answer =
 unfoldable pub IsQuoted : Tariff → Itinerary → Answer → Type 0
 IsQuoted tariff trip answer =
     MatchBool (nat_lt (day_number trip.sale) (day_number tariff.effective))
-      (answer ≡ Err (ended.NoEdition trip.sale)) (IsPlacedQuoted tariff trip answer)
+    (answer ≡ Err (ended.NoEdition trip.sale)) (IsPlacedQuoted tariff trip answer)
 
 -- the answer to an itinerary in one edition
 abbrev pub IsTripQuoted : Result Itinerary TripFault → Tariff → Answer → Type 0
@@ -54,8 +54,8 @@ IsTripQuoted itinerary tariff answer =
 unfoldable pub IsPriced : List ℕ → Answer → Type 0
 IsPriced source answer =
     MatchResult (edition_of (tariff_text source))
-      (λ tariff. IsTripQuoted (itinerary_of (itinerary_text source)) tariff answer)
-      (λ fault. answer ≡ Err (ended.BadTariff fault))
+    (λ tariff. IsTripQuoted (itinerary_of (itinerary_text source)) tariff answer)
+    (λ fault. answer ≡ Err (ended.BadTariff fault))
 
 -- the most bytes that the source of `price` may hold
 abbrev pub price_limit : ℕ

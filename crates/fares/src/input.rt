@@ -42,7 +42,11 @@ fn behind(text: &[u8], place: usize) -> &[u8]
     requires { place ≤ length text.now }
     ensures { result.now ≡ drop (place + 1) text.now }
 {
-    if place == text.len() { &[] } else { &text[place + 1..] }
+    if place == text.len() {
+        &[]
+    } else {
+        &text[place + 1..]
+    }
 }
 
 /// The edition of a tariff text.

@@ -3,17 +3,21 @@
 #![tactic(auto)]
 
 mod exit;
+mod fault_line;
 mod input;
 mod price;
 mod quotation;
 mod quote;
 mod run;
+#[cfg(test)]
+mod tests;
 mod words;
 
 use crate::exit::Exit;
+use crate::fault_line::fault_text;
 use crate::run::run;
-use fare_outside::{Bodies, OpenGate, PlainDoor, PlainKeeper, StdSink, StdSource};
-use std::io::ErrorKind;
+use fare_outside::{Bodies, NoMemory, OpenGate, PlainDoor, PlainKeeper, StdSink, StdSource};
+use std::io::{ErrorKind, Write};
 use std::process::ExitCode;
 use std::{env, io};
 
@@ -24,7 +28,16 @@ fn main(rt: HostRuntime) -> ExitCode {
     let mut store = PlainKeeper::new(Bodies::new(alloc));
     let mut door = PlainDoor::new();
     let exit = match words_after_the_first(&rt) {
-        Ok(words) => run(&rt, alloc, words.as_slice(), &mut source, &mut sink, &mut store, &mut door, &OpenGate),
+        Ok(words) => run(
+            &rt,
+            alloc,
+            words.as_slice(),
+            &mut source,
+            &mut sink,
+            &mut store,
+            &mut door,
+            &OpenGate,
+        ),
         Err(exit) => exit,
     };
     if exit.status() != 0 {
@@ -49,7 +62,11 @@ fn exit_of(error: io::Error) -> Exit {
     }
 }
 
-/// Prints why the program ends on standard error; where that fails too, nothing more can be done.
+/// Prints on standard error why the program ends. Where that fails too, nothing more can be done.
 fn tell(rt: &HostRuntime, exit: &Exit) {
-    let _ = eprintln!(rt; "{}", exit.status());
+    let mut standard_error = rt.stderr();
+    let _ = match fault_text(rt.alloc(), exit) {
+        Ok(line) => standard_error.write_all(line.as_slice()),
+        Err(NoMemory) => standard_error.write_all(b"NO MEMORY\n"),
+    };
 }

@@ -16,7 +16,12 @@ use std::thread::Threads;
 /// none is lawful. `NoEdition` comes exactly where the edition isn't effective by the sale day, and then `UnknownPlace`
 /// exactly where the edition doesn't know a point, with the first such.
 #[tactic(auto, unfolding(crate::specs::Outcome::IsQuoted))]
-pub fn quote<R: Threads + Sync>(rt: &R, alloc: Global, edition: &Edition, trip: &Trip) -> Result<Vec<u8>, Exit>
+pub fn quote<R: Threads + Sync>(
+    rt: &R,
+    alloc: Global,
+    edition: &Edition,
+    trip: &Trip,
+) -> Result<Vec<u8>, Exit>
     ensures { Answers (IsQuoted edition.now trip.now) result }
 {
     let sale = trip.sale();
@@ -31,7 +36,12 @@ pub fn quote<R: Threads + Sync>(rt: &R, alloc: Global, edition: &Edition, trip: 
 }
 
 /// The price of the best construction.
-fn best_total<R: Threads + Sync>(rt: &R, alloc: Global, edition: &Edition, trip: &Trip) -> Result<Option<Nuc>, NoMemory>
+fn best_total<R: Threads + Sync>(
+    rt: &R,
+    alloc: Global,
+    edition: &Edition,
+    trip: &Trip,
+) -> Result<Option<Nuc>, NoMemory>
     ensures { IfOk result (λ total. IsBestTotal edition.now trip.now total) }
 {
     Err(NoMemory)
