@@ -1,9 +1,9 @@
 -- Completions of a list of parts, and the first parts that a construction can have.
-use Rattle.std.specs.Prelude.{◌≡◌, ℕ, ◌+◌, Bool, false, List, ◌++◌, map, reverse, filter, flat_map, length, is_some}
+use Rattle.std.specs.Prelude.{◌≡◌, ℕ, ◌+◌, Bool, false, List, ◌++◌, map, filter, flat_map, length, is_some}
 use Rattle.fare_trip.specs.Itinerary.{Itinerary, count}
 use Rattle.fare_tariff.specs.Tariff.{Tariff}
 use Rattle.fare_rules.specs.declared.part.Part.{Part}
-use Rattle.fare_rules.specs.Numbers.{numbers}
+use Rattle.fare_rules.specs.Numbers.{numbers, numbers_down}
 use Rattle.fare_rules.specs.ComponentAmount.{component_amount}
 use Rattle.fare_rules.specs.Best.{IsLawful}
 
@@ -34,4 +34,4 @@ choices_to tariff trip end = map (choice end) (filter (may_begin tariff trip end
 
 -- the first-part choices: each end with each fare that may be used up to there, by greater end and then by record number
 unfoldable pub first_part_choices : Tariff → Itinerary → List Choice
-first_part_choices tariff trip = flat_map (choices_to tariff trip) (reverse (numbers 1 (count trip + 1)))
+first_part_choices tariff trip = flat_map (choices_to tariff trip) (numbers_down (count trip))

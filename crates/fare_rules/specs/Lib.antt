@@ -24,3 +24,4 @@ pub mod Order
 pub mod Best
 pub mod Completion
 pub mod FirstK
+pub mod Valid

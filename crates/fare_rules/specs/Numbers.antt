@@ -1,11 +1,16 @@
 -- Ranges of numbers, and what is looked for among them.
-use Rattle.std.specs.Prelude.{ℕ, ◌-◌, List, [], ◌∷◌, Option, Some, None, max}
+use Rattle.std.specs.Prelude.{ℕ, zero, suc, ◌-◌, List, [], ◌∷◌, Option, Some, None, max}
 use Rattle.std.specs.List.{range_with_len}
 use Rattle.std.specs.Option.{option_or}
 
 -- the numbers from a first one on and below another
 abbrev pub numbers : ℕ → ℕ → List ℕ
 numbers first past = range_with_len first (past - first)
+
+-- the numbers from one down to 1
+abbrev pub numbers_down : ℕ → List ℕ
+numbers_down zero = []
+numbers_down (suc n) = suc n ∷ numbers_down n
 
 -- the greater of two amounts, of which either may be missing
 abbrev pub greater : Option ℕ → Option ℕ → Option ℕ

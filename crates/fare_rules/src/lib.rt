@@ -4,12 +4,17 @@
 
 mod amount;
 mod broken;
+mod laws;
 mod miles;
 mod part;
 mod unit_sheet;
 
 pub use amount::Amount;
 pub use broken::Broken;
+pub use laws::{
+    best_is_one, circle_minimum_takes_each_end, first_part_is_a_choice, no_reference_to_itself,
+    order_is_total, parts_have_amounts,
+};
 pub use miles::{Mileage, Miles};
 pub use part::Part;
 pub use unit_sheet::{UnitKind, UnitSheet};

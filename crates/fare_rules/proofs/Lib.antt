@@ -1,0 +1,17 @@
+pub mod Filed
+pub mod Editions
+pub mod Trips
+pub mod Cases
+pub mod WorkedMiles
+pub mod WorkedPrices
+pub mod BrokenRules
+pub mod NumberLemmas
+pub mod OrderLemmas
+pub mod LawfulLemmas
+pub mod CoverLemmas
+pub mod BestLemmas
+pub mod ReferenceLemmas
+pub mod CircleLemmas
+pub mod AmountLemmas
+pub mod MemberLemmas
+pub mod FirstPartLemmas
