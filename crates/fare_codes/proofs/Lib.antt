@@ -1,6 +1,9 @@
+pub mod AmountLemmas
 pub mod DayExamples
 pub mod DayLemmas
 pub mod DayTextLemmas
+pub mod DecimalLemmas
 pub mod MonthDayLemmas
+pub mod NumberLemmas
 pub mod SeasonLemmas
 pub mod TextLemmas

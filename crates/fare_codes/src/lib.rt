@@ -1,7 +1,16 @@
 //! The codes of fare construction: places, carriers, rules, days, amounts and the small enums, each with the one text
 //! that stands for it. A contract sees a code as its text, and an amount as its number of hundredths.
+//!
+//! - Letters and digits: `City`, `Country`, `Currency`, `Carrier` and `RuleId`.
+//! - Words: `Area`, `Indicator`, `Over`, `Cabin`, `Kind` and `Mode`.
+//! - Days: `Day`, `MonthDay` and `Season`.
+//! - Numbers: `Nuc`, and the plain numbers and rates that records write.
+//! - Amounts: `surcharged` and `convert`.
+//!
+//! Each `read` answers the one value whose text the bytes are, or nothing; each `text` writes it. No call takes memory.
 #![tactic(auto)]
 
+mod amounts;
 mod area;
 mod cabin;
 mod calendar;
@@ -10,16 +19,21 @@ mod city;
 mod country;
 mod currency;
 mod day;
+mod decimals;
 mod indicator;
 mod kind;
 mod mode;
 mod month_day;
 mod nuc;
+mod numbers;
 mod over;
 mod rule_id;
 mod season;
+#[cfg(test)]
+mod tests;
 mod texts;
 
+pub use amounts::{convert, surcharged};
 pub use area::Area;
 pub use cabin::Cabin;
 pub use carrier::Carrier;
@@ -27,11 +41,13 @@ pub use city::City;
 pub use country::Country;
 pub use currency::Currency;
 pub use day::Day;
+pub use decimals::{rate_text, read_rate};
 pub use indicator::Indicator;
 pub use kind::Kind;
 pub use mode::Mode;
 pub use month_day::MonthDay;
 pub use nuc::Nuc;
+pub use numbers::{number_text, read_number};
 pub use over::Over;
 pub use rule_id::RuleId;
 pub use season::Season;

@@ -1,5 +1,8 @@
-ghost use Rattle.std.specs.Prelude.{◌≡◌, ◌<◌, ◌^◌, ℕ};
+ghost use Rattle.std.specs.Prelude.{◌≡◌, ◌<◌, ◌^◌, ℕ, Some, IfSome};
+ghost use Rattle.fare_codes.specs.Numbers.{read_nuc, nuc_text};
 
+use crate::decimals::{decimal_text, read_decimal};
+use arrayvec::ArrayString;
 use std::marker::Model;
 
 /// An amount in Neutral Units of Construction, below 10^13 hundredths. A contract sees its number of hundredths.
@@ -33,5 +36,26 @@ impl Nuc {
         ensures range { result < 10 ^ 13 }
     {
         self.hundredths
+    }
+
+    /// The amount that these bytes write; nothing exactly where they are not a number of at most eleven digits, a
+    /// point and two digits. No other bytes write it.
+    pub fn read(bytes: &[u8]) -> Option<Nuc>
+        ensures value { result ≡ read_nuc bytes.now }
+        ensures only { IfSome result (λ amount. bytes.now ≡ nuc_text amount) }
+    {
+        match read_decimal(bytes, 2) {
+            Some(hundredths) => Some(Nuc { hundredths }),
+            None => None,
+        }
+    }
+
+    /// A number, a point and two digits; read back it is the amount.
+    #[tactic(auto, using(crate::proofs::DecimalLemmas::decimal_read_back))]
+    pub fn text(self) -> ArrayString<16>
+        ensures text { result.bytes ≡ nuc_text self }
+        ensures read_back { read_nuc (nuc_text self) ≡ Some self }
+    {
+        decimal_text(self.hundredths, 2)
     }
 }

@@ -23,6 +23,13 @@ pub(crate) fn all_code_characters(bytes: &[u8]) -> bool
         .all(|byte| byte.is_ascii_uppercase() || byte.is_ascii_digit())
 }
 
+/// Whether every byte is a digit.
+pub(crate) fn all_digits(bytes: &[u8]) -> bool
+    ensures { result ≡ list_all is_ascii_digit bytes.now }
+{
+    bytes.iter().all(|byte| byte.is_ascii_digit())
+}
+
 /// The text of these ASCII bytes.
 pub(crate) fn ascii_text(bytes: &[u8]) -> ArrayString<16>
     requires ascii { list_all is_ascii bytes.now ≡ true }

@@ -3,4 +3,5 @@ pub mod FieldAt
 pub mod PlainLines
 mod RowExamples
 pub mod NumberLemmas
+pub mod NumberTexts
 pub mod RecordsLemmas

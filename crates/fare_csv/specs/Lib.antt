@@ -4,5 +4,7 @@ pub mod Lines
 pub mod Written
 pub mod Numbers
 pub mod Fields
+pub mod Head
 pub mod RecordText
 pub mod TariffText
+pub mod Filed

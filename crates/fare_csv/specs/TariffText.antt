@@ -3,11 +3,13 @@ use Rattle.std.specs.Prelude.{ℕ, ◌+◌, List, [], ◌∷◌, Result, Ok, Err
 use Rattle.std.specs.Str.{bytes_eq}
 use Rattle.fare_tariff.specs.declared.record.Record.{Record}
 use Rattle.fare_tariff.specs.declared.record.Record.TheVariants as filed
+use Rattle.fare_tariff.specs.Tariff.{Tariff}
 use Rattle.fare_csv.specs.declared.text_fault.TextFault.{TextFault}
 use Rattle.fare_csv.specs.declared.text_fault.TextFault.TheVariants.{NoHeader, UnknownRecord, AfterEnd, NoEnd}
 use Rattle.fare_csv.specs.declared.version.Version.{Version}
 use Rattle.fare_csv.specs.Rows.{Fields}
 use Rattle.fare_csv.specs.Fields.{◌>>=◌, field, counted}
+use Rattle.fare_csv.specs.Head.{head_of}
 use Rattle.fare_csv.specs.RecordText.{allowance_of, city_of, currency_of, mileage_of, pair_of}
 
 -- the number of the record behind another; a u32 stays at its last value
@@ -58,3 +60,15 @@ records_of version number [] = Err (NoEnd number)
 records_of version number (row ∷ rows) =
     if bytes_eq (field row 0) (codes "END") then ended_by (end_of number row rows)
     else followed_by (record_of version number row) (records_of version (number_after number) rows)
+
+-- HEAD and the records behind it, as an edition that isn't yet checked
+unfoldable pub headed : Fields → List Fields → Result Tariff TextFault
+headed row rows = do
+  head ← head_of row
+  records ← records_of head.version 2 rows
+  Ok (record { number = head.number; effective = head.effective; records = records })
+
+-- what rows spell: the first is HEAD
+unfoldable pub tariff_of : List Fields → Result Tariff TextFault
+tariff_of [] = Err NoHeader
+tariff_of (row ∷ rows) = if bytes_eq (field row 0) (codes "HEAD") then headed row rows else Err NoHeader

@@ -1,15 +1,19 @@
 //! The records of a text, row by row.
 
-ghost use Rattle.std.specs.Prelude.{◌≡◌, [], ◌∷◌, IfOk, Ok, codes, bytes_eq};
+ghost use Rattle.std.specs.Prelude.{◌≡◌, [], ◌∷◌, ◌≤◌, IfOk, Ok, codes, bytes_eq};
 ghost use Rattle.fare_csv.specs.Fields.{Gives, field};
-ghost use Rattle.fare_csv.specs.TariffText.{end_of, record_of, records_of};
+ghost use Rattle.fare_csv.specs.TariffText.{end_of, record_of, records_of, tariff_of};
+ghost use Rattle.fare_csv.specs.Filed.{filed_tariff};
+ghost use Rattle.fare_csv.specs.Rows.{rows_of};
 
+use crate::head::read_head;
 use crate::read_record::{
     counted, read_allowance, read_city, read_currency, read_mileage, read_pair,
 };
 use crate::rows::{Row, Rows};
 use crate::text_fault::TextFault;
 use crate::version::Version;
+use fare_codes::Day;
 use fare_tariff::Record;
 use std::alloc::Global;
 
@@ -68,4 +72,39 @@ fn read_records(
         number = number.saturating_add(1);
     }
     Err(TextFault::NoEnd(number))
+}
+
+/// What a text spells, before its records are checked against one another.
+#[derive(Drop)]
+pub(crate) struct Filed {
+    pub number: u32,
+    pub effective: Day,
+    pub records: Vec<Record>,
+}
+
+/// Whether a row is that of HEAD, by its first field.
+fn is_head(row: &Row) -> bool
+    ensures { result ≡ bytes_eq (field row.now 0) (codes "HEAD") }
+{
+    matches!(row.field(0), b"HEAD")
+}
+
+/// HEAD and the records of a text.
+#[tactic(auto, unfolding(crate::specs::Fields::Gives, crate::specs::Fields::GivesFault, crate::specs::TariffText::headed, crate::specs::TariffText::tariff_of))]
+pub(crate) fn read_filed(alloc: Global, bytes: &[u8]) -> Result<Filed, TextFault>
+    ensures reading { Gives filed_tariff result (tariff_of (rows_of bytes.now)) }
+    ensures range { IfOk result (λ filed. (1 ≤ filed.number) × (filed.number ≤ 99_999)) }
+{
+    let mut rows = Rows::new(alloc, bytes);
+    let mut row = Row::new(alloc);
+    if !rows.read_row(&mut row)? || !is_head(&row) {
+        return Err(TextFault::NoHeader);
+    }
+    let head = read_head(&row)?;
+    let records = read_records(alloc, &mut rows, head.version)?;
+    Ok(Filed {
+        number: head.number,
+        effective: head.effective,
+        records,
+    })
 }

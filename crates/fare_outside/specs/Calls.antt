@@ -2,8 +2,8 @@
 use Rattle.std.specs.Prelude.{ℕ, ◌+◌, ◌-◌, ◌^◌, Bool, List, min, ◌==◌}
 use Rattle.std.specs.List.{list_any}
 
--- the numbers of the calls that fail, and the number of the last call made; 4,294,967,295 stands for itself and for
--- every later number
+-- the numbers of the calls that fail, and the number of the last call made; 4,294,967,295 stands
+-- for itself and for every later number
 pub record CallList : Type 0 where
   pub fail : List ℕ
   pub made : ℕ

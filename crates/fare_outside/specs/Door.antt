@@ -7,7 +7,8 @@ abbrev pub is_taken : Result Bool Failed → Bool
 is_taken (Ok taken) = taken
 is_taken (Err failed) = false
 
--- the first of the connections to come was taken: what it brings is left, and the others are still to come
+-- the first of the connections to come was taken: what it brings is left, and the others are still
+-- to come
 abbrev pub TakesFirst : Option (List (List ℕ)) → Option (List (List ℕ)) → Option (List ℕ) → Type 0
 TakesFirst None new left = ⊤
 TakesFirst (Some old) None left = ⊥
@@ -23,9 +24,9 @@ abbrev pub with_one_more : Option (List (List ℕ)) → Option (List (List ℕ))
 with_one_more sent = option_map (λ lists. lists ++ [] ∷ []) sent
 
 -- what was sent, with these bytes more on the connection at this place, if there is one
-abbrev pub sent_at : Option ℕ → List ℕ → List (List ℕ) → List (List ℕ)
-sent_at None bytes lists = lists
-sent_at (Some place) bytes lists = slice_set lists place (slice_index_or lists place [] ++ bytes)
+abbrev pub with_more_at : Option ℕ → List ℕ → List (List ℕ) → List (List ℕ)
+with_more_at None bytes lists = lists
+with_more_at (Some place) bytes lists = slice_set lists place (slice_index_or lists place [] ++ bytes)
 
 -- the first connection put aside is the current one, and the others are still put aside
 abbrev pub TakesHeld : List ℕ → List ℕ → Option ℕ → Type 0

@@ -2,7 +2,8 @@
 use Rattle.std.specs.Prelude.{◌≡◌, ◌⊎◌, ℕ, ◌-◌, ◌≤◌, List, [], ◌∷◌, ◌++◌, Option, Some, None, length, slice_get, slice_set, ⊤}
 
 -- where the bodies are told after a call, they were told before it, and this relation holds of them
-abbrev pub ToldAfter : Option (List (List ℕ)) → Option (List (List ℕ)) → (List (List ℕ) → List (List ℕ) → Type 0) → Type 0
+abbrev pub ToldAfter : Option (List (List ℕ)) → Option (List (List ℕ))
+    → (List (List ℕ) → List (List ℕ) → Type 0) → Type 0
 ToldAfter old None relation = ⊤
 ToldAfter None (Some new) relation = ⊥
 ToldAfter (Some old) (Some new) relation = relation old new

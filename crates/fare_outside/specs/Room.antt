@@ -1,5 +1,5 @@
 -- What is written into a room of a fixed size.
-use Rattle.std.specs.Prelude.{ℕ, ◌-◌, ◌<◌, ◌&&◌, Bool, List, ◌++◌, length, take, min, nat_lt, nat_le}
+use Rattle.std.specs.Prelude.{ℕ, ◌-◌, ◌&&◌, Bool, List, ◌++◌, length, take, min, nat_lt, nat_le}
 
 -- the bytes taken, and how many fit in all
 pub record Filled : Type 0 where
@@ -16,4 +16,5 @@ is_refused filled bytes = nat_lt 0 (length bytes) && nat_le filled.room (length 
 
 -- the room with those of these bytes that still fit
 abbrev pub after_put : Filled → List ℕ → Filled
-after_put filled bytes = record { taken = filled.taken ++ take (fitting filled bytes) bytes; room = filled.room }
+after_put filled bytes =
+    record { taken = filled.taken ++ take (fitting filled bytes) bytes; room = filled.room }

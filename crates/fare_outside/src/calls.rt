@@ -20,7 +20,8 @@ impl Model for Calls {
 impl Calls {
     ghost use Rattle.fare_outside.specs.Calls.{fails_next, after_call};
 
-    /// No call made yet; those of these numbers fail, and 4,294,967,295 stands for all from that one on.
+    /// No call made yet; those of these numbers fail, and 4,294,967,295 stands for all from that
+    /// one on.
     pub fn new(fail: Vec<u32>) -> Calls
         ensures { result ≡ record { fail = fail.items; made = 0 } }
     {

@@ -42,7 +42,8 @@ impl From<NoMemory> for KeepFault {
 
 /// What bodies are kept in, in the order in which they came. Places run from 1.
 ///
-/// What a call did to the bodies is known where they are told after it: a keeper may fall silent, and never speaks up.
+/// What a call did to the bodies is known where they are told after it: a keeper may fall silent,
+/// and never speaks up.
 pub trait Keeper {
     /// The bodies by place, where they are told.
     ghost bodies: { Self → Option (List (List ℕ)) };
@@ -58,48 +59,62 @@ pub trait Keeper {
         ensures bodies { ToldAfter (bodies self.old) (bodies self.new) BodiesStay }
         ensures ready { ready self.new ≡ (ready self.old || is_ok result) }
         ensures never_falls { faults self.old ≤ faults self.new }
-        ensures cause { IsErrOf result KeepFault.Failed → Rose (faults self.old) (faults self.new) };
+        ensures cause { IsErrOf result KeepFault.Failed →
+            Rose (faults self.old) (faults self.new) };
 
     /// How many bodies there are. They are as before, whatever it answers.
     fn len(&mut self, alloc: Global) -> Result<u64, KeepFault>
         requires { IsTrue (ready self.old) }
-        ensures count { IfOk result (λ count. IfSome (bodies self.new) (λ kept. count ≡ length kept)) }
+        ensures count { IfOk result (λ count.
+            IfSome (bodies self.new) (λ kept. count ≡ length kept)) }
         ensures bodies { ToldAfter (bodies self.old) (bodies self.new) BodiesStay }
         ensures ready { IsTrue (ready self.new) }
         ensures never_falls { faults self.old ≤ faults self.new }
-        ensures cause { IsErrOf result KeepFault.Failed → Rose (faults self.old) (faults self.new) };
+        ensures cause { IsErrOf result KeepFault.Failed →
+            Rose (faults self.old) (faults self.new) };
 
-    /// The body at that place. The bodies are as before, whatever it answers. Where they aren't told, a place that
-    /// isn't there is a counted failure.
+    /// The body at that place. The bodies are as before, whatever it answers. Where they aren't
+    /// told, a place that isn't there is a counted failure.
     fn load(&mut self, alloc: Global, place: u32) -> Result<Vec<u8>, KeepFault>
         requires ready { IsTrue (ready self.old) }
         requires place { ForSome (bodies self.old) (HasPlace place) }
-        ensures body { IfOk result (λ body. IfSome (bodies self.new) (λ kept. body_at place kept ≡ Some body.items)) }
+        ensures body { IfOk result (λ body.
+            IfSome (bodies self.new) (λ kept. body_at place kept ≡ Some body.items)) }
         ensures bodies { ToldAfter (bodies self.old) (bodies self.new) BodiesStay }
         ensures ready { IsTrue (ready self.new) }
         ensures never_falls { faults self.old ≤ faults self.new }
-        ensures cause { IsErrOf result KeepFault.Failed → Rose (faults self.old) (faults self.new) };
+        ensures cause { IsErrOf result KeepFault.Failed →
+            Rose (faults self.old) (faults self.new) };
 
-    /// Adds a body at the end. `Memory` leaves the bodies; after `Failed` they are the old ones, or those with the new
-    /// one at the end.
+    /// Adds a body at the end. `Memory` leaves the bodies; after `Failed` they are the old ones, or
+    /// those with the new one at the end.
     fn append(&mut self, alloc: Global, body: &[u8]) -> Result<(), KeepFault>
         requires { IsTrue (ready self.old) }
-        ensures ok { OnOk result (ToldAfter (bodies self.old) (bodies self.new) (BodyAppended body.now)) }
-        ensures memory { IsErrOf result KeepFault.Memory → ToldAfter (bodies self.old) (bodies self.new) BodiesStay }
-        ensures failed { IsErrOf result KeepFault.Failed → ToldAfter (bodies self.old) (bodies self.new) (MayAppend body.now) }
+        ensures ok { OnOk result
+            (ToldAfter (bodies self.old) (bodies self.new) (BodyAppended body.now)) }
+        ensures memory { IsErrOf result KeepFault.Memory →
+            ToldAfter (bodies self.old) (bodies self.new) BodiesStay }
+        ensures failed { IsErrOf result KeepFault.Failed →
+            ToldAfter (bodies self.old) (bodies self.new) (MayAppend body.now) }
         ensures ready { IsTrue (ready self.new) }
         ensures never_falls { faults self.old ≤ faults self.new }
-        ensures cause { IsErrOf result KeepFault.Failed → Rose (faults self.old) (faults self.new) };
+        ensures cause { IsErrOf result KeepFault.Failed →
+            Rose (faults self.old) (faults self.new) };
 
-    /// Puts another body at that place. `Memory` leaves the bodies; after `Failed` they are the old ones, or those with
-    /// that one changed. Where they aren't told, a place that isn't there is a counted failure.
+    /// Puts another body at that place. `Memory` leaves the bodies; after `Failed` they are the old
+    /// ones, or those with that one changed. Where they aren't told, a place that isn't there is a
+    /// counted failure.
     fn replace(&mut self, alloc: Global, place: u32, body: &[u8]) -> Result<(), KeepFault>
         requires ready { IsTrue (ready self.old) }
         requires place { ForSome (bodies self.old) (HasPlace place) }
-        ensures ok { OnOk result (ToldAfter (bodies self.old) (bodies self.new) (BodyReplaced place body.now)) }
-        ensures memory { IsErrOf result KeepFault.Memory → ToldAfter (bodies self.old) (bodies self.new) BodiesStay }
-        ensures failed { IsErrOf result KeepFault.Failed → ToldAfter (bodies self.old) (bodies self.new) (MayReplace place body.now) }
+        ensures ok { OnOk result
+            (ToldAfter (bodies self.old) (bodies self.new) (BodyReplaced place body.now)) }
+        ensures memory { IsErrOf result KeepFault.Memory →
+            ToldAfter (bodies self.old) (bodies self.new) BodiesStay }
+        ensures failed { IsErrOf result KeepFault.Failed →
+            ToldAfter (bodies self.old) (bodies self.new) (MayReplace place body.now) }
         ensures ready { IsTrue (ready self.new) }
         ensures never_falls { faults self.old ≤ faults self.new }
-        ensures cause { IsErrOf result KeepFault.Failed → Rose (faults self.old) (faults self.new) };
+        ensures cause { IsErrOf result KeepFault.Failed →
+            Rose (faults self.old) (faults self.new) };
 }

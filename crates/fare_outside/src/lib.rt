@@ -1,5 +1,6 @@
-//! Everything that the desk reads, writes, keeps or answers lies behind five traits: a source, a sink, a keeper, a
-//! door and a gate. This layer states what may be known of each, and has objects in memory and over the real streams.
+//! Everything that the desk reads, writes, keeps or answers lies behind five traits: a source, a
+//! sink, a keeper, a door and a gate. This layer states what may be known of each, and has objects
+//! in memory and over the real streams.
 //!
 //! - `source`, `sink`, `keeper`, `door`, `gate`: the traits, with the words of their clauses in `specs/`;
 //! - `reading`, `writing`: a whole source, and a whole text, over any source and sink;

@@ -12,7 +12,8 @@ use crate::{Failed, NoMemory, Sink};
 use std::alloc::Global;
 use std::marker::Model;
 
-/// A sink in memory with a room of a fixed size, whose listed writes fail, and those that find no room.
+/// A sink in memory with a room of a fixed size, whose listed writes fail, and those that find no
+/// room.
 #[derive(Drop)]
 pub struct MemSink {
     room: Room,
@@ -29,8 +30,8 @@ impl Model for MemSink {
 }
 
 impl MemSink {
-    /// An empty sink for `room` bytes, whose memory is taken at once. The writes of these numbers fail, counted from
-    /// 1; 4,294,967,295 stands for all from that one on.
+    /// An empty sink for `room` bytes, whose memory is taken at once. The writes of these numbers
+    /// fail, counted from 1; 4,294,967,295 stands for all from that one on.
     pub fn new(alloc: Global, room: usize, fail: Vec<u32>) -> Result<MemSink, NoMemory>
         ensures { IfOk result (λ sink. sink ≡ record {
           filled = record { taken = []; room = room };
@@ -60,16 +61,18 @@ impl Sink for MemSink {
 
     fn write(&mut self, buf: &[u8]) -> Result<usize, Failed>
         ensures within { WritesAtMost result buf.now }
-        ensures some { IfOk result (λ count. 0 < length buf.now → 0 < count) }
+        ensures progress { IfOk result (λ count. 0 < length buf.now → 0 < count) }
         ensures bytes { WriteAppends (Some self.old.filled.taken) (Some self.new.filled.taken) result buf.now }
         ensures never_falls { self.old.faults ≤ self.new.faults }
         ensures cause { OnErr result (Rose self.old.faults self.new.faults) }
-        ensures refused { is_err result ≡ (fails_next self.old.calls || is_refused self.old.filled buf.now) }
+        ensures refused { is_err result ≡
+            (fails_next self.old.calls || is_refused self.old.filled buf.now) }
         ensures answer { IfOk result (λ count. count ≡ fitting self.old.filled buf.now) }
         ensures filled { IfOk result (λ _. self.new.filled ≡ after_put self.old.filled buf.now) }
         ensures kept { OnErr result (self.new.filled ≡ self.old.filled) }
         ensures calls { self.new.calls ≡ after_call self.old.calls }
-        ensures counted { self.new.faults ≡ (if is_err result then one_more self.old.faults else self.old.faults) }
+        ensures counted { self.new.faults ≡
+            (if is_err result then one_more self.old.faults else self.old.faults) }
     {
         let is_listed = self.calls.next();
         if !is_listed {

@@ -26,10 +26,14 @@ impl Model for MemSource {
 }
 
 impl MemSource {
-    /// A source of these bytes. The reads of these numbers fail, counted from 1; 4,294,967,295 stands for all from
-    /// that one on.
+    /// A source of these bytes. The reads of these numbers fail, counted from 1; 4,294,967,295
+    /// stands for all from that one on.
     pub fn new(bytes: Vec<u8>, fail: Vec<u32>) -> MemSource
-        ensures { result ≡ record { left = bytes.items; calls = record { fail = fail.items; made = 0 }; faults = 0 } }
+        ensures { result ≡ record {
+          left = bytes.items;
+          calls = record { fail = fail.items; made = 0 };
+          faults = 0;
+        } }
     {
         MemSource {
             source: PlainSource::new(bytes),
@@ -50,9 +54,11 @@ impl Source for MemSource {
         ensures never_falls { self.old.faults ≤ self.new.faults }
         ensures cause { OnErr result (Rose self.old.faults self.new.faults) }
         ensures listed { is_err result ≡ fails_next self.old.calls }
-        ensures answer { IfOk result (λ count. count ≡ min (length buf.old) (length self.old.left)) }
+        ensures answer { IfOk result (λ count.
+            count ≡ min (length buf.old) (length self.old.left)) }
         ensures calls { self.new.calls ≡ after_call self.old.calls }
-        ensures counted { self.new.faults ≡ (if is_err result then one_more self.old.faults else self.old.faults) }
+        ensures counted { self.new.faults ≡
+            (if is_err result then one_more self.old.faults else self.old.faults) }
     {
         if self.calls.next() {
             self.faults = raised(self.faults);

@@ -1,4 +1,4 @@
-ghost use Rattle.std.specs.Prelude.{[], Some, None};
+ghost use Rattle.std.specs.Prelude.{◌≡◌, [], Some, None, false};
 
 use crate::{Door, Failed};
 
@@ -52,8 +52,11 @@ impl Door for PlainDoor {
         false
     }
 
-    fn hold(&mut self) -> bool {
-        unreachable!()
+    /// No connection is ever current, so there is none to put aside.
+    fn hold(&mut self) -> bool
+        ensures { result ≡ false }
+    {
+        false
     }
 
     fn resume(&mut self) -> bool {

@@ -28,7 +28,10 @@ impl Model for PlainSink {
 impl PlainSink {
     /// An empty sink for that many bytes, whose memory is taken at once.
     pub fn new(alloc: Global, room: usize) -> Result<PlainSink, NoMemory>
-        ensures { IfOk result (λ sink. sink ≡ record { filled = record { taken = []; room = room }; faults = 0 }) }
+        ensures { IfOk result (λ sink. sink ≡ record {
+          filled = record { taken = []; room = room };
+          faults = 0;
+        }) }
     {
         Ok(PlainSink {
             room: Room::new(alloc, room)?,
@@ -51,14 +54,15 @@ impl Sink for PlainSink {
 
     fn write(&mut self, buf: &[u8]) -> Result<usize, Failed>
         ensures within { WritesAtMost result buf.now }
-        ensures some { IfOk result (λ count. 0 < length buf.now → 0 < count) }
+        ensures progress { IfOk result (λ count. 0 < length buf.now → 0 < count) }
         ensures bytes { WriteAppends (Some self.old.filled.taken) (Some self.new.filled.taken) result buf.now }
         ensures never_falls { self.old.faults ≤ self.new.faults }
         ensures cause { OnErr result (Rose self.old.faults self.new.faults) }
         ensures refused { is_err result ≡ is_refused self.old.filled buf.now }
         ensures answer { IfOk result (λ count. count ≡ fitting self.old.filled buf.now) }
         ensures filled { self.new.filled ≡ after_put self.old.filled buf.now }
-        ensures counted { self.new.faults ≡ (if is_err result then one_more self.old.faults else self.old.faults) }
+        ensures counted { self.new.faults ≡
+            (if is_err result then one_more self.old.faults else self.old.faults) }
     {
         match self.room.put(buf) {
             Some(count) => Ok(count),

@@ -46,12 +46,16 @@ pub fn read_all<S: Source>(alloc: Global, src: &mut S, max: usize) -> Result<Vec
     ensures all { IfOk result (λ bytes. IfSome (S.left src.old) (λ left. left ≡ bytes.items)) }
     ensures within { IfOk result (λ bytes. vec_len bytes ≤ max) }
 
-    ensures too_long { IsErrOf result ReadEnd.TooLong → TakesJust (max + 1) (S.left src.old) (S.left src.new) }
-    ensures held_more { IsErrOf result ReadEnd.TooLong → IfSome (S.left src.old) (λ left. max < length left) }
+    ensures too_long { IsErrOf result ReadEnd.TooLong →
+        TakesJust (max + 1) (S.left src.old) (S.left src.new) }
+    ensures held_more { IsErrOf result ReadEnd.TooLong →
+        IfSome (S.left src.old) (λ left. max < length left) }
 
     ensures never_falls { S.faults src.old ≤ S.faults src.new }
-    ensures cause { IsErrOf result ReadEnd.ReadFault → Rose (S.faults src.old) (S.faults src.new) }
-    ensures fault_within { IsErrOf result ReadEnd.ReadFault → TakesUpTo max (S.left src.old) (S.left src.new) }
+    ensures cause { IsErrOf result ReadEnd.ReadFault →
+        Rose (S.faults src.old) (S.faults src.new) }
+    ensures fault_within { IsErrOf result ReadEnd.ReadFault →
+        TakesUpTo max (S.left src.old) (S.left src.new) }
 
     // Whatever it answers, no more than that is gone from the source.
     ensures taken { TakesUpTo (max + 1) (S.left src.old) (S.left src.new) }
@@ -71,7 +75,7 @@ pub fn read_all<S: Source>(alloc: Global, src: &mut S, max: usize) -> Result<Vec
 
 // One byte more than the room shows that the source is too long.
 fn piece_size(room: usize) -> usize
-    ensures some { 0 < result }
+    ensures positive { 0 < result }
     ensures piece { result ≤ PIECE }
     ensures within { result ≤ room + 1 }
 {

@@ -33,11 +33,12 @@ impl Room {
         Ok(Room { bytes, room })
     }
 
-    /// Takes what still fits of these bytes and says how many: none is an answer only where there are bytes and no
-    /// room is left.
+    /// Takes what still fits of these bytes and says how many: none is an answer only where there
+    /// are bytes and no room is left.
     pub fn put(&mut self, bytes: &[u8]) -> Option<usize>
         ensures answer { MatchOption result (IsTrue (is_refused self.old bytes.now))
-            (λ count. (count ≡ fitting self.old bytes.now) × (is_refused self.old bytes.now ≡ false)) }
+            (λ count. (count ≡ fitting self.old bytes.now)
+            × (is_refused self.old bytes.now ≡ false)) }
         ensures room { self.new ≡ after_put self.old bytes.now }
     {
         let count = bytes.len().min(self.room - self.bytes.len());

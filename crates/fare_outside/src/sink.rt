@@ -13,10 +13,11 @@ pub trait Sink {
     /// How many writes have failed.
     ghost faults: { Self → ℕ };
 
-    /// Takes the first bytes of `buf` and answers how many: at least one, unless `buf` is empty. `Failed` takes none.
+    /// Takes the first bytes of `buf` and answers how many: at least one, unless `buf` is empty.
+    /// `Failed` takes none.
     fn write(&mut self, buf: &[u8]) -> Result<usize, Failed>
         ensures within { WritesAtMost result buf.now }
-        ensures some { IfOk result (λ count. 0 < length buf.now → 0 < count) }
+        ensures progress { IfOk result (λ count. 0 < length buf.now → 0 < count) }
         ensures bytes { WriteAppends (taken self.old) (taken self.new) result buf.now }
         ensures never_falls { faults self.old ≤ faults self.new }
         ensures cause { OnErr result (Rose (faults self.old) (faults self.new)) };

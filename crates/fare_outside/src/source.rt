@@ -13,8 +13,8 @@ pub trait Source {
     /// How many reads have failed.
     ghost faults: { Self → ℕ };
 
-    /// Puts the next bytes at the front of `buf` and answers how many. 0 for a `buf` that isn't empty means that none
-    /// is left. After `Failed` what is left is as before.
+    /// Puts the next bytes at the front of `buf` and answers how many. 0 for a `buf` that isn't
+    /// empty means that none is left. After `Failed` what is left is as before.
     fn read(&mut self, buf: &mut [u8]) -> Result<usize, Failed>
         ensures within { ReadsAtMost result buf.new }
         ensures bytes { ReadConsumes (left self.old) (left self.new) result buf.new }

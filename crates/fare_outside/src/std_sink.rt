@@ -5,8 +5,8 @@ use crate::{Failed, Sink};
 use std::io::Write;
 use std::marker::Model;
 
-/// Standard output. It doesn't tell its bytes, and counts each write that fails or takes nothing: it is
-/// seen as that count.
+/// Standard output. It doesn't tell its bytes, and counts each write that fails or takes nothing:
+/// it is seen as that count.
 #[derive(Drop)]
 pub struct StdSink {
     runtime: HostRuntime,

@@ -5,7 +5,8 @@ use crate::{Failed, Source};
 use std::io::Read;
 use std::marker::Model;
 
-/// Standard input. It doesn't tell its bytes, and counts each read that fails: it is seen as that count.
+/// Standard input. It doesn't tell its bytes, and counts each read that fails: it is seen as that
+/// count.
 #[derive(Drop)]
 pub struct StdSource {
     runtime: HostRuntime,

@@ -31,16 +31,19 @@ fn run_once<S: Source, K: Sink, P: Keeper, D: Door, G: Gate>(
 ) -> Ending
     ensures read_fault { result ≡ Ending.ReadFault → Rose (S.faults src.old) (S.faults src.new) }
     ensures write_fault { result ≡ Ending.WriteFault → Rose (K.faults out.old) (K.faults out.new) }
-    ensures keeper_fault { result ≡ Ending.KeeperFault → Rose (P.faults store.old) (P.faults store.new) }
+    ensures keeper_fault { result ≡ Ending.KeeperFault →
+        Rose (P.faults store.old) (P.faults store.new) }
     ensures door_fault { result ≡ Ending.DoorFault → Rose (D.faults door.old) (D.faults door.new) }
     ensures too_long { result ≡ Ending.TooLong → IfSome (S.left src.old) (λ left. 9 < length left) }
 
-    ensures written { result ≡ Ending.Done → IfSome (S.left src.old) (Appends (K.taken out.old) (K.taken out.new)) }
+    ensures written { result ≡ Ending.Done → IfSome (S.left src.old)
+        (Appends (K.taken out.old) (K.taken out.new)) }
     ensures kept { result ≡ Ending.Done → IfSome (S.left src.old) (λ left.
         ToldAfter (P.bodies store.old) (P.bodies store.new) (BodyAppended left)) }
     ensures prefix { result ≡ Ending.WriteFault → IfSome (S.left src.old)
         (AppendsPrefix (K.taken out.old) (K.taken out.new)) }
-    ensures silent { result ≢ Ending.Done → result ≢ Ending.WriteFault → Keeps (K.taken out.old) (K.taken out.new) }
+    ensures silent { result ≢ Ending.Done → result ≢ Ending.WriteFault →
+        Keeps (K.taken out.old) (K.taken out.new) }
 {
     let bytes = match read_all(alloc, src, 9) {
         Ok(bytes) => bytes,
@@ -64,8 +67,10 @@ fn run_once<S: Source, K: Sink, P: Keeper, D: Door, G: Gate>(
 }
 
 fn keep<P: Keeper>(alloc: Global, store: &mut P, body: &[u8]) -> Result<(), KeepFault>
-    ensures ok { OnOk result (ToldAfter (P.bodies store.old) (P.bodies store.new) (BodyAppended body.now)) }
-    ensures cause { IsErrOf result KeepFault.Failed → Rose (P.faults store.old) (P.faults store.new) }
+    ensures ok { OnOk result
+        (ToldAfter (P.bodies store.old) (P.bodies store.new) (BodyAppended body.now)) }
+    ensures cause { IsErrOf result KeepFault.Failed →
+        Rose (P.faults store.old) (P.faults store.new) }
 {
     store.open(alloc, "run")?;
     store.append(alloc, body)
@@ -161,11 +166,19 @@ fn bytes_and_bodies_grow(rt: HostRuntime) -> Result<(), Fail> {
     let mut bodies = Bodies::new(alloc);
     bodies.push(bytes.as_slice())?;
     bodies.push(Bytes::new(alloc).as_slice())?;
+    assert!(rt; !bodies.is_empty());
     assert_eq!(rt; bodies.len(), 2);
     assert_eq!(rt; bodies.get(0), Some(b"OK 1".as_slice()));
     assert_eq!(rt; bodies.get(1), Some(b"".as_slice()));
     assert_eq!(rt; bodies.get(2), None);
     Ok(())
+}
+
+fn go_to_other_threads<A: Send + Sync, B: Send + Sync, C: Send + Sync>() {}
+
+#[test]
+fn what_workers_hand_over_may_cross_threads() {
+    go_to_other_threads::<Bytes, Bodies, OpenGate>();
 }
 
 #[test]

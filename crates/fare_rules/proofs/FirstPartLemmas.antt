@@ -48,7 +48,7 @@ home_is_home (Some a) None = refl
 home_is_home (Some a) (Some o) = rw ((bytes_eq-Decides o o).1 refl) (and_right (bytes_eq a o) false refl)
 
 -- the places of the unit of the first part begin with it
-own_of_first : (part : Part) (rest : List Part) → own (part ∷ rest) part.unit ≡ 1 ∷ filter (is_own (part ∷ rest) part.unit) (range_with_len 2 (length rest))
+pub own_of_first : (part : Part) (rest : List Part) → own (part ∷ rest) part.unit ≡ 1 ∷ filter (is_own (part ∷ rest) part.unit) (range_with_len 2 (length rest))
 unfolding own
 own_of_first part rest =
     let n : suc (length rest) + 1 - 1 ≡ suc (length rest) = omega arith in
@@ -66,7 +66,7 @@ true_false e = cc
 
 module _ (tariff : Tariff) (trip : Itinerary) (part : Part) (rest : List Part) (kept : IsKept tariff trip (part ∷ rest)) where
   -- the number of the first part's unit is one of the units
-  unit_above : 1 ≤ part.unit
+  pub unit_above : 1 ≤ part.unit
   unfolding misnumbered
   unit_above =
       let fails = find_none (is_misnumbered (part ∷ rest)) 1 (length (part ∷ rest) + 1) kept.numbering 1 (omega arith) (omega arith) in
@@ -80,7 +80,7 @@ module _ (tariff : Tariff) (trip : Itinerary) (part : Part) (rest : List Part) (
       omega arith
 
   -- a unit of half round trips has more than its first part
-  not_alone : is_hr tariff (part ∷ rest) (own (part ∷ rest) part.unit) ≡ true → own (part ∷ rest) part.unit ≡ 1 ∷ [] → ⊥
+  pub not_alone : is_hr tariff (part ∷ rest) (own (part ∷ rest) part.unit) ≡ true → own (part ∷ rest) part.unit ≡ 1 ∷ [] → ⊥
   unfolding unclosed is_open_jaw
   not_alone h e =
       let closed = find_none (is_unclosed tariff trip (part ∷ rest)) 1 (greatest_unit (part ∷ rest) (places (part ∷ rest)) + 1) kept.close part.unit unit_above unit_within in

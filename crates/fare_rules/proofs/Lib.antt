@@ -15,3 +15,6 @@ pub mod CircleLemmas
 pub mod AmountLemmas
 pub mod MemberLemmas
 pub mod FirstPartLemmas
+pub mod RuleLemmas
+pub mod OneSectorLemmas
+pub mod CheapestLemmas

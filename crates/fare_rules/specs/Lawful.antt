@@ -1,5 +1,5 @@
 -- Lawful constructions: the rules in their order, the first one that is broken, and the price where none is.
-use Rattle.std.specs.Prelude.{ℕ, Bool, false, not, List, [], ◌∷◌, Option, Some, None, Result, Ok, Err, find, option_map, ◌&&◌}
+use Rattle.std.specs.Prelude.{◌≡◌, ℕ, ◌≤◌, Bool, true, length, is_some, false, not, List, [], ◌∷◌, Option, Some, None, Result, Ok, Err, find, option_map, ◌&&◌}
 use Rattle.fare_trip.specs.Itinerary.{Itinerary}
 use Rattle.fare_tariff.specs.Record.{FareRecord}
 use Rattle.fare_tariff.specs.Tariff.{Tariff}
@@ -8,8 +8,8 @@ use Rattle.fare_rules.specs.declared.part.Part.{Part}
 use Rattle.fare_rules.specs.Numbers.{first_given}
 use Rattle.fare_rules.specs.Span.{holds_surface}
 use Rattle.fare_rules.specs.Terms.{stops_hold, transfers_hold, advance_holds}
-use Rattle.fare_rules.specs.ComponentAmount.{repeats_city, runs_between, has_indicator, covers_cabins, covers_carriers, in_season, mileage_holds, excess_holds}
-use Rattle.fare_rules.specs.Construction.{places, start_of, end_of, fare_of, uncovered, misnumbered, unfiled}
+use Rattle.fare_rules.specs.ComponentAmount.{repeats_city, runs_between, has_indicator, covers_cabins, covers_carriers, in_season, mileage_holds, excess_holds, component_amount}
+use Rattle.fare_rules.specs.Construction.{places, start_of, end_of, part_at, fare_of, uncovered, misnumbered, unfiled}
 use Rattle.fare_rules.specs.Shape.{crossed, mixed, unchained, unclosed}
 use Rattle.fare_rules.specs.Direction.{is_back}
 use Rattle.fare_rules.specs.UnitRules.{mistimed, misfitted, clashed}
@@ -131,3 +131,18 @@ unless_broken None price = Ok price
 -- the price of a lawful construction, or the first broken rule
 unfoldable pub lawful_price : Tariff → Itinerary → List Part → Result ℕ Broken
 lawful_price tariff trip parts = unless_broken (first_broken tariff trip parts) (price tariff trip parts)
+
+-- Lawful in words: Construction, Shape and Unit rules hold, and for each part its number names a fare and its component
+-- amount is defined with the part's direction
+pub record MeetsTheRules (tariff : Tariff) (trip : Itinerary) (parts : List Part) : Type 0 where
+  pub cover : uncovered trip parts ≡ None
+  pub numbering : misnumbered parts ≡ None
+  pub filed : unfiled tariff parts ≡ None
+  pub crossing : crossed parts ≡ None
+  pub alone : mixed tariff parts ≡ None
+  pub chain : unchained tariff trip parts ≡ None
+  pub close : unclosed tariff trip parts ≡ None
+  pub stay : mistimed tariff trip parts ≡ None
+  pub combine : misfitted tariff parts ≡ None
+  pub ends : clashed tariff parts ≡ None
+  pub amounts : (k : ℕ) → 1 ≤ k → k ≤ length parts → is_some (component_amount tariff trip (start_of trip parts k) (end_of parts k) (part_at parts k).fare (is_back tariff trip parts k)) ≡ true

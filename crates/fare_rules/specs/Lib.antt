@@ -24,4 +24,5 @@ pub mod Order
 pub mod Best
 pub mod Completion
 pub mod FirstK
+pub mod OneSector
 pub mod Valid

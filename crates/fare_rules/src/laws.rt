@@ -1,9 +1,13 @@
 //! The laws of the rules: each function computes nothing, and its contract is a law that its caller may use.
 
 mod component;
+mod lawful;
+mod one_sector;
 mod order;
 mod reference;
 
 pub use component::{first_part_is_a_choice, parts_have_amounts};
+pub use lawful::lawful_in_words;
+pub use one_sector::best_of_one_sector;
 pub use order::{best_is_one, order_is_total};
 pub use reference::{circle_minimum_takes_each_end, no_reference_to_itself};

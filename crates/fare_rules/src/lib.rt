@@ -12,8 +12,8 @@ mod unit_sheet;
 pub use amount::Amount;
 pub use broken::Broken;
 pub use laws::{
-    best_is_one, circle_minimum_takes_each_end, first_part_is_a_choice, no_reference_to_itself,
-    order_is_total, parts_have_amounts,
+    best_is_one, best_of_one_sector, circle_minimum_takes_each_end, first_part_is_a_choice,
+    lawful_in_words, no_reference_to_itself, order_is_total, parts_have_amounts,
 };
 pub use miles::{Mileage, Miles};
 pub use part::Part;

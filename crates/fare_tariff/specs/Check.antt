@@ -7,6 +7,7 @@ use Rattle.fare_codes.specs.declared.rule_id.RuleId.{RuleId}
 use Rattle.fare_codes.specs.declared.indicator.Indicator.{Indicator}
 use Rattle.fare_codes.specs.declared.day.Day.{Day}
 use Rattle.fare_codes.specs.declared.season.Season.{Season}
+use Rattle.fare_codes.specs.Day.{is_month_day}
 use Rattle.fare_codes.specs.Season.{season_holds}
 use Rattle.fare_tariff.specs.declared.record.Record.{Record}
 use Rattle.fare_tariff.specs.declared.record.Record.TheVariants as filed
@@ -112,10 +113,16 @@ is_zero_mileage _ = false
 abbrev pub is_out_of_limit : List Record → Bool
 is_out_of_limit earlier = nat_lt 400_001 (number_at (length earlier))
 
--- some month-day lies in both seasons: exactly where one of them holds the other's first day, since going back from a
--- day of both, day by day, the first of the two to begin is met within the other
+-- one of two seasons holds the other's first day: a test that is true exactly where some month-day lies in both
 abbrev pub seasons_overlap : Season → Season → Bool
 seasons_overlap a b = season_holds a b.first || season_holds b a.first
+
+-- some month-day lies in both seasons
+pub record ShareADay (a b : Season) : Type 0 where
+  pub on : List ℕ
+  pub is_a_day : is_month_day on ≡ true
+  pub in_first : season_holds a on ≡ true
+  pub in_second : season_holds b on ≡ true
 
 -- a record files a fare that has a key and whose season overlaps a season
 abbrev pub is_fare_over : FareKey → Season → Record → Bool

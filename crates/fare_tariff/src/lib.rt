@@ -19,6 +19,7 @@ mod pair_record;
 mod record;
 mod rule_record;
 mod same;
+mod seasons;
 mod terms;
 
 pub use check_fault::CheckFault;
@@ -35,4 +36,5 @@ pub use names::{Names, RuleList};
 pub use pair_record::PairRec;
 pub use record::Record;
 pub use rule_record::RuleRec;
+pub use seasons::overlap_is_a_shared_day;
 pub use terms::Terms;

@@ -1,2 +1,4 @@
 pub mod TripLemmas
 pub mod PieceLemmas
+pub mod JsonLemmas
+pub mod WrittenLemmas

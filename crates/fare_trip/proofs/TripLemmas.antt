@@ -39,7 +39,7 @@ made_of sale from sectors trip made =
     }
 
 -- no fault of two means no fault of the first and none of the second
-neither : (first second : Option TripFault) → option_or first second ≡ None → (first ≡ None) × (second ≡ None)
+pub neither : (first second : Option TripFault) → option_or first second ≡ None → (first ≡ None) × (second ≡ None)
 neither None second h = (refl, h)
 neither (Some fault) second h = absurd (cc)
 

@@ -3,8 +3,13 @@ pub use Rattle.fare_codes.specs.Day
 pub use Rattle.fare_codes.specs.Season
 pub use Rattle.fare_codes.specs.Words
 pub use Rattle.fare_codes.specs.Over
+pub use Rattle.serde_json.specs.Data
+pub use Rattle.serde_json.specs.Read
+pub use Rattle.serde_json.specs.View
 pub mod Itinerary
 pub mod Trip
 pub mod Steps
 pub mod ShortLine
 pub mod FaultText
+pub mod ItineraryText
+pub mod Written

@@ -4,13 +4,22 @@
 
 mod fault;
 mod fault_text;
+mod itinerary_text;
+mod members;
 mod pieces;
 mod place;
 mod sector;
 mod short_line;
+mod texts;
 mod trip;
+mod written;
 
 pub use fault::{Member, TripFault};
+pub use itinerary_text::{read_trip, trip_of};
 pub use sector::Sector;
 pub use short_line::read_short;
 pub use trip::Trip;
+pub use written::trip_text;
+
+#[cfg(test)]
+mod tests;

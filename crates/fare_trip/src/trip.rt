@@ -88,6 +88,13 @@ impl Trip {
         self.sectors.len()
     }
 
+    /// Its sectors, in order.
+    pub fn sectors(&self) -> &[Sector]
+        ensures { result.now ≡ self.now.sectors }
+    {
+        self.sectors.as_slice()
+    }
+
     /// A point of it: its first city at 0, else the city that the sector of the number reaches.
     pub fn point(&self, i: usize) -> City
         requires { i ≤ count self.now }

@@ -8,15 +8,9 @@ use crate::fare_key::FareKey;
 use crate::fare_record::FareRec;
 use crate::look_up::{city_in, currency_in, has_key, mpm_in, number_at, rule_in, tpm_in};
 use crate::record::Record;
-use crate::same::{same_cities, same_indicators, same_month_days, same_pairs};
+use crate::same::{same_cities, same_indicators, same_pairs};
+use crate::seasons::{same_seasons, seasons_overlap};
 use fare_codes::{City, Season};
-
-/// Whether two seasons have the same first and the same last day.
-fn same_seasons(a: &Season, b: &Season) -> bool
-    ensures { result ≡ same_season a.now b.now }
-{
-    same_month_days(a.first, b.first) && same_month_days(a.last, b.last)
-}
 
 /// The key of a filed fare without its season.
 fn key_of(fare: &FareRec) -> FareKey
@@ -97,13 +91,6 @@ pub(crate) fn duplicate_of(earlier: &[Record], one: &Record) -> Option<u32>
     ensures { result ≡ first_number (has_key_of one.now) earlier.now }
 {
     number_at(first_of_key(earlier, one))
-}
-
-/// Whether a season holds a day of another.
-fn seasons_overlap(a: &Season, b: &Season) -> bool
-    ensures { result ≡ seasons_overlap a.now b.now }
-{
-    a.holds(b.first) || b.holds(a.first)
 }
 
 /// Whether a record files a fare that has a key and whose season overlaps a season.

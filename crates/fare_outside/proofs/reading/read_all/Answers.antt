@@ -1,4 +1,4 @@
-use Rattle.std.proofs.Common.{◌≡◌, ◌≤◌, ◌+◌, ◌<◌, length, ◌++◌, [], append-nil, arith, take, length-append, length-take}
+use Rattle.std.proofs.Common.{◌≤◌, ◌+◌, length, ◌++◌, arith, take, length-append, length-take}
 use Rattle.std.proofs.KnownBytes.{Consumes-trans}
 use Rattle.fare_outside.proofs.reading.read_all.Goals as goal
 

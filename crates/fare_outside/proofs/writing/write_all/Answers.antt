@@ -1,4 +1,4 @@
-use Rattle.std.proofs.Common.{take, arith, take-add, length-drop}
+use Rattle.std.proofs.Common.{arith, take-add, length-drop}
 use Rattle.std.proofs.KnownBytes.{Appends-trans}
 use Rattle.fare_outside.proofs.Pieces.{slice-end}
 use Rattle.fare_outside.proofs.writing.write_all.Goals as goal

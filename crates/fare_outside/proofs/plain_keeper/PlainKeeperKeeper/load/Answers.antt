@@ -1,4 +1,4 @@
-use Rattle.std.proofs.Common.{refl, arith}
+use Rattle.std.proofs.Common.{refl}
 use Rattle.fare_outside.proofs.plain_keeper.PlainKeeperKeeper.load.Goals as goal
 
 pub overflow_sub-place : goal.overflow_sub-place

@@ -1,0 +1,2 @@
+pub mod Cities
+pub mod Search

@@ -1,0 +1,3 @@
+pub use Rattle.fare_trip.specs.Itinerary
+pub use Rattle.fare_tariff.specs.Tariff
+pub use Rattle.fare_rules.specs.Mileage

@@ -1,0 +1,9 @@
+pub use Rattle.fare_trip.specs.Itinerary
+pub use Rattle.fare_tariff.specs.Record
+pub use Rattle.fare_tariff.specs.Tariff
+pub use Rattle.fare_rules.specs.Span
+pub use Rattle.fare_rules.specs.Indicator
+pub use Rattle.fare_rules.specs.Reference
+pub use Rattle.fare_rules.specs.Base
+pub use Rattle.fare_rules.specs.Backhaul
+pub mod Improved

@@ -1,0 +1,117 @@
+ghost use Rattle.std.specs.Prelude.{◌≡◌, ◌<◌, ◌≤◌, ◌^◌, ◌*◌, IfSome, None, max, if◌then◌else◌};
+ghost use Rattle.fare_trip.specs.Itinerary.{count};
+ghost use Rattle.fare_rules.specs.Numbers.{greater};
+ghost use Rattle.fare_rules.specs.Span.{is_stopover};
+ghost use Rattle.fare_rules.specs.Backhaul.{reference_to, greatest_reference, minimum_above, backhaul};
+
+use crate::indicators::indicator;
+use crate::references::reference;
+use fare_codes::Nuc;
+use fare_tariff::{Edition, FareRec};
+use fare_trip::Trip;
+
+/// The reference from the start of a component to a point, on the day of the component's first sector.
+fn reference_to(edition: &Edition, trip: &Trip, a: usize, fare: &FareRec, j: usize) -> Option<Nuc>
+    requires rises { a < j }
+    requires ends { j ≤ count trip.now }
+    ensures value { result ≡ reference_to edition.now trip.now a fare.now j }
+    ensures bound { IfSome result (λ amount. amount < 10 ^ 9) }
+{
+    let ind = indicator(edition, trip, a, j);
+    let on = trip.sector(a + 1).day;
+    reference(edition, trip.point(a), trip.point(j), ind, fare, on)
+}
+
+/// The reference from the start of a component to a point, where that is a stopover.
+fn reference_to_stopover(
+    edition: &Edition,
+    trip: &Trip,
+    a: usize,
+    fare: &FareRec,
+    j: usize,
+) -> Option<Nuc>
+    requires rises { a < j }
+    requires ends { j ≤ count trip.now }
+    ensures value { result ≡ (if is_stopover trip.now j then reference_to edition.now trip.now a fare.now j else None) }
+    ensures bound { IfSome result (λ amount. amount < 10 ^ 9) }
+{
+    if trip.sector(j).stop {
+        reference_to(edition, trip, a, fare, j)
+    } else {
+        None
+    }
+}
+
+/// The greater of two amounts, of which either may be missing.
+fn greater(a: Option<Nuc>, b: Option<Nuc>) -> Option<Nuc>
+    requires first { IfSome a (λ amount. amount < 10 ^ 9) }
+    requires second { IfSome b (λ amount. amount < 10 ^ 9) }
+    ensures value { result ≡ greater a b }
+    ensures bound { IfSome result (λ amount. amount < 10 ^ 9) }
+{
+    match (a, b) {
+        (None, b) => b,
+        (Some(a), None) => Some(a),
+        (Some(a), Some(b)) => Some(greater_of(a, b)),
+    }
+}
+
+/// The greater of two amounts.
+fn greater_of(a: Nuc, b: Nuc) -> Nuc
+    ensures { result ≡ max a b }
+{
+    if a.hundredths() < b.hundredths() {
+        b
+    } else {
+        a
+    }
+}
+
+/// The greatest reference from the start of a component to an interior stopover.
+#[tactic(auto, using(crate::proofs::Ranges::greatest_next, crate::proofs::Ranges::greatest_none, crate::proofs::Ranges::greater_grouped), unfolding(fare_rules::specs::Backhaul::greatest_reference))]
+fn greatest_reference(
+    edition: &Edition,
+    trip: &Trip,
+    a: usize,
+    b: usize,
+    fare: &FareRec,
+) -> Option<Nuc>
+    requires rises { a < b }
+    requires ends { b ≤ count trip.now }
+    ensures value { result ≡ greatest_reference edition.now trip.now a b fare.now }
+    ensures bound { IfSome result (λ amount. amount < 10 ^ 9) }
+{
+    let mut greatest = None;
+    for j in a + 1..b {
+        greatest = greater(greatest, reference_to_stopover(edition, trip, a, fare, j));
+    }
+    greatest
+}
+
+/// The minimum of a lower and a higher amount: the higher one and their difference; nothing where it isn't higher.
+fn minimum_above(low: Nuc, high: Nuc) -> Option<Nuc>
+    requires low { low < 10 ^ 9 }
+    requires high { high < 10 ^ 9 }
+    ensures value { result ≡ minimum_above low high }
+    ensures bound { IfSome result (λ minimum. minimum < 2 * 10 ^ 9) }
+{
+    let (low, high) = (low.hundredths(), high.hundredths());
+    if low < high {
+        Some(Nuc::new(high + (high - low)))
+    } else {
+        None
+    }
+}
+
+/// The backhaul minimum of a one way fare from point `a` to point `b`: where a reference from `a` to an interior stopover is
+/// above the fare's amount, the greatest one and its difference from the amount; nothing exactly where none is above it.
+#[tactic(auto, unfolding(fare_rules::specs::Backhaul::backhaul))]
+pub fn backhaul(edition: &Edition, trip: &Trip, a: usize, b: usize, fare: &FareRec) -> Option<Nuc>
+    requires rises { a < b }
+    requires ends { b ≤ count trip.now }
+    ensures value { result ≡ backhaul edition.now trip.now a b fare.now }
+    ensures bound { IfSome result (λ minimum. minimum < 2 * 10 ^ 9) }
+{
+    let high = greatest_reference(edition, trip, a, b, fare)?;
+    minimum_above(fare.amount, high)
+}

@@ -1,0 +1,17 @@
+//! What a span of a trip asks of an edition: the places, the global indicator of its sectors, the fares that a fare is
+//! compared with, and what they make of it: a higher intermediate point and a backhaul minimum. No call takes memory.
+#![tactic(auto)]
+
+mod backhauls;
+mod comparison;
+mod crossings;
+mod highers;
+mod indicators;
+mod places;
+mod references;
+
+pub use backhauls::backhaul;
+pub use highers::higher;
+pub use indicators::{indicator, indicator_of};
+pub use places::placed;
+pub use references::{every_carrier, reference};
