@@ -1,4 +1,4 @@
-ghost use Rattle.std.specs.Prelude.{◌≡◌, ◌↔◌, true, List, ℕ, IsTrue};
+ghost use Rattle.std.specs.Prelude.{◌≡◌, ◌↔◌, true, List, ℕ, IsTrue, codes};
 ghost use Rattle.fare_codes.specs.Codes.{is_carrier, read_carrier};
 
 use crate::texts::{all_code_characters, ascii_text};
@@ -54,6 +54,8 @@ impl Carrier {
 
 /// `AA`, which stands in room that is not yet used.
 impl Default for Carrier {
+    ghost is_default = { λ c. c ≡ codes "AA" };
+
     fn default() -> Carrier {
         Carrier { letters: *b"AA" }
     }

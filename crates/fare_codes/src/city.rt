@@ -1,4 +1,4 @@
-ghost use Rattle.std.specs.Prelude.{◌≡◌, ◌↔◌, true, List, ℕ, IsTrue};
+ghost use Rattle.std.specs.Prelude.{◌≡◌, ◌↔◌, true, List, ℕ, IsTrue, codes};
 ghost use Rattle.fare_codes.specs.Codes.{is_city, read_city};
 
 use crate::texts::{all_uppercase, ascii_text};
@@ -54,6 +54,8 @@ impl City {
 
 /// `AAA`, which stands in room that is not yet used.
 impl Default for City {
+    ghost is_default = { λ c. c ≡ codes "AAA" };
+
     fn default() -> City {
         City { letters: *b"AAA" }
     }

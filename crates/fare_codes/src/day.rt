@@ -1,4 +1,4 @@
-ghost use Rattle.std.specs.Prelude.{◌≡◌, ◌↔◌, ◌<◌, ◌≤◌, true, IsTrue, IfSome, length, pos, if◌then◌else◌};
+ghost use Rattle.std.specs.Prelude.{◌≡◌, ◌↔◌, ◌<◌, ◌≤◌, true, IsTrue, codes, IfSome, length, pos, if◌then◌else◌};
 ghost use Rattle.fare_codes.specs.Day.{is_day, read_day, day_number, calendar_number, has_day_shape, year_of, is_civil, month_day_of};
 
 use crate::calendar::{day_number_of, has_two_digits, two_digits_at};
@@ -88,6 +88,8 @@ impl Day {
 
 /// 1970-01-01, which stands in room that is not yet used.
 impl Default for Day {
+    ghost is_default = { λ c. c ≡ codes "1970-01-01" };
+
     #[tactic(auto, unfolding(crate::specs::Day::has_day_shape, crate::specs::Day::is_civil, crate::specs::Day::day_number, crate::specs::Day::days_since_1970, jiff_core::specs::Calendar::days_of_months))]
     fn default() -> Day {
         Day {

@@ -2,6 +2,6 @@ pub mod Streaming
 pub mod FieldAt
 pub mod PlainLines
 mod RowExamples
-pub mod NumberLemmas
-pub mod NumberTexts
+pub mod RangeLemmas
+pub mod NameLemmas
 pub mod RecordsLemmas

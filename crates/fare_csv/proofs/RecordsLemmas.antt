@@ -5,7 +5,7 @@ use Rattle.std.specs.Str.{bytes_eq}
 use Rattle.std.proofs.lemmas.List.{append-nil}
 use Rattle.fare_tariff.specs.declared.record.Record.{Record}
 use Rattle.fare_csv.specs.declared.text_fault.TextFault.{TextFault}
-use Rattle.fare_csv.specs.declared.text_fault.TextFault.TheVariants.{Memory, NoHeader, UnknownRecord, BadRecord, AfterEnd, NoEnd}
+use Rattle.fare_csv.specs.declared.text_fault.TextFault.TheVariants.{Memory, NoHeader, UnknownRecord, BadRecord, AfterEnd, NoEnd, Check}
 use Rattle.fare_csv.specs.declared.version.Version.{Version}
 use Rattle.fare_csv.specs.Rows.{Fields}
 use Rattle.fare_csv.specs.Fields.{◌>>=◌, Gives, GivesFault, field}
@@ -38,6 +38,7 @@ fault-followed front (UnknownRecord n) first others h = rw h refl
 fault-followed front (BadRecord n f) first others h = rw h refl
 fault-followed front (AfterEnd n) first others h = rw h refl
 fault-followed front (NoEnd n) first others h = rw h refl
+fault-followed front (Check n kind) first others h = rw h refl
 
 -- and so is that of END
 pub fault-ended : (front : List Record) (fault : TextFault) (end : Result (Unit {0}) TextFault)
@@ -49,6 +50,7 @@ fault-ended front (UnknownRecord n) end h = rw h refl
 fault-ended front (BadRecord n f) end h = rw h refl
 fault-ended front (AfterEnd n) end h = rw h refl
 fault-ended front (NoEnd n) end h = rw h refl
+fault-ended front (Check n kind) end h = rw h refl
 
 -- END gives the records that were read
 pub behind-ended : (front : List Record) → behind front (ended_by (Ok tt)) ≡ Ok front

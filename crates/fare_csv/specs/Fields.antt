@@ -2,7 +2,7 @@
 use Rattle.std.specs.Prelude.{ℕ, ◌≡◌, ⊤, List, [], length, slice_index_or, Option, Result, Ok, Err, ◌==◌, if◌then◌else◌}
 use Rattle.std.specs.Option.{ok_or}
 use Rattle.fare_csv.specs.declared.text_fault.TextFault.{TextFault}
-use Rattle.fare_csv.specs.declared.text_fault.TextFault.TheVariants.{Memory, NoHeader, UnknownRecord, BadRecord, AfterEnd, NoEnd}
+use Rattle.fare_csv.specs.declared.text_fault.TextFault.TheVariants.{Memory, NoHeader, UnknownRecord, BadRecord, AfterEnd, NoEnd, Check}
 use Rattle.fare_csv.specs.Rows.{Fields}
 
 -- a reading, and then one that needs its value: the first fault counts
@@ -31,6 +31,7 @@ GivesFault (UnknownRecord n) reading = reading ≡ Err (UnknownRecord n)
 GivesFault (BadRecord n f) reading = reading ≡ Err (BadRecord n f)
 GivesFault (AfterEnd n) reading = reading ≡ Err (AfterEnd n)
 GivesFault (NoEnd n) reading = reading ≡ Err (NoEnd n)
+GivesFault (Check n kind) reading = reading ≡ Err (Check n kind)
 
 -- a call that may want memory gives what a reading gives, seen through a view
 unfoldable pub Gives : {A B : Type 0} → (A → B) → Result A TextFault → Result B TextFault → Type 0

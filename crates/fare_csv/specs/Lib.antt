@@ -5,6 +5,9 @@ pub mod Written
 pub mod Numbers
 pub mod Fields
 pub mod Head
+pub mod RecordKind
 pub mod RecordText
+pub mod CheckedFault
 pub mod TariffText
 pub mod Filed
+pub mod NameList

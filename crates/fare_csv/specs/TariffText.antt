@@ -1,16 +1,22 @@
 -- A tariff text: HEAD, then records of the seven other kinds in any order, then END.
-use Rattle.std.specs.Prelude.{ℕ, ◌+◌, List, [], ◌∷◌, Result, Ok, Err, codes, min, if◌then◌else◌}
+use Rattle.std.specs.Prelude.{ℕ, ◌+◌, List, [], ◌∷◌, Option, Some, None, Result, Ok, Err, codes, min, if◌then◌else◌}
 use Rattle.std.specs.Str.{bytes_eq}
 use Rattle.fare_tariff.specs.declared.record.Record.{Record}
 use Rattle.fare_tariff.specs.declared.record.Record.TheVariants as filed
 use Rattle.fare_tariff.specs.Tariff.{Tariff}
+use Rattle.fare_tariff.specs.Check.{check_edition}
+use Rattle.fare_tariff.specs.declared.check_fault.CheckFault.{CheckFault}
 use Rattle.fare_csv.specs.declared.text_fault.TextFault.{TextFault}
 use Rattle.fare_csv.specs.declared.text_fault.TextFault.TheVariants.{NoHeader, UnknownRecord, AfterEnd, NoEnd}
 use Rattle.fare_csv.specs.declared.version.Version.{Version}
-use Rattle.fare_csv.specs.Rows.{Fields}
+use Rattle.fare_csv.specs.declared.record_kind.RecordKind.{RecordKind}
+use Rattle.fare_csv.specs.declared.record_kind.RecordKind.TheVariants as kind
+use Rattle.fare_csv.specs.RecordKind.{kind_named}
+use Rattle.fare_csv.specs.CheckedFault.{checked_fault}
+use Rattle.fare_csv.specs.Rows.{Fields, rows_of}
 use Rattle.fare_csv.specs.Fields.{◌>>=◌, field, counted}
 use Rattle.fare_csv.specs.Head.{head_of}
-use Rattle.fare_csv.specs.RecordText.{allowance_of, city_of, currency_of, mileage_of, pair_of}
+use Rattle.fare_csv.specs.RecordText.{allowance_of, city_of, currency_of, fare_of, mileage_of, pair_of, rule_of}
 
 -- the number of the record behind another; a u32 stays at its last value
 abbrev pub number_after : ℕ → ℕ
@@ -20,15 +26,20 @@ number_after number = min (number + 1) 4_294_967_295
 abbrev pub filed_as : {A : Type 0} → (A → Record) → Result A TextFault → Result Record TextFault
 filed_as kind reading = reading >>= (λ one. Ok (kind one))
 
--- the record that the fields of a row spell, by its first
+-- a record of a kind, from the fields of its row
+unfoldable pub record_of_kind : Version → ℕ → Fields → Option RecordKind → Result Record TextFault
+record_of_kind version number fields None = Err (UnknownRecord number)
+record_of_kind version number fields (Some kind.City) = filed_as filed.City (city_of number fields)
+record_of_kind version number fields (Some kind.Cur) = filed_as filed.Cur (currency_of number fields)
+record_of_kind version number fields (Some kind.Rule) = filed_as filed.Rule (rule_of number fields)
+record_of_kind version number fields (Some kind.Fare) = filed_as filed.Fare (fare_of version number fields)
+record_of_kind version number fields (Some kind.Mpm) = filed_as filed.Mpm (mileage_of number fields)
+record_of_kind version number fields (Some kind.Tpm) = filed_as filed.Tpm (pair_of number fields)
+record_of_kind version number fields (Some kind.Ema) = filed_as filed.Ema (allowance_of number fields)
+
+-- the record that the fields of a row spell, by the first
 unfoldable pub record_of : Version → ℕ → Fields → Result Record TextFault
-record_of version number fields =
-    if bytes_eq (field fields 0) (codes "CUR") then filed_as filed.Cur (currency_of number fields)
-    else (if bytes_eq (field fields 0) (codes "CITY") then filed_as filed.City (city_of number fields)
-    else (if bytes_eq (field fields 0) (codes "MPM") then filed_as filed.Mpm (mileage_of number fields)
-    else (if bytes_eq (field fields 0) (codes "TPM") then filed_as filed.Tpm (pair_of number fields)
-    else (if bytes_eq (field fields 0) (codes "EMA") then filed_as filed.Ema (allowance_of number fields)
-    else Err (UnknownRecord number)))))
+record_of version number fields = record_of_kind version number fields (kind_named (field fields 0))
 
 -- nothing stands after END
 unfoldable pub nothing_after : ℕ → List Fields → Result (Unit {0}) TextFault
@@ -72,3 +83,14 @@ headed row rows = do
 unfoldable pub tariff_of : List Fields → Result Tariff TextFault
 tariff_of [] = Err NoHeader
 tariff_of (row ∷ rows) = if bytes_eq (field row 0) (codes "HEAD") then headed row rows else Err NoHeader
+
+-- an edition, or the fault of its check as that of a text
+abbrev pub checked : Result Tariff CheckFault → Result Tariff TextFault
+checked (Ok tariff) = Ok tariff
+checked (Err fault) = Err (checked_fault fault)
+
+-- the edition that a text stands for: what its rows spell, where the records have a place beside one another
+unfoldable pub edition_of : List ℕ → Result Tariff TextFault
+edition_of text = do
+  tariff ← tariff_of (rows_of text)
+  checked (check_edition tariff.number tariff.effective tariff.records)

@@ -1,9 +1,9 @@
 //! The first record of a text.
 
-ghost use Rattle.std.specs.Prelude.{◌≡◌, ◌≤◌, IfOk};
+ghost use Rattle.std.specs.Prelude.{◌≡◌, ◌<◌, ◌≤◌, IfOk};
 ghost use Rattle.fare_csv.specs.Head.{head_of, read_version};
 
-use crate::numbers::read_number;
+use crate::numbers::read_edition_number;
 use crate::read_record::counted;
 use crate::rows::Row;
 use crate::text_fault::TextFault;
@@ -33,11 +33,11 @@ fn read_version(bytes: &[u8]) -> Option<Version>
 #[tactic(auto, unfolding(crate::specs::Head::head_of))]
 pub(crate) fn read_head(row: &Row) -> Result<Head, TextFault>
     ensures value { result ≡ head_of row.now }
-    ensures range { IfOk result (λ head. (1 ≤ head.number) × (head.number ≤ 99_999)) }
+    ensures range { IfOk result (λ head. (0 < head.number) × (head.number ≤ 99_999)) }
 {
     counted(row, 1, 4)?;
     let version = read_version(row.field(1)).ok_or(TextFault::BadRecord(1, 2))?;
-    let number = read_number(row.field(2), 1, 99_999).ok_or(TextFault::BadRecord(1, 3))?;
+    let number = read_edition_number(row.field(2)).ok_or(TextFault::BadRecord(1, 3))?;
     let effective = Day::read(row.field(3)).ok_or(TextFault::BadRecord(1, 4))?;
     Ok(Head {
         version,

@@ -4,10 +4,10 @@ ghost use Rattle.std.specs.Prelude.{◌≡◌};
 ghost use Rattle.fare_csv.specs.Fields.{counted};
 ghost use Rattle.fare_csv.specs.RecordText.{allowance_of, city_of, currency_of, mileage_of, pair_of, read_via};
 
-use crate::numbers::{read_number, read_rate};
+use crate::numbers::{read_roe, read_unit};
 use crate::rows::Row;
 use crate::text_fault::TextFault;
-use fare_codes::{Area, City, Country, Currency, Indicator, Mode};
+use fare_codes::{Area, City, Country, Currency, Indicator, Mode, read_number};
 use fare_tariff::{CityRec, CurRec, EmaRec, MileRec, PairRec};
 
 /// Refuses a row that has another count of fields.
@@ -46,9 +46,9 @@ pub(crate) fn read_currency(row: &Row, number: u32) -> Result<CurRec, TextFault>
     counted(row, number, 7)?;
     let country = Country::read(row.field(1)).ok_or(TextFault::BadRecord(number, 2))?;
     let currency = Currency::read(row.field(2)).ok_or(TextFault::BadRecord(number, 3))?;
-    let roe = read_rate(row.field(3)).ok_or(TextFault::BadRecord(number, 4))?;
-    let decimals = read_number(row.field(4), 0, 2).ok_or(TextFault::BadRecord(number, 5))?;
-    let unit = read_number(row.field(5), 1, 10_000).ok_or(TextFault::BadRecord(number, 6))?;
+    let roe = read_roe(row.field(3)).ok_or(TextFault::BadRecord(number, 4))?;
+    let decimals = read_number(row.field(4), 2).ok_or(TextFault::BadRecord(number, 5))?;
+    let unit = read_unit(row.field(5)).ok_or(TextFault::BadRecord(number, 6))?;
     let mode = Mode::read(row.field(6)).ok_or(TextFault::BadRecord(number, 7))?;
     Ok(CurRec {
         country,
@@ -69,7 +69,7 @@ pub(crate) fn read_mileage(row: &Row, number: u32) -> Result<MileRec, TextFault>
     let from = City::read(row.field(1)).ok_or(TextFault::BadRecord(number, 2))?;
     let to = City::read(row.field(2)).ok_or(TextFault::BadRecord(number, 3))?;
     let ind = Indicator::read(row.field(3)).ok_or(TextFault::BadRecord(number, 4))?;
-    let miles = read_number(row.field(4), 0, 99_999).ok_or(TextFault::BadRecord(number, 5))?;
+    let miles = read_number(row.field(4), 99_999).ok_or(TextFault::BadRecord(number, 5))?;
     Ok(MileRec {
         from,
         to,
@@ -86,7 +86,7 @@ pub(crate) fn read_pair(row: &Row, number: u32) -> Result<PairRec, TextFault>
     counted(row, number, 4)?;
     let from = City::read(row.field(1)).ok_or(TextFault::BadRecord(number, 2))?;
     let to = City::read(row.field(2)).ok_or(TextFault::BadRecord(number, 3))?;
-    let miles = read_number(row.field(3), 0, 99_999).ok_or(TextFault::BadRecord(number, 4))?;
+    let miles = read_number(row.field(3), 99_999).ok_or(TextFault::BadRecord(number, 4))?;
     Ok(PairRec { from, to, miles })
 }
 
@@ -111,7 +111,7 @@ pub(crate) fn read_allowance(row: &Row, number: u32) -> Result<EmaRec, TextFault
     let to = City::read(row.field(2)).ok_or(TextFault::BadRecord(number, 3))?;
     let ind = Indicator::read(row.field(3)).ok_or(TextFault::BadRecord(number, 4))?;
     let via = read_via(row.field(4)).ok_or(TextFault::BadRecord(number, 5))?;
-    let miles = read_number(row.field(5), 0, 99_999).ok_or(TextFault::BadRecord(number, 6))?;
+    let miles = read_number(row.field(5), 99_999).ok_or(TextFault::BadRecord(number, 6))?;
     Ok(EmaRec {
         from,
         to,

@@ -1,15 +1,18 @@
 //! The records of a text, row by row.
 
-ghost use Rattle.std.specs.Prelude.{◌≡◌, [], ◌∷◌, ◌≤◌, IfOk, Ok, codes, bytes_eq};
+ghost use Rattle.std.specs.Prelude.{◌≡◌, [], ◌∷◌, ◌<◌, ◌≤◌, IfOk, Ok, codes, bytes_eq};
 ghost use Rattle.fare_csv.specs.Fields.{Gives, field};
 ghost use Rattle.fare_csv.specs.TariffText.{end_of, record_of, records_of, tariff_of};
 ghost use Rattle.fare_csv.specs.Filed.{filed_tariff};
 ghost use Rattle.fare_csv.specs.Rows.{rows_of};
 
 use crate::head::read_head;
+use crate::read_fare::read_fare;
 use crate::read_record::{
     counted, read_allowance, read_city, read_currency, read_mileage, read_pair,
 };
+use crate::read_rule::read_rule;
+use crate::record_kind::RecordKind;
 use crate::rows::{Row, Rows};
 use crate::text_fault::TextFault;
 use crate::version::Version;
@@ -18,17 +21,21 @@ use fare_tariff::Record;
 use std::alloc::Global;
 
 /// The record of a row that isn't END, by its first field.
-#[tactic(auto, unfolding(crate::specs::TariffText::record_of, crate::specs::Fields::Gives, crate::specs::Fields::GivesFault))]
-fn read_record(row: &Row, version: Version, number: u32) -> Result<Record, TextFault>
+#[tactic(auto, unfolding(crate::specs::TariffText::record_of, crate::specs::TariffText::record_of_kind, crate::specs::Fields::Gives, crate::specs::Fields::GivesFault))]
+fn read_record(alloc: Global, row: &Row, version: Version, number: u32) -> Result<Record, TextFault>
     ensures { Gives (λ one. one) result (record_of version number row.now) }
 {
-    match row.field(0) {
-        b"CUR" => Ok(Record::Cur(read_currency(row, number)?)),
-        b"CITY" => Ok(Record::City(read_city(row, number)?)),
-        b"MPM" => Ok(Record::Mpm(read_mileage(row, number)?)),
-        b"TPM" => Ok(Record::Tpm(read_pair(row, number)?)),
-        b"EMA" => Ok(Record::Ema(read_allowance(row, number)?)),
-        _ => Err(TextFault::UnknownRecord(number)),
+    let Some(kind) = RecordKind::named(row.field(0)) else {
+        return Err(TextFault::UnknownRecord(number));
+    };
+    match kind {
+        RecordKind::City => Ok(Record::City(read_city(row, number)?)),
+        RecordKind::Cur => Ok(Record::Cur(read_currency(row, number)?)),
+        RecordKind::Rule => Ok(Record::Rule(read_rule(alloc, row, number)?)),
+        RecordKind::Fare => Ok(Record::Fare(read_fare(row, version, number)?)),
+        RecordKind::Mpm => Ok(Record::Mpm(read_mileage(row, number)?)),
+        RecordKind::Tpm => Ok(Record::Tpm(read_pair(row, number)?)),
+        RecordKind::Ema => Ok(Record::Ema(read_allowance(row, number)?)),
     }
 }
 
@@ -53,11 +60,7 @@ fn read_end(rows: &mut Rows, row: &mut Row, number: u32) -> Result<(), TextFault
 
 /// The records between HEAD and END.
 #[tactic(auto, unfolding(crate::specs::Fields::Gives, crate::specs::Fields::GivesFault))]
-fn read_records(
-    alloc: Global,
-    rows: &mut Rows,
-    version: Version,
-) -> Result<Vec<Record>, TextFault>
+fn read_records(alloc: Global, rows: &mut Rows, version: Version) -> Result<Vec<Record>, TextFault>
     ensures { Gives (λ records. records.items) result (records_of version 2 rows.old) }
 {
     let mut records = Vec::new(alloc);
@@ -68,7 +71,7 @@ fn read_records(
             read_end(rows, &mut row, number)?;
             return Ok(records);
         }
-        records.push(read_record(&row, version, number)?)?;
+        records.push(read_record(alloc, &row, version, number)?)?;
         number = number.saturating_add(1);
     }
     Err(TextFault::NoEnd(number))
@@ -93,7 +96,7 @@ fn is_head(row: &Row) -> bool
 #[tactic(auto, unfolding(crate::specs::Fields::Gives, crate::specs::Fields::GivesFault, crate::specs::TariffText::headed, crate::specs::TariffText::tariff_of))]
 pub(crate) fn read_filed(alloc: Global, bytes: &[u8]) -> Result<Filed, TextFault>
     ensures reading { Gives filed_tariff result (tariff_of (rows_of bytes.now)) }
-    ensures range { IfOk result (λ filed. (1 ≤ filed.number) × (filed.number ≤ 99_999)) }
+    ensures range { IfOk result (λ filed. (0 < filed.number) × (filed.number ≤ 99_999)) }
 {
     let mut rows = Rows::new(alloc, bytes);
     let mut row = Row::new(alloc);

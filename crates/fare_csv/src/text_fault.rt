@@ -3,6 +3,8 @@
 ghost use Rattle.std.specs.Prelude.{◌≡◌};
 ghost use Rattle.fare_csv.specs.declared.text_fault.TextFault.TheVariants.{Memory};
 
+use fare_outside::NoMemory;
+use fare_tariff::{CheckFault, CheckKind};
 use std::alloc::{AllocError, AllocFailed};
 
 /// Why a text is no edition. Record numbers count the rows of the text from 1, and stay at the last
@@ -22,6 +24,9 @@ pub enum TextFault {
     AfterEnd(u32),
     /// There is no END: the number behind the last record's.
     NoEnd(u32),
+    /// The text spells records, of which the one of this number is the first that has no place in
+    /// an edition, and why.
+    Check(u32, CheckKind),
 }
 
 impl From<AllocError> for TextFault {
@@ -29,6 +34,29 @@ impl From<AllocError> for TextFault {
 
     fn from(_: AllocError) -> TextFault {
         TextFault::Memory
+    }
+}
+
+impl From<NoMemory> for TextFault {
+    ghost from_gives = { λ _ fault. fault ≡ Memory };
+
+    fn from(_: NoMemory) -> TextFault {
+        TextFault::Memory
+    }
+}
+
+/// The fault of a record among the others keeps its number and kind.
+impl From<CheckFault> for TextFault {
+    ghost use Rattle.std.specs.Prelude.{◌≡◌};
+    ghost use Rattle.fare_csv.specs.CheckedFault.{checked_fault};
+
+    ghost from_gives = { λ check fault. fault ≡ checked_fault check };
+
+    fn from(fault: CheckFault) -> TextFault {
+        match fault {
+            CheckFault::Memory => TextFault::Memory,
+            CheckFault::At { number, kind } => TextFault::Check(number, kind),
+        }
     }
 }
 

@@ -5,6 +5,7 @@ pub mod Cases
 pub mod WorkedMiles
 pub mod WorkedPrices
 pub mod BrokenRules
+pub mod SampledPrices
 pub mod NumberLemmas
 pub mod OrderLemmas
 pub mod LawfulLemmas
@@ -18,3 +19,6 @@ pub mod FirstPartLemmas
 pub mod RuleLemmas
 pub mod OneSectorLemmas
 pub mod CheapestLemmas
+pub mod PriceLemmas
+pub mod TotalLemmas
+pub mod FreeLemmas

@@ -25,4 +25,5 @@ pub mod Best
 pub mod Completion
 pub mod FirstK
 pub mod OneSector
+pub mod Free
 pub mod Valid
