@@ -1,6 +1,9 @@
-pub mod Tests
+pub mod SameTexts
 pub mod Scans
 pub mod Faults
 pub mod Validity
 pub mod CheckExamples
 pub mod SharedDays
+pub mod Found
+pub mod FoundFares
+pub mod FoundOptions

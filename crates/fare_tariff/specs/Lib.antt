@@ -5,3 +5,4 @@ pub mod Record
 pub mod Tariff
 pub mod Lookup
 pub mod Check
+pub mod Filed

@@ -1,5 +1,5 @@
 ghost use Rattle.std.specs.Prelude.{◌≡◌, ◌<◌, ◌≤◌, length};
-ghost use Rattle.fare_tariff.specs.Check.{Gives, check_edition};
+ghost use Rattle.fare_tariff.specs.Check.{Gives, IsEdition, check_edition};
 
 use crate::check::first_fault;
 use crate::check_fault::CheckFault;
@@ -71,6 +71,7 @@ impl Edition {
     #[tactic(auto, using(crate::proofs::Validity::length_in_limit))]
     pub fn records(&self) -> &[Record]
         ensures records { result.now ≡ self.now.records }
+        ensures valid { IsEdition self.now.number self.now.records }
         ensures in_limit { length result.now ≤ 400_000 }
     {
         self.records.as_slice()

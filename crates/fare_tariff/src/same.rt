@@ -6,7 +6,7 @@ ghost use Rattle.fare_tariff.specs.Lookup.{same_indicator, same_cabin, same_kind
 use fare_codes::{Cabin, Carrier, City, Country, Indicator, Kind, MonthDay, RuleId};
 
 /// Whether two cities are the same.
-#[tactic(auto, using(crate::proofs::Tests::same_text))]
+#[tactic(auto, using(crate::proofs::SameTexts::same_text))]
 pub(crate) fn same_cities(a: City, b: City) -> bool
     ensures { result ≡ bytes_eq a b }
 {
@@ -14,7 +14,7 @@ pub(crate) fn same_cities(a: City, b: City) -> bool
 }
 
 /// Whether two countries are the same.
-#[tactic(auto, using(crate::proofs::Tests::same_text))]
+#[tactic(auto, using(crate::proofs::SameTexts::same_text))]
 pub(crate) fn same_countries(a: Country, b: Country) -> bool
     ensures { result ≡ bytes_eq a b }
 {
@@ -22,7 +22,7 @@ pub(crate) fn same_countries(a: Country, b: Country) -> bool
 }
 
 /// Whether two carriers are the same.
-#[tactic(auto, using(crate::proofs::Tests::same_text))]
+#[tactic(auto, using(crate::proofs::SameTexts::same_text))]
 pub(crate) fn same_carriers(a: Carrier, b: Carrier) -> bool
     ensures { result ≡ bytes_eq a b }
 {
@@ -30,7 +30,7 @@ pub(crate) fn same_carriers(a: Carrier, b: Carrier) -> bool
 }
 
 /// Whether two rules are the same.
-#[tactic(auto, using(crate::proofs::Tests::same_text))]
+#[tactic(auto, using(crate::proofs::SameTexts::same_text))]
 pub(crate) fn same_ids(a: RuleId, b: RuleId) -> bool
     ensures { result ≡ bytes_eq a b }
 {

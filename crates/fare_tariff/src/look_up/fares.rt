@@ -1,7 +1,8 @@
 //! Fares, by their record numbers and their keys.
 
-ghost use Rattle.std.specs.Prelude.{◌≡◌, ◌-◌, ◌<◌, ◌≤◌, length, nat_le, IfSome, option_map, option_and_then, position, slice_get, if◌then◌else◌, None};
+ghost use Rattle.std.specs.Prelude.{◌≡◌, ◌-◌, ◌<◌, ◌≤◌, ◌^◌, length, nat_le, IfSome, OnSome, IsSomeAnd, option_map, option_and_then, position, slice_get, if◌then◌else◌, None};
 ghost use Rattle.std.specs.Option.{option_copied};
+ghost use Rattle.fare_tariff.specs.Filed.{IsFiledFare, IsFareOn, IsFareBetween};
 ghost use Rattle.fare_tariff.specs.Lookup.{fare_in, has_key, is_fare_on, is_fare_between, number_at, numbers_from, fare_number, fare_at, nth_fare};
 
 use crate::edition::Edition;
@@ -17,22 +18,28 @@ impl Edition {
     /// The record number of the fare with this key whose season holds a day; nothing means that no record has the key
     /// on that day.
     pub fn fare(&self, key: &FareKey, on: MonthDay) -> Option<u32>
-        ensures { result ≡ fare_number self.now key.now on }
+        ensures number { result ≡ fare_number self.now key.now on }
+        ensures filed { IfSome result (λ number. IsSomeAnd (fare_at self.now number) (IsFareOn key.now on)) }
     {
         fare_number(self.records(), key, on)
     }
 
     /// The fare that the record of a number files; nothing where it files none.
     pub fn fare_at(&self, number: u32) -> Option<&FareRec>
-        ensures { option_copied result ≡ fare_at self.now number }
+        ensures fare { option_copied result ≡ fare_at self.now number }
+        ensures filed { IfSome result (λ fare. IsFiledFare self.now fare.now) }
+        ensures in_limit { OnSome result (number ≤ 400_001) }
+        ensures in_range { IfSome result (λ fare. fare.now.amount < 10 ^ 9) }
     {
         fare_record(self.records(), number)
     }
 
     /// The record number of the `k`-th fare, from 0 and in the order of the records, from a city to another for an
-    /// indicator.
+    /// indicator; nothing where there are no more. There are at most 64.
     pub fn nth_fare(&self, from: City, to: City, ind: Indicator, k: u32) -> Option<u32>
-        ensures { result ≡ nth_fare self.now from to ind k }
+        ensures number { result ≡ nth_fare self.now from to ind k }
+        ensures filed { IfSome result (λ number. IsSomeAnd (fare_at self.now number) (IsFareBetween from to ind)) }
+        ensures few { OnSome result (k < 64) }
     {
         nth_fare_number(self.records(), from, to, ind, k)
     }
@@ -40,17 +47,22 @@ impl Edition {
 
 /// The fare that a record files, if any.
 fn fare_in(one: &Record) -> Option<&FareRec>
-    ensures { option_copied result ≡ fare_in one.now }
+    ensures fare { option_copied result ≡ fare_in one.now }
+    ensures in_range { IfSome result (λ fare. fare.now.amount < 10 ^ 9) }
 {
     match one {
-        Record::Fare(filed) => Some(filed),
+        Record::Fare(filed) => {
+            let _ = &filed.amount;
+            Some(filed)
+        }
         _ => None,
     }
 }
 
 /// The fare that the record of a number files.
 fn fare_record(records: &[Record], number: u32) -> Option<&FareRec>
-    ensures { option_copied result ≡ (if nat_le 2 number then option_and_then fare_in (slice_get records.now (number - 2)) else None) }
+    ensures fare { option_copied result ≡ (if nat_le 2 number then option_and_then fare_in (slice_get records.now (number - 2)) else None) }
+    ensures in_range { IfSome result (λ fare. fare.now.amount < 10 ^ 9) }
 {
     if number < 2 {
         return None;

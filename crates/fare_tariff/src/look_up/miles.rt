@@ -1,6 +1,6 @@
 //! Mileages of unordered pairs of cities.
 
-ghost use Rattle.std.specs.Prelude.{◌≡◌, bytes_eq};
+ghost use Rattle.std.specs.Prelude.{◌≡◌, ◌<◌, ◌≤◌, IfSome, bytes_eq};
 ghost use Rattle.std.specs.List.{list_any};
 ghost use Rattle.fare_tariff.specs.Lookup.{first_some, greatest, mpm_in, tpm_in, allowed_in, is_by_way_of, mpm, tpm, allowance};
 
@@ -13,14 +13,18 @@ impl Edition {
     /// The maximum permitted mileage of an unordered pair of cities and an indicator; nothing means that no record has
     /// them as its key.
     pub fn mpm(&self, a: City, b: City, ind: Indicator) -> Option<u32>
-        ensures { result ≡ mpm self.now a b ind }
+        ensures miles { result ≡ mpm self.now a b ind }
+        ensures above_zero { IfSome result (λ miles. 0 < miles) }
+        ensures in_range { IfSome result (λ miles. miles ≤ 99_999) }
     {
         permitted_miles(self.records(), a, b, ind)
     }
 
     /// The ticketed point mileage of an unordered pair of cities; nothing means that no record has it as its key.
     pub fn tpm(&self, a: City, b: City) -> Option<u32>
-        ensures { result ≡ tpm self.now a b }
+        ensures miles { result ≡ tpm self.now a b }
+        ensures above_zero { IfSome result (λ miles. 0 < miles) }
+        ensures in_range { IfSome result (λ miles. miles ≤ 99_999) }
     {
         ticketed_miles(self.records(), a, b)
     }
@@ -28,7 +32,8 @@ impl Edition {
     /// The greatest extra mileage allowance of an unordered pair of cities and an indicator that is filed for every way
     /// or by way of one of these cities; 0 where there is none.
     pub fn allowance(&self, a: City, b: City, ind: Indicator, via: &[City]) -> u32
-        ensures { result ≡ allowance self.now a b ind via.now }
+        ensures miles { result ≡ allowance self.now a b ind via.now }
+        ensures in_range { result ≤ 99_999 }
     {
         allowed_miles(self.records(), a, b, ind, via)
     }
@@ -36,7 +41,8 @@ impl Edition {
 
 /// The miles that a record permits between two cities for an indicator.
 pub(crate) fn mpm_in(a: City, b: City, ind: Indicator, one: &Record) -> Option<u32>
-    ensures { result ≡ mpm_in a b ind one.now }
+    ensures miles { result ≡ mpm_in a b ind one.now }
+    ensures in_range { IfSome result (λ miles. miles ≤ 99_999) }
 {
     match one {
         Record::Mpm(filed) => {
@@ -53,7 +59,8 @@ pub(crate) fn mpm_in(a: City, b: City, ind: Indicator, one: &Record) -> Option<u
 /// The maximum permitted mileage of an unordered pair of cities and an indicator.
 #[tactic(auto, using(crate::proofs::Scans::first_some_more, crate::proofs::Scans::first_some_all))]
 fn permitted_miles(records: &[Record], a: City, b: City, ind: Indicator) -> Option<u32>
-    ensures { result ≡ first_some (mpm_in a b ind) records.now }
+    ensures miles { result ≡ first_some (mpm_in a b ind) records.now }
+    ensures in_range { IfSome result (λ miles. miles ≤ 99_999) }
 {
     for one in records {
         if let Some(miles) = mpm_in(a, b, ind, one) {
@@ -65,7 +72,8 @@ fn permitted_miles(records: &[Record], a: City, b: City, ind: Indicator) -> Opti
 
 /// The ticketed point miles that a record files between two cities.
 pub(crate) fn tpm_in(a: City, b: City, one: &Record) -> Option<u32>
-    ensures { result ≡ tpm_in a b one.now }
+    ensures miles { result ≡ tpm_in a b one.now }
+    ensures in_range { IfSome result (λ miles. miles ≤ 99_999) }
 {
     match one {
         Record::Tpm(filed) => {
@@ -82,7 +90,8 @@ pub(crate) fn tpm_in(a: City, b: City, one: &Record) -> Option<u32>
 /// The ticketed point mileage of an unordered pair of cities.
 #[tactic(auto, using(crate::proofs::Scans::first_some_more, crate::proofs::Scans::first_some_all))]
 fn ticketed_miles(records: &[Record], a: City, b: City) -> Option<u32>
-    ensures { result ≡ first_some (tpm_in a b) records.now }
+    ensures miles { result ≡ first_some (tpm_in a b) records.now }
+    ensures in_range { IfSome result (λ miles. miles ≤ 99_999) }
 {
     for one in records {
         if let Some(miles) = tpm_in(a, b, one) {
@@ -111,7 +120,8 @@ fn is_among(city: City, cities: &[City]) -> bool
 
 /// The extra miles that a record allows between two cities for an indicator by way of some cities.
 fn allowed_in(a: City, b: City, ind: Indicator, cities: &[City], one: &Record) -> u32
-    ensures { result ≡ allowed_in a b ind cities.now one.now }
+    ensures miles { result ≡ allowed_in a b ind cities.now one.now }
+    ensures in_range { result ≤ 99_999 }
 {
     match one {
         Record::Ema(filed) => {
@@ -131,7 +141,8 @@ fn allowed_in(a: City, b: City, ind: Indicator, cities: &[City], one: &Record) -
 /// The greatest extra mileage allowance of an unordered pair of cities and an indicator by way of some cities.
 #[tactic(auto, using(crate::proofs::Scans::greatest_more, crate::proofs::Scans::greatest_all))]
 fn allowed_miles(records: &[Record], a: City, b: City, ind: Indicator, cities: &[City]) -> u32
-    ensures { result ≡ greatest (allowed_in a b ind cities.now) records.now }
+    ensures miles { result ≡ greatest (allowed_in a b ind cities.now) records.now }
+    ensures in_range { result ≤ 99_999 }
 {
     let mut most = 0;
     for one in records {

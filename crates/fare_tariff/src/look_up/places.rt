@@ -1,7 +1,9 @@
 //! Cities and the currencies of countries.
 
-ghost use Rattle.std.specs.Prelude.{◌≡◌};
+ghost use Rattle.std.specs.Prelude.{◌≡◌, IfSome};
 ghost use Rattle.std.specs.Option.{option_copied};
+ghost use Rattle.fare_tariff.specs.Record.{IsCurrency};
+ghost use Rattle.fare_tariff.specs.Filed.{IsFiledCity};
 ghost use Rattle.fare_tariff.specs.Lookup.{first_some, city_in, currency_in, city_record, currency_of};
 
 use crate::city_record::CityRec;
@@ -14,14 +16,16 @@ use fare_codes::{City, Country};
 impl Edition {
     /// The record of a city; nothing means that no record has it as its key.
     pub fn city(&self, c: City) -> Option<&CityRec>
-        ensures { option_copied result ≡ city_record self.now c }
+        ensures record { option_copied result ≡ city_record self.now c }
+        ensures filed { IfSome result (λ r. IsFiledCity self.now c r.now) }
     {
         city_record(self.records(), c)
     }
 
     /// The record of a country's currency; nothing means that no record has the country as its key.
     pub fn currency_of(&self, c: Country) -> Option<&CurRec>
-        ensures { option_copied result ≡ currency_of self.now c }
+        ensures record { option_copied result ≡ currency_of self.now c }
+        ensures in_range { IfSome result (λ r. IsCurrency r.now.roe r.now.decimals r.now.unit) }
     {
         currency_record(self.records(), c)
     }
@@ -58,7 +62,8 @@ pub(crate) fn city_record(records: &[Record], city: City) -> Option<&CityRec>
 
 /// The currency that a record files, where it is that of this country.
 pub(crate) fn currency_in(country: Country, one: &Record) -> Option<&CurRec>
-    ensures { option_copied result ≡ currency_in country one.now }
+    ensures record { option_copied result ≡ currency_in country one.now }
+    ensures in_range { IfSome result (λ r. IsCurrency r.now.roe r.now.decimals r.now.unit) }
 {
     match one {
         Record::Cur(filed) => {
@@ -75,7 +80,8 @@ pub(crate) fn currency_in(country: Country, one: &Record) -> Option<&CurRec>
 /// The currency of a country.
 #[tactic(auto, using(crate::proofs::Scans::first_some_more, crate::proofs::Scans::first_some_all))]
 pub(crate) fn currency_record(records: &[Record], country: Country) -> Option<&CurRec>
-    ensures { option_copied result ≡ first_some (currency_in country) records.now }
+    ensures record { option_copied result ≡ first_some (currency_in country) records.now }
+    ensures in_range { IfSome result (λ r. IsCurrency r.now.roe r.now.decimals r.now.unit) }
 {
     for one in records {
         if let Some(filed) = currency_in(country, one) {

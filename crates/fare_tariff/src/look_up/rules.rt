@@ -1,8 +1,9 @@
 //! Rules: their terms, and which may be combined.
 
-ghost use Rattle.std.specs.Prelude.{◌≡◌, option_map};
+ghost use Rattle.std.specs.Prelude.{◌≡◌, IfSome, option_map};
 ghost use Rattle.std.specs.Option.{option_copied};
 ghost use Rattle.std.specs.List.{list_any};
+ghost use Rattle.fare_tariff.specs.Filed.{AreInRange};
 ghost use Rattle.fare_tariff.specs.Lookup.{first_some, rule_in, rule_record, terms_of, free_terms, terms, lists, lists_in, same_rule, unit_names, end_names, unit_ok, ends_ok};
 
 use crate::edition::Edition;
@@ -16,7 +17,8 @@ use fare_codes::RuleId;
 impl Edition {
     /// The terms of a rule field; nothing means that the rule isn't filed.
     pub fn terms(&self, rule: Option<RuleId>) -> Option<Terms>
-        ensures { result ≡ terms self.now rule }
+        ensures terms { result ≡ terms self.now rule }
+        ensures in_range { IfSome result AreInRange }
     {
         match rule {
             None => Some(free_terms()),
@@ -26,7 +28,8 @@ impl Edition {
 
     /// The terms that a rule's record states.
     fn filed_terms(&self, id: RuleId) -> Option<Terms>
-        ensures { result ≡ option_map terms_of (rule_record self.now id) }
+        ensures terms { result ≡ option_map terms_of (rule_record self.now id) }
+        ensures in_range { IfSome result AreInRange }
     {
         match rule_record(self.records(), id) {
             None => None,
@@ -106,7 +109,8 @@ pub(crate) fn rule_record(records: &[Record], id: RuleId) -> Option<&RuleRec>
 
 /// The terms that a rule's record states.
 fn terms_of(filed: &RuleRec) -> Terms
-    ensures { result ≡ terms_of filed.now }
+    ensures terms { result ≡ terms_of filed.now }
+    ensures in_range { AreInRange result }
 {
     Terms {
         stops: filed.stops,
@@ -120,7 +124,8 @@ fn terms_of(filed: &RuleRec) -> Terms
 
 /// The terms of the free rule.
 fn free_terms() -> Terms
-    ensures { result ≡ free_terms }
+    ensures terms { result ≡ free_terms }
+    ensures in_range { AreInRange result }
 {
     Terms {
         stops: 16,

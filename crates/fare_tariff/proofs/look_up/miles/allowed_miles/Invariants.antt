@@ -1,7 +1,7 @@
 -- the greatest so far, and of what is left, is the greatest of all
-use Rattle.std.proofs.Common.{◌≡◌, drop, max}
+use Rattle.std.proofs.Common.{◌≡◌, ◌≤◌, drop, max}
 use Rattle.fare_tariff.specs.Lookup.{greatest, allowed_in}
 use Rattle.fare_tariff.proofs.look_up.miles.allowed_miles.Given as goal
 
 abbrev pub invariant-loop-one : goal.invariant-loop-one
-invariant-loop-one l = max l.most (greatest (allowed_in l.a l.b l.ind l.cities) (drop l.one-index l.records)) ≡ greatest (allowed_in l.a l.b l.ind l.cities) l.records
+invariant-loop-one l = (l.most ≤ 99_999) × (max l.most (greatest (allowed_in l.a l.b l.ind l.cities) (drop l.one-index l.records)) ≡ greatest (allowed_in l.a l.b l.ind l.cities) l.records)

@@ -1,0 +1,12 @@
+-- the record that is found is no mileage of 0
+use Rattle.std.proofs.Common.{◌≡◌, ◌<◌, Some}
+use Rattle.fare_tariff.specs.Lookup.{first_some, tpm_in}
+use Rattle.fare_tariff.proofs.FoundOptions.{of_value}
+use Rattle.fare_tariff.proofs.Found.{tpm_above_zero}
+use Rattle.fare_tariff.proofs.edition.Edition.tpm.Goals as goal
+
+pub returns-clause-above_zero : goal.returns-clause-above_zero
+returns-clause-above_zero c =
+    of_value c.ticketed_miles.result (λ miles. 0 < miles) (λ miles h.
+    let found : first_some (tpm_in c.args.a c.args.b) c.args.self.now.records ≡ Some miles = cc in
+    tpm_above_zero c.args.self.now.records c.args.a c.args.b miles c.records.ensures.valid.no_fault found)

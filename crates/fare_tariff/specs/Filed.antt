@@ -1,0 +1,42 @@
+-- What holds of the records that an edition's look-ups find, since no record of an edition has a check kind.
+use Rattle.std.specs.Prelude.{◌≡◌, ◌≢◌, ◌≤◌, true, IsSome}
+use Rattle.fare_codes.specs.declared.city.City.{City}
+use Rattle.fare_codes.specs.declared.indicator.Indicator.{Indicator}
+use Rattle.fare_codes.specs.declared.month_day.MonthDay.{MonthDay}
+use Rattle.fare_codes.specs.Season.{season_holds}
+use Rattle.fare_tariff.specs.declared.city_record.CityRec.{CityRec}
+use Rattle.fare_tariff.specs.declared.fare_key.FareKey.{FareKey}
+use Rattle.fare_tariff.specs.declared.terms.Terms.{Terms}
+use Rattle.fare_tariff.specs.Record.{FareRecord}
+use Rattle.fare_tariff.specs.Tariff.{Tariff}
+use Rattle.fare_tariff.specs.Lookup.{city_record, currency_of, has_key, terms}
+
+-- the record of a city has its code, and its country has a currency
+pub record IsFiledCity (tariff : Tariff) (city : City) (r : CityRec) : Type 0 where
+  pub code : r.code ≡ city
+  pub currency : IsSome (currency_of tariff r.country)
+
+-- the two cities of a fare differ and are filed, and so is its rule, where it isn't the free rule
+pub record IsFiledFare (tariff : Tariff) (fare : FareRecord) : Type 0 where
+  pub points_differ : fare.from ≢ fare.to
+  pub from_known : IsSome (city_record tariff fare.from)
+  pub to_known : IsSome (city_record tariff fare.to)
+  pub rule_known : IsSome (terms tariff fare.rule)
+
+-- a fare has a key, and its season holds a day
+pub record IsFareOn (key : FareKey) (on : MonthDay) (fare : FareRecord) : Type 0 where
+  pub of_key : has_key key fare ≡ true
+  pub in_season : season_holds fare.season on ≡ true
+
+-- a fare is filed from a city to another for an indicator
+pub record IsFareBetween (from to : City) (ind : Indicator) (fare : FareRecord) : Type 0 where
+  pub of_from : fare.from ≡ from
+  pub of_to : fare.to ≡ to
+  pub of_ind : fare.ind ≡ ind
+
+-- terms are in the ranges of a rule's record; the greatest stay of the free rule alone is above 999
+pub record AreInRange (terms : Terms) : Type 0 where
+  pub stops : terms.stops ≤ 16
+  pub transfers : terms.transfers ≤ 16
+  pub advance : terms.advance ≤ 999
+  pub min_stay : terms.min_stay ≤ 999
