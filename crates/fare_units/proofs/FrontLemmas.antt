@@ -14,7 +14,7 @@ use Rattle.fare_units.proofs.NextLemmas.{front_part, front_unit, greatest_same, 
 use Rattle.fare_units.proofs.StepLemmas.{end_before_next}
 
 -- the greatest unit of some places and others is that of the ones or of the others
-greatest_append : (parts : List Part) (xs ys : List ℕ) → greatest_unit parts (xs ++ ys) ≡ max (greatest_unit parts xs) (greatest_unit parts ys)
+pub greatest_append : (parts : List Part) (xs ys : List ℕ) → greatest_unit parts (xs ++ ys) ≡ max (greatest_unit parts xs) (greatest_unit parts ys)
 greatest_append parts [] ys = omega arith
 greatest_append parts (x ∷ xs) ys = rw (greatest_append parts xs ys) (omega arith)
 
@@ -71,7 +71,7 @@ module _ (trip : Itinerary) (front : List Part) (part : Part) where
       let same : greatest_unit (front ++ part ∷ []) (numbers 1 (length front + 1)) ≡ greatest_unit front (places front) = greatest_same (front ++ part ∷ []) front 1 (length front + 1 - 1) (λ k low high. front_unit front (part ∷ []) k low (omega arith)) in
       let unit : unit_of (front ++ part ∷ []) (length front + 1) ≡ part.unit = ap (λ (p : Part). p.unit) (next_part front part []) in
       let split : greatest_unit (front ++ part ∷ []) (numbers 1 (length front + 1 + 1)) ≡ max (greatest_unit (front ++ part ∷ []) (numbers 1 (length front + 1))) (max (unit_of (front ++ part ∷ []) (length front + 1)) 0) =
-        ap (greatest_unit (front ++ part ∷ [])) (numbers_more 1 (length front + 1) (omega arith)) ∙ greatest_append (front ++ part ∷ []) (numbers 1 (length front + 1)) ((length front + 1) ∷ []) in
+      ap (greatest_unit (front ++ part ∷ [])) (numbers_more 1 (length front + 1) (omega arith)) ∙ greatest_append (front ++ part ∷ []) (numbers 1 (length front + 1)) ((length front + 1) ∷ []) in
       subst P (sym longer_length) (split ∙ (rw (same, unit) (omega arith)))
 
   -- a part that ends above where it starts and within the trip, in a unit of a number in order, may be followed too

@@ -7,3 +7,6 @@ pub mod WalkLemmas
 pub mod NextLemmas
 pub mod StepLemmas
 pub mod FrontLemmas
+pub mod CircleSteps
+pub mod PriceSteps
+pub mod UnitLemmas

@@ -59,13 +59,17 @@ same_unit_front front rest a b al ah bl bh = rw (front_unit front rest a al ah, 
 
 begun_front : (front rest : List Part) (b c : ℕ) → 1 ≤ b → b ≤ length front → 1 ≤ c → c ≤ length front → is_begun_before (front ++ rest) b c ≡ is_begun_before front b c
 begun_front front rest b c bl bh cl ch =
-    rw (same_unit_front front rest c b cl ch bl bh,
-    any_same (is_same_unit (front ++ rest) c) (is_same_unit front c) 1 (b - 1) (λ k low high. same_unit_front front rest c k cl ch low (omega arith))) refl
+    rw (
+      same_unit_front front rest c b cl ch bl bh,
+      any_same (is_same_unit (front ++ rest) c) (is_same_unit front c) 1 (b - 1) (λ k low high. same_unit_front front rest c k cl ch low (omega arith)),
+    ) refl
 
 straddled_front : (front rest : List Part) (d b : ℕ) → 1 ≤ d → d ≤ length front → 1 ≤ b → b ≤ length front → is_straddled (front ++ rest) d b ≡ is_straddled front d b
 straddled_front front rest d b dl dh bl bh =
-    rw (same_unit_front front rest d b dl dh bl bh,
-    any_same (is_begun_before (front ++ rest) b) (is_begun_before front b) (b + 1) (d - (b + 1)) (λ k low high. begun_front front rest b k bl bh (omega arith) (omega arith))) refl
+    rw (
+      same_unit_front front rest d b dl dh bl bh,
+      any_same (is_begun_before (front ++ rest) b) (is_begun_before front b) (b + 1) (d - (b + 1)) (λ k low high. begun_front front rest b k bl bh (omega arith) (omega arith)),
+    ) refl
 
 pub crossed_front : (front rest : List Part) (d : ℕ) → 1 ≤ d → d ≤ length front → is_crossed (front ++ rest) d ≡ is_crossed front d
 crossed_front front rest d dl dh =

@@ -77,9 +77,9 @@ module _ (tariff : Tariff) (trip : Itinerary) (front : List Part) where
   ends_none b =
       walk_nothing tariff trip (GoesOn front (EndsBefore (next_start trip front + 1))) b
       (λ parts price l g.
-        let rises : next_start trip front < g.next.end = next_rises tariff trip front g.next g.rest price (lawful_next (EndsBefore (next_start trip front + 1)) parts price l g) in
-        let meets : g.next.end < next_start trip front + 1 = g.meets in
-        omega arith)
+      let rises : next_start trip front < g.next.end = next_rises tariff trip front g.next g.rest price (lawful_next (EndsBefore (next_start trip front + 1)) parts price l g) in
+      let meets : g.next.end < next_start trip front + 1 = g.meets in
+      omega arith)
 
   pub ends_more : (end : ℕ) (a b c : Found) → Walks tariff trip (GoesOn front (EndsBefore end)) a b → Walks tariff trip (GoesOn front (EndsAt end)) b c → Walks tariff trip (GoesOn front (EndsBefore (end + 1))) a c
   ends_more end a b c first second =
@@ -90,18 +90,18 @@ module _ (tariff : Tariff) (trip : Itinerary) (front : List Part) where
   ends_all past a b h walk =
       walk_within tariff trip (GoesOn front AnyPart) (GoesOn front (EndsBefore past)) a b walk
       (λ parts price l g.
-        let within : g.next.end ≤ count trip = next_within tariff trip front g.next g.rest price (lawful_next AnyPart parts price l g) in
-        record { next = g.next; rest = g.rest; whole = g.whole; meets = omega arith })
+      let within : g.next.end ≤ count trip = next_within tariff trip front g.next g.rest price (lawful_next AnyPart parts price l g) in
+      record { next = g.next; rest = g.rest; whole = g.whole; meets = omega arith })
 
   -- over fares
   pub fares_none : (end : ℕ) (b : Found) → Walks tariff trip (GoesOn front (HasFareBefore end 2)) b b
   fares_none end b =
       walk_nothing tariff trip (GoesOn front (HasFareBefore end 2)) b
       (λ parts price l g.
-        let filed : (2 ≤ g.next.fare) × (g.next.fare < length tariff.records + 2) = next_filed tariff trip front g.next g.rest price (lawful_next (HasFareBefore end 2) parts price l g) in
-        let low : 2 ≤ g.next.fare = filed.0 in
-        let meets : g.next.fare < 2 = g.meets.1 in
-        omega arith)
+      let filed : (2 ≤ g.next.fare) × (g.next.fare < length tariff.records + 2) = next_filed tariff trip front g.next g.rest price (lawful_next (HasFareBefore end 2) parts price l g) in
+      let low : 2 ≤ g.next.fare = filed.0 in
+      let meets : g.next.fare < 2 = g.meets.1 in
+      omega arith)
 
   fare_below_or_at : (end number : ℕ) (q : Part) → HasFareBefore end (number + 1) q → HasFareBefore end number q ⊎ HasFare end number q
   fare_below_or_at end number q h = elim (below_or_at q.fare number h.1) [ inl l ↦ inl (h.0, l) | inr e ↦ inr (h.0, e) ]
@@ -126,19 +126,19 @@ module _ (tariff : Tariff) (trip : Itinerary) (front : List Part) where
   fares_all end past a b h walk =
       walk_within tariff trip (GoesOn front (EndsAt end)) (GoesOn front (HasFareBefore end past)) a b walk
       (λ parts price l g.
-        let filed : (2 ≤ g.next.fare) × (g.next.fare < length tariff.records + 2) = next_filed tariff trip front g.next g.rest price (lawful_next (EndsAt end) parts price l g) in
-        let high : g.next.fare < length tariff.records + 2 = filed.1 in
-        record { next = g.next; rest = g.rest; whole = g.whole; meets = (g.meets, omega arith) })
+      let filed : (2 ≤ g.next.fare) × (g.next.fare < length tariff.records + 2) = next_filed tariff trip front g.next g.rest price (lawful_next (EndsAt end) parts price l g) in
+      let high : g.next.fare < length tariff.records + 2 = filed.1 in
+      record { next = g.next; rest = g.rest; whole = g.whole; meets = (g.meets, omega arith) })
 
   -- over units
   pub units_none : (end number : ℕ) (b : Found) → Walks tariff trip (GoesOn front (HasUnitBefore end number 1)) b b
   units_none end number b =
       walk_nothing tariff trip (GoesOn front (HasUnitBefore end number 1)) b
       (λ parts price l g.
-        let numbered : (1 ≤ g.next.unit) × (g.next.unit ≤ greatest_unit front (places front) + 1) = next_numbered tariff trip front g.next g.rest price (lawful_next (HasUnitBefore end number 1) parts price l g) in
-        let low : 1 ≤ g.next.unit = numbered.0 in
-        let meets : g.next.unit < 1 = g.meets.2 in
-        omega arith)
+      let numbered : (1 ≤ g.next.unit) × (g.next.unit ≤ greatest_unit front (places front) + 1) = next_numbered tariff trip front g.next g.rest price (lawful_next (HasUnitBefore end number 1) parts price l g) in
+      let low : 1 ≤ g.next.unit = numbered.0 in
+      let meets : g.next.unit < 1 = g.meets.2 in
+      omega arith)
 
   unit_below_or_at : (part q : Part) → HasUnitBefore part.end part.fare (part.unit + 1) q → HasUnitBefore part.end part.fare part.unit q ⊎ IsPart part q
   unit_below_or_at part q h =
@@ -156,18 +156,18 @@ module _ (tariff : Tariff) (trip : Itinerary) (front : List Part) where
   units_all end number past a b h walk =
       walk_within tariff trip (GoesOn front (HasFare end number)) (GoesOn front (HasUnitBefore end number past)) a b walk
       (λ parts price l g.
-        let numbered : (1 ≤ g.next.unit) × (g.next.unit ≤ greatest_unit front (places front) + 1) = next_numbered tariff trip front g.next g.rest price (lawful_next (HasFare end number) parts price l g) in
-        let high : g.next.unit ≤ greatest_unit front (places front) + 1 = numbered.1 in
-        record { next = g.next; rest = g.rest; whole = g.whole; meets = (g.meets.0, g.meets.1, omega arith) })
+      let numbered : (1 ≤ g.next.unit) × (g.next.unit ≤ greatest_unit front (places front) + 1) = next_numbered tariff trip front g.next g.rest price (lawful_next (HasFare end number) parts price l g) in
+      let high : g.next.unit ≤ greatest_unit front (places front) + 1 = numbered.1 in
+      record { next = g.next; rest = g.rest; whole = g.whole; meets = (g.meets.0, g.meets.1, omega arith) })
 
   -- over one part
   pub part_none : (part : Part) (b : Found) → is_fruitless (front ++ part ∷ []) ≡ true → Walks tariff trip (GoesOn front (IsPart part)) b b
   part_none part b none =
       walk_nothing tariff trip (GoesOn front (IsPart part)) b
       (λ parts price l g.
-        let fruitful : is_fruitless (front ++ g.next ∷ []) ≡ false = next_fruitful tariff trip front g.next g.rest price (lawful_next (IsPart part) parts price l g) in
-        let P : Part → Type 0 = λ p. is_fruitless (front ++ p ∷ []) ≡ false in
-        true_false (sym none ∙ subst P g.meets fruitful))
+      let fruitful : is_fruitless (front ++ g.next ∷ []) ≡ false = next_fruitful tariff trip front g.next g.rest price (lawful_next (IsPart part) parts price l g) in
+      let P : Part → Type 0 = λ p. is_fruitless (front ++ p ∷ []) ≡ false in
+      true_false (sym none ∙ subst P g.meets fruitful))
 
   pub part_walked : (part : Part) (a b : Found) → Walks tariff trip (Completes (front ++ part ∷ [])) a b → Walks tariff trip (GoesOn front (IsPart part)) a b
   part_walked part a b walk =

@@ -123,7 +123,13 @@ fn walk_ends(edition: &Edition, trip: &Trip, front: &Construction, best: Found) 
 
 /// Walks over those that go on with a part that ends at a point.
 #[cycle(walk)]
-fn walk_fares(edition: &Edition, trip: &Trip, front: &Construction, end: usize, best: Found) -> Found
+fn walk_fares(
+    edition: &Edition,
+    trip: &Trip,
+    front: &Construction,
+    end: usize,
+    best: Found,
+) -> Found
     requires front { IsFront trip.now front.now }
     requires rises { next_start trip.now front.now < end }
     requires within { end ≤ count trip.now }
@@ -141,7 +147,14 @@ fn walk_fares(edition: &Edition, trip: &Trip, front: &Construction, end: usize, 
 
 /// Walks over those that go on with a part that ends at a point and has the fare of a record number.
 #[cycle(walk)]
-fn walk_units(edition: &Edition, trip: &Trip, front: &Construction, end: usize, number: u32, best: Found) -> Found
+fn walk_units(
+    edition: &Edition,
+    trip: &Trip,
+    front: &Construction,
+    end: usize,
+    number: u32,
+    best: Found,
+) -> Found
     requires front { IsFront trip.now front.now }
     requires rises { next_start trip.now front.now < end }
     requires within { end ≤ count trip.now }

@@ -3,6 +3,7 @@
 #![tactic(auto)]
 
 mod best;
+mod circle;
 mod combine;
 mod construction;
 mod cover;
@@ -12,16 +13,19 @@ mod fares;
 mod lawful;
 mod order;
 mod own;
+mod part_rules;
 mod places;
+mod price;
 mod same;
 mod shape;
 mod spans;
 mod stays;
 mod unit_rules;
 
+pub use best::plain_best;
+pub use circle::circle_minimum;
 pub use construction::Construction;
 pub use direction::priced_back;
-pub use lawful::lawful_price;
-pub use best::plain_best;
 pub use fare_rules::{Broken, Part, UnitKind, UnitSheet};
+pub use lawful::lawful_price;
 pub use order::earlier;

@@ -56,7 +56,7 @@ walk_part-walk-requires t c =
     let P : List Part → Type 0 = λ xs. IsFront c.args.trip.now xs in
     let Q : List Part → Type 0 = λ xs. 5 * (count c.args.trip.now - end_of xs (length xs)) + 4 < 5 * (count c.args.trip.now - end_of c.args.front.now (length c.args.front.now)) in
     let falls : 5 * (count c.args.trip.now - end_of c.with-longer.result (length c.with-longer.result)) + 4 < 5 * (count c.args.trip.now - end_of c.args.front.now (length c.args.front.now)) =
-      subst Q (sym c.with-longer.ensures) (front_falls c.args.trip.now c.args.front.now c.args.part c.requires.rises c.requires.within) in
+    subst Q (sym c.with-longer.ensures) (front_falls c.args.trip.now c.args.front.now c.args.part c.requires.rises c.requires.within) in
     (omega arith, subst P (sym c.with-longer.ensures) (front_more c.args.trip.now c.args.front.now c.args.part c.requires.front c.requires.rises c.requires.within c.requires.ordered))
 
 pub walk_part-returns : goal.walk_part-returns
