@@ -24,7 +24,7 @@ found_up_to parts ok (suc n) unit within low high =
     let most : unit_of parts (n + 1) ≤ greatest_unit parts (numbers 1 (n + 1)) + 1 = ltb-false _ _ (both_false _ _ fails).1 in
     let e : suc n + 1 ≡ n + 1 + 1 = omega arith in
     let split : greatest_unit parts (numbers 1 (n + 1 + 1)) ≡ max (greatest_unit parts (numbers 1 (n + 1))) (max (unit_of parts (n + 1)) 0) =
-      ap (greatest_unit parts) (numbers_more 1 (n + 1) (omega arith)) ∙ greatest_append parts (numbers 1 (n + 1)) ((n + 1) ∷ []) in
+    ap (greatest_unit parts) (numbers_more 1 (n + 1) (omega arith)) ∙ greatest_append parts (numbers 1 (n + 1)) ((n + 1) ∷ []) in
     let P : ℕ → Type 0 = λ m. unit ≤ greatest_unit parts (numbers 1 m) in
     let top : unit ≤ greatest_unit parts (numbers 1 (n + 1 + 1)) = subst P e high in
     elim (cases_lt (greatest_unit parts (numbers 1 (n + 1))) unit) [
