@@ -3,3 +3,10 @@ pub mod OwnLemmas
 pub mod OrderLemmas
 pub mod SameLemmas
 pub mod ShapeLemmas
+pub mod WalkLemmas
+pub mod NextLemmas
+pub mod StepLemmas
+pub mod FrontLemmas
+pub mod CircleSteps
+pub mod PriceSteps
+pub mod UnitLemmas

@@ -1,6 +1,7 @@
 -- Searches, tests and filters over ranges of numbers, one number on.
 use Rattle.std.proofs.Common.{◌≡◌, ℕ, ◌+◌, ◌-◌, ◌<◌, ◌≤◌, Bool, true, false, List, [], ◌∷◌, ◌++◌, Option, Some, None, cond, max, find, filter, length, refl, ap, append_assoc, ◌∙◌, arith, zero, suc, ◌||◌, ◌&&◌}
 use Rattle.std.specs.List.{range_with_len, list_any, list_all}
+use Rattle.std.proofs.lemmas.List.{append-nil}
 use Rattle.fare_rules.specs.declared.part.Part.{Part}
 use Rattle.fare_rules.specs.Numbers.{numbers, greatest_of, greater}
 use Rattle.fare_rules.specs.Construction.{greatest_unit, unit_of}
@@ -80,3 +81,7 @@ count_more found test first past h = rw (filter_next test first past h, one_more
 
 pub count_none : (found : ℕ) (test : ℕ → Bool) (first past : ℕ) → past ≤ first → found + length (filter test (numbers first past)) ≡ found
 count_none found test first past h = rw (filter_none test first past h) (omega arith)
+
+-- at the end of a range none is left to keep
+pub filter_all : (kept : List ℕ) (test : ℕ → Bool) (first past : ℕ) → past ≤ first → kept ++ filter test (numbers first past) ≡ kept
+filter_all kept test first past h = ap (λ more. kept ++ more) (filter_none test first past h) ∙ append-nil kept

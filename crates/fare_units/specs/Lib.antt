@@ -8,3 +8,5 @@ pub use Rattle.fare_rules.specs.Best
 pub mod Advance
 pub mod Places
 pub mod Tests
+pub mod Breaks
+pub mod Walk

@@ -57,6 +57,27 @@ impl Construction {
         Ok(())
     }
 
+    /// The same parts with one more at the end.
+    pub(crate) fn with(&self, part: Part) -> Construction
+        requires { length self.now < 16 }
+        ensures { result ≡ self.now ++ part ∷ [] }
+    {
+        let mut longer = self.copy();
+        longer.parts[longer.count] = part;
+        longer.count += 1;
+        longer
+    }
+
+    /// The same parts.
+    pub(crate) fn copy(&self) -> Construction
+        ensures { result ≡ self.now }
+    {
+        Construction {
+            parts: self.parts,
+            count: self.count,
+        }
+    }
+
     /// Its parts, in the order of travel.
     pub fn parts(&self) -> &[Part]
         ensures parts { result.now ≡ self.now }

@@ -2,22 +2,34 @@
 //! is before the other, and the best one of a trip, found by enumerating all.
 #![tactic(auto)]
 
+mod best;
+mod circle;
 mod combine;
 mod construction;
 mod cover;
 mod crossing;
 mod direction;
 mod fares;
+mod lawful;
 mod order;
 mod own;
+mod part_rules;
 mod places;
+mod price;
+mod quoter;
 mod same;
 mod shape;
+mod sheet;
 mod spans;
 mod stays;
 mod unit_rules;
 
+pub use best::plain_best;
+pub use circle::circle_minimum;
 pub use construction::Construction;
 pub use direction::priced_back;
 pub use fare_rules::{Broken, Part, UnitKind, UnitSheet};
+pub use lawful::lawful_price;
 pub use order::earlier;
+pub use quoter::{PlainQuoter, Quoter};
+pub use sheet::unit_sheet;

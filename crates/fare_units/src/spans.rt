@@ -5,11 +5,16 @@ ghost use Rattle.std.specs.List.{list_any, list_all};
 ghost use Rattle.fare_trip.specs.Itinerary.{count};
 ghost use Rattle.fare_rules.specs.Span.{is_surface, is_stopover, is_transfer, holds_surface, stopovers, transfers, sectors};
 ghost use Rattle.fare_rules.specs.Terms.{stops_hold, transfers_hold, advance_days, advance_holds};
-ghost use Rattle.fare_rules.specs.ComponentAmount.{is_same_city, is_repeated, repeats_city, is_filed_between, runs_between, rank, covers_cabin, covers_cabins, is_carried_by, covers_carriers, in_season};
+ghost use Rattle.fare_rules.specs.ComponentAmount.{is_same_city, is_repeated, repeats_city, is_filed_between, runs_between, rank, covers_cabin, covers_cabins, is_carried_by, covers_carriers, in_season, has_indicator, span_surcharge, mileage_holds, is_allowed, excess_holds};
+ghost use Rattle.fare_rules.specs.Mileage.{surcharge_of};
+ghost use Rattle.fare_tariff.specs.Lookup.{same_indicator};
 ghost use Rattle.fare_rules.specs.Reference.{every_carrier};
 
 use crate::same::{same_carriers, same_cities};
-use fare_codes::{Cabin, Carrier, City};
+use fare_codes::{Cabin, Carrier, City, Indicator};
+use fare_mileage::mileage;
+use fare_points::indicator;
+use fare_rules::Mileage;
 use fare_tariff::{Edition, FareRec};
 use fare_trip::Trip;
 
@@ -291,4 +296,96 @@ pub(crate) fn advance_holds(edition: &Edition, trip: &Trip, fare: &FareRec) -> b
         None => false,
         Some(asked) => asked.advance <= advance_days(trip),
     }
+}
+
+/// Whether two indicators are the same.
+fn same_indicators(a: Indicator, b: Indicator) -> bool
+    ensures { result ≡ same_indicator a b }
+{
+    match (a, b) {
+        (Indicator::WH, Indicator::WH) => true,
+        (Indicator::EH, Indicator::EH) => true,
+        (Indicator::AT, Indicator::AT) => true,
+        (Indicator::PA, Indicator::PA) => true,
+        (Indicator::AP, Indicator::AP) => true,
+        _ => false,
+    }
+}
+
+/// Whether a fare has the indicator of a span.
+#[tactic(auto, unfolding(fare_rules::specs::ComponentAmount::has_indicator))]
+pub(crate) fn has_indicator(
+    edition: &Edition,
+    trip: &Trip,
+    a: usize,
+    b: usize,
+    fare: &FareRec,
+) -> bool
+    requires rises { a < b }
+    requires within { b ≤ count trip.now }
+    ensures { result ≡ has_indicator edition.now trip.now a b fare.now }
+{
+    same_indicators(fare.ind, indicator(edition, trip, a, b))
+}
+
+/// The surcharge that a mileage asks for, where it lets a fare be used.
+fn surcharge_of(mileage: Mileage) -> Option<u32>
+    ensures { result ≡ surcharge_of mileage }
+{
+    match mileage {
+        Mileage::Direct => Some(0),
+        Mileage::Within(_) => Some(0),
+        Mileage::Excess(step, _) => Some(step),
+        Mileage::NoTpm(_) => None,
+        Mileage::NoMpm => None,
+        Mileage::Over(_) => None,
+    }
+}
+
+/// The surcharge that the mileage of a span asks for, where it lets a fare be used.
+#[tactic(auto, unfolding(fare_rules::specs::ComponentAmount::span_surcharge))]
+fn span_surcharge(edition: &Edition, trip: &Trip, a: usize, b: usize) -> Option<u32>
+    requires rises { a < b }
+    requires within { b ≤ count trip.now }
+    ensures { result ≡ span_surcharge edition.now trip.now a b }
+{
+    surcharge_of(mileage(edition, trip, a, b, indicator(edition, trip, a, b)))
+}
+
+/// Whether the mileage of a span lets a fare be used.
+pub(crate) fn mileage_holds(edition: &Edition, trip: &Trip, a: usize, b: usize) -> bool
+    requires rises { a < b }
+    requires within { b ≤ count trip.now }
+    ensures { result ≡ mileage_holds edition.now trip.now a b }
+{
+    span_surcharge(edition, trip, a, b).is_some()
+}
+
+/// Whether a surcharge, where there is one, is allowed by the rule of a fare.
+fn is_allowed(edition: &Edition, fare: &FareRec, surcharge: Option<u32>) -> bool
+    ensures { result ≡ is_allowed edition.now fare.now surcharge }
+{
+    match surcharge {
+        None => true,
+        Some(step) => match edition.terms(fare.rule) {
+            None => false,
+            Some(asked) => step == 0 || asked.excess,
+        },
+    }
+}
+
+/// Whether the surcharge of a span is allowed by the rule of a fare.
+#[tactic(auto, unfolding(fare_rules::specs::ComponentAmount::excess_holds))]
+pub(crate) fn excess_holds(
+    edition: &Edition,
+    trip: &Trip,
+    a: usize,
+    b: usize,
+    fare: &FareRec,
+) -> bool
+    requires rises { a < b }
+    requires within { b ≤ count trip.now }
+    ensures { result ≡ excess_holds edition.now trip.now a b fare.now }
+{
+    is_allowed(edition, fare, span_surcharge(edition, trip, a, b))
 }

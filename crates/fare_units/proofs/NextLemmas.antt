@@ -1,0 +1,170 @@
+-- What a lawful construction says of the part that comes after its first ones.
+use Rattle.std.proofs.Common.{◌≡◌, ℕ, zero, suc, ◌+◌, ◌-◌, ◌<◌, ◌≤◌, Bool, true, false, not, ◌&&◌, ◌||◌, cond, max, leb, List, [], ◌∷◌, ◌++◌, length, Option, Some, None, refl, ap, subst, sym, ◌∙◌, inl, inr, arith}
+use Rattle.std.specs.List.{range_with_len, list_any}
+use Rattle.std.proofs.lemmas.List.{append_assoc, append-nil}
+use Rattle.std.proofs.lemmas.Bool.{cases_Bool, eqb-false, ltb-false, or_cases, and_left, and_right}
+use Rattle.std.proofs.Math.ListN.{get_or-append, length-append}
+use Rattle.std.proofs.Math.Seq.{get_or-append_seam}
+use Rattle.fare_trip.specs.Itinerary.{Itinerary, count}
+use Rattle.fare_tariff.specs.Record.{FareRecord}
+use Rattle.fare_tariff.specs.Tariff.{Tariff}
+use Rattle.fare_tariff.specs.Lookup.{fare_at}
+use Rattle.fare_rules.specs.declared.part.Part.{Part}
+use Rattle.fare_rules.specs.Numbers.{numbers}
+use Rattle.fare_rules.specs.ComponentAmount.{runs_between}
+use Rattle.fare_rules.specs.Construction.{part_at, no_part, end_of, unit_of, begin_after, start_of, places, fare_of, greatest_unit, is_misnumbered, misnumbered, uncovered}
+use Rattle.fare_rules.specs.Direction.{is_back}
+use Rattle.fare_rules.specs.Shape.{is_same_unit, is_begun_before, is_straddled, is_crossed, crossed}
+use Rattle.fare_rules.specs.Best.{IsLawful}
+use Rattle.fare_rules.proofs.NumberLemmas.{find_none}
+use Rattle.fare_rules.proofs.CoverLemmas.{IsCover, cover, both_false, begins_later, cover_is_whole}
+use Rattle.fare_rules.proofs.LawfulLemmas.{IsKept, kept}
+use Rattle.fare_rules.proofs.AmountLemmas.{MayBeUsed, fare_is_filed, part_may_be_used}
+use Rattle.fare_rules.proofs.ReferenceLemmas.{number_of_record}
+use Rattle.fare_units.specs.Walk.{next_start, may_serve, runs_either, is_fruitless}
+
+-- the parts of a list are not changed by others behind them
+pub front_part : (front rest : List Part) (k : ℕ) → 1 ≤ k → k ≤ length front → part_at (front ++ rest) k ≡ part_at front k
+front_part front rest k low high = get_or-append front rest no_part (k - 1) (omega arith)
+
+pub front_unit : (front rest : List Part) (k : ℕ) → 1 ≤ k → k ≤ length front → unit_of (front ++ rest) k ≡ unit_of front k
+front_unit front rest k low high = ap (λ (p : Part). p.unit) (front_part front rest k low high)
+
+-- the part that comes after some stands at the place behind them
+pub next_part : (front : List Part) (next : Part) (rest : List Part) → part_at (front ++ next ∷ rest) (length front + 1) ≡ next
+next_part front next rest =
+    let e : length front + 1 - 1 ≡ length front = omega arith in
+    rw e (get_or-append_seam front next rest no_part)
+
+-- and starts where they let it
+pub start_by : (trip : Itinerary) (front : List Part) (next : Part) (rest : List Part) → start_of trip (front ++ next ∷ rest) (length front + 1) ≡ next_start trip front
+start_by trip [] next rest = refl
+start_by trip (x ∷ xs) next rest =
+    ap (λ (p : Part). cond (leb (length (x ∷ xs) + 1) 1) 0 (begin_after trip p.end)) (front_part (x ∷ xs) (next ∷ rest) (length (x ∷ xs) + 1 - 1) (omega arith) (omega arith))
+
+-- tests that agree at each number of a range agree about the range
+any_same : (f g : ℕ → Bool) (first n : ℕ) → ((k : ℕ) → first ≤ k → k < first + n → f k ≡ g k) → list_any f (range_with_len first n) ≡ list_any g (range_with_len first n)
+any_same f g first zero h = refl
+any_same f g first (suc n) h =
+    rw (h first (omega arith) (omega arith), any_same f g (first + 1) n (λ k low high. h k (omega arith) (omega arith))) refl
+
+pub greatest_same : (xs ys : List Part) (first n : ℕ) → ((k : ℕ) → first ≤ k → k < first + n → unit_of xs k ≡ unit_of ys k) → greatest_unit xs (range_with_len first n) ≡ greatest_unit ys (range_with_len first n)
+greatest_same xs ys first zero h = refl
+greatest_same xs ys first (suc n) h =
+    rw (h first (omega arith) (omega arith), greatest_same xs ys (first + 1) n (λ k low high. h k (omega arith) (omega arith))) refl
+
+-- a part crosses a unit of a list where it does in a front of the list
+same_unit_front : (front rest : List Part) (a b : ℕ) → 1 ≤ a → a ≤ length front → 1 ≤ b → b ≤ length front → is_same_unit (front ++ rest) a b ≡ is_same_unit front a b
+same_unit_front front rest a b al ah bl bh = rw (front_unit front rest a al ah, front_unit front rest b bl bh) refl
+
+begun_front : (front rest : List Part) (b c : ℕ) → 1 ≤ b → b ≤ length front → 1 ≤ c → c ≤ length front → is_begun_before (front ++ rest) b c ≡ is_begun_before front b c
+begun_front front rest b c bl bh cl ch =
+    rw (
+      same_unit_front front rest c b cl ch bl bh,
+      any_same (is_same_unit (front ++ rest) c) (is_same_unit front c) 1 (b - 1) (λ k low high. same_unit_front front rest c k cl ch low (omega arith)),
+    ) refl
+
+straddled_front : (front rest : List Part) (d b : ℕ) → 1 ≤ d → d ≤ length front → 1 ≤ b → b ≤ length front → is_straddled (front ++ rest) d b ≡ is_straddled front d b
+straddled_front front rest d b dl dh bl bh =
+    rw (
+      same_unit_front front rest d b dl dh bl bh,
+      any_same (is_begun_before (front ++ rest) b) (is_begun_before front b) (b + 1) (d - (b + 1)) (λ k low high. begun_front front rest b k bl bh (omega arith) (omega arith)),
+    ) refl
+
+pub crossed_front : (front rest : List Part) (d : ℕ) → 1 ≤ d → d ≤ length front → is_crossed (front ++ rest) d ≡ is_crossed front d
+crossed_front front rest d dl dh =
+    any_same (is_straddled (front ++ rest) d) (is_straddled front d) 1 (d - 1) (λ k low high. straddled_front front rest d k dl dh low (omega arith))
+
+not_true : (b : Bool) → not b ≡ false → b ≡ true
+not_true true e = refl
+not_true false e = cc
+
+runs_one : (trip : Itinerary) (a b : ℕ) (back : Bool) (fare : FareRecord) → runs_between trip a b back fare ≡ true → runs_either trip a b (Some fare) ≡ true
+runs_one trip a b true fare h = rw h (or_true (runs_between trip a b false fare))
+  where
+    or_true : (x : Bool) → (x || true) ≡ true
+    or_true true = refl
+    or_true false = refl
+runs_one trip a b false fare h = rw h refl
+
+module _ (tariff : Tariff) (trip : Itinerary) (front : List Part) (next : Part) (rest : List Part) (price : ℕ) (lawful : IsLawful tariff trip (front ++ next ∷ rest) price) where
+  all : List Part
+  all = front ++ next ∷ rest
+
+  here : ℕ
+  here = length front + 1
+
+  in_all : here ≤ length (front ++ next ∷ rest)
+  unfolding here
+  in_all = let n : length (front ++ next ∷ rest) ≡ length front + suc (length rest) = length-append front (next ∷ rest) in omega arith
+
+  holds : IsKept tariff trip (front ++ next ∷ rest)
+  holds = kept tariff trip (front ++ next ∷ rest) price lawful
+
+  covers : IsCover trip (front ++ next ∷ rest)
+  covers = cover trip (front ++ next ∷ rest) holds.cover
+
+  -- it ends above its start and within the trip
+  pub next_rises : next_start trip front < next.end
+  unfolding here
+  next_rises =
+      let h : start_of trip (front ++ next ∷ rest) (length front + 1) < end_of (front ++ next ∷ rest) (length front + 1) = covers.above (length front + 1) (omega arith) in_all in
+      let P : ℕ → Type 0 = λ n. next_start trip front < n in
+      let Q : ℕ → Type 0 = λ n. n < end_of (front ++ next ∷ rest) (length front + 1) in
+      subst P (ap (λ (p : Part). p.end) (next_part front next rest)) (subst Q (start_by trip front next rest) h)
+
+  pub next_within : next.end ≤ count trip
+  unfolding here
+  next_within =
+      let h : end_of (front ++ next ∷ rest) (length front + 1) ≤ count trip = covers.within (length front + 1) (omega arith) in_all in
+      let P : ℕ → Type 0 = λ n. n ≤ count trip in
+      subst P (ap (λ (p : Part). p.end) (next_part front next rest)) h
+
+  -- its unit number is in order
+  pub next_numbered : (1 ≤ next.unit) × (next.unit ≤ greatest_unit front (places front) + 1)
+  unfolding here misnumbered
+  next_numbered =
+      let inside : length front + 1 ≤ length (front ++ next ∷ rest) = in_all in
+      let fails : is_misnumbered (front ++ next ∷ rest) (length front + 1) ≡ false = find_none (is_misnumbered (front ++ next ∷ rest)) 1 (length (front ++ next ∷ rest) + 1) holds.numbering (length front + 1) (omega arith) (omega arith) in
+      let both = both_false _ _ fails in
+      let n : length front + 1 - 1 ≡ length front = omega arith in
+      let same : greatest_unit (front ++ next ∷ rest) (numbers 1 (length front + 1)) ≡ greatest_unit front (places front) = greatest_same (front ++ next ∷ rest) front 1 (length front + 1 - 1) (λ k low high. front_unit front (next ∷ rest) k low (omega arith)) in
+      let unit : unit_of (front ++ next ∷ rest) (length front + 1) ≡ next.unit = ap (λ (p : Part). p.unit) (next_part front next rest) in
+      let above : unit_of (front ++ next ∷ rest) (length front + 1) ≡ 0 → ⊥ = eqb-false _ _ both.0 in
+      let high = ltb-false _ _ both.1 in
+      let most : next.unit ≤ greatest_unit front (places front) + 1 = rw (same, unit) at high in
+      let least : next.unit ≡ 0 → ⊥ = λ e. above (unit ∙ e) in
+      (omega arith, most)
+
+  filed : (fare : FareRecord) × (fare_of tariff (front ++ next ∷ rest) (length front + 1) ≡ Some fare)
+  unfolding here
+  filed = fare_is_filed tariff trip (front ++ next ∷ rest) holds (length front + 1) (omega arith) in_all
+
+  of_next : fare_of tariff (front ++ next ∷ rest) (length front + 1) ≡ fare_at tariff next.fare
+  of_next = ap (λ (p : Part). fare_at tariff p.fare) (next_part front next rest)
+
+  -- its number is that of a fare
+  pub next_filed : (2 ≤ next.fare) × (next.fare < length tariff.records + 2)
+  next_filed = number_of_record tariff next.fare filed.0 (sym of_next ∙ filed.1)
+
+  -- which may serve it
+  pub next_served : may_serve tariff trip front next.end next.fare ≡ true
+  unfolding may_serve here
+  next_served =
+      let used = part_may_be_used tariff trip (front ++ next ∷ rest) holds (length front + 1) (omega arith) in_all filed.0 filed.1 in
+      let is : fare_at tariff next.fare ≡ Some filed.0 = sym of_next ∙ filed.1 in
+      let P : ℕ → Type 0 = λ n. runs_between trip (next_start trip front) n (is_back tariff trip (front ++ next ∷ rest) (length front + 1)) filed.0 ≡ true in
+      let Q : ℕ → Type 0 = λ n. runs_between trip n (end_of (front ++ next ∷ rest) (length front + 1)) (is_back tariff trip (front ++ next ∷ rest) (length front + 1)) filed.0 ≡ true in
+      let runs = subst P (ap (λ (p : Part). p.end) (next_part front next rest)) (subst Q (start_by trip front next rest) used.pair) in
+      rw is (runs_one trip (next_start trip front) next.end (is_back tariff trip (front ++ next ∷ rest) (length front + 1)) filed.0 runs)
+
+  -- and its place is not fruitless
+  pub next_fruitful : is_fruitless (front ++ next ∷ []) ≡ false
+  unfolding is_fruitless crossed here
+  next_fruitful =
+      let inside : length front + 1 ≤ length (front ++ next ∷ rest) = in_all in
+      let n : length (front ++ next ∷ []) ≡ length front + 1 = length-append front (next ∷ []) ∙ omega arith in
+      let fails : is_crossed (front ++ next ∷ rest) (length front + 1) ≡ false = find_none (is_crossed (front ++ next ∷ rest)) 1 (length (front ++ next ∷ rest) + 1) holds.crossing (length front + 1) (omega arith) (omega arith) in
+      let split : (front ++ next ∷ []) ++ rest ≡ front ++ next ∷ rest = append_assoc front (next ∷ []) rest in
+      let same : is_crossed ((front ++ next ∷ []) ++ rest) (length front + 1) ≡ is_crossed (front ++ next ∷ []) (length front + 1) = crossed_front (front ++ next ∷ []) rest (length front + 1) (omega arith) (omega arith) in
+      rw n (sym same ∙ (rw split fails))

@@ -1,0 +1,136 @@
+//! Lawful constructions: the first rule that one breaks, and its price where it breaks none.
+
+ghost use Rattle.std.specs.Prelude.{◌≡◌, ◌≤◌, length};
+ghost use Rattle.fare_rules.specs.Numbers.{first_given};
+ghost use Rattle.fare_units.specs.Advance.{Advances};
+ghost use Rattle.fare_units.specs.Breaks.{breaks_from_distinct, breaks_from_mileage};
+ghost use Rattle.fare_rules.specs.Lawful.{broken_at, first_broken, lawful_price};
+
+use crate::combine::clashed;
+use crate::construction::Construction;
+use crate::cover::{misnumbered, uncovered};
+use crate::crossing::crossed;
+use crate::fares::unfiled;
+use crate::part_rules::{FareRule, PartRule, first_part, mispaired};
+use crate::price::price;
+use crate::unit_rules::{UnitRule, first_unit};
+use fare_rules::{Broken, Part};
+use fare_tariff::Edition;
+use fare_trip::Trip;
+
+/// A rule of a number that is broken at a place.
+fn broken_at(rule: u8, place: u8) -> Broken
+    ensures { result ≡ broken_at rule place }
+{
+    Broken {
+        rule,
+        place: place as u32,
+    }
+}
+
+/// The first broken one of the rules from Mileage on.
+#[tactic(auto, unfolding(crate::specs::Breaks::breaks_from_mileage, fare_rules::specs::UnitRules::mistimed, fare_rules::specs::UnitRules::misfitted))]
+fn first_from_mileage(edition: &Edition, trip: &Trip, parts: &[Part]) -> Option<Broken>
+    requires few { length parts.now ≤ 16 }
+    requires advances { Advances trip.now parts.now }
+    ensures { result ≡ first_given (breaks_from_mileage edition.now trip.now parts.now) }
+{
+    if let Some(k) = first_part(edition, trip, parts, PartRule::Mileage) {
+        return Some(broken_at(16, k));
+    }
+    if let Some(k) = first_part(edition, trip, parts, PartRule::Fare(FareRule::Excess)) {
+        return Some(broken_at(17, k));
+    }
+    if let Some(u) = first_unit(edition, trip, parts, UnitRule::Stay) {
+        return Some(broken_at(18, u));
+    }
+    if let Some(u) = first_unit(edition, trip, parts, UnitRule::Combine) {
+        return Some(broken_at(19, u));
+    }
+    if let Some(k) = clashed(edition, parts) {
+        return Some(broken_at(20, k));
+    }
+    if let Some(k) = first_part(edition, trip, parts, PartRule::Surface) {
+        return Some(broken_at(21, k));
+    }
+    if let Some(k) = first_part(edition, trip, parts, PartRule::Season) {
+        return Some(broken_at(22, k));
+    }
+    None
+}
+
+/// The first broken one of the rules from Distinct on.
+#[tactic(auto, unfolding(crate::specs::Breaks::breaks_from_distinct))]
+fn first_from_distinct(edition: &Edition, trip: &Trip, parts: &[Part]) -> Option<Broken>
+    requires few { length parts.now ≤ 16 }
+    requires advances { Advances trip.now parts.now }
+    ensures { result ≡ first_given (breaks_from_distinct edition.now trip.now parts.now) }
+{
+    if let Some(k) = first_part(edition, trip, parts, PartRule::Distinct) {
+        return Some(broken_at(8, k));
+    }
+    if let Some(k) = mispaired(edition, trip, parts) {
+        return Some(broken_at(9, k));
+    }
+    if let Some(k) = first_part(edition, trip, parts, PartRule::Fare(FareRule::Indicator)) {
+        return Some(broken_at(10, k));
+    }
+    if let Some(k) = first_part(edition, trip, parts, PartRule::Fare(FareRule::Cabin)) {
+        return Some(broken_at(11, k));
+    }
+    if let Some(k) = first_part(edition, trip, parts, PartRule::Fare(FareRule::Carrier)) {
+        return Some(broken_at(12, k));
+    }
+    if let Some(k) = first_part(edition, trip, parts, PartRule::Fare(FareRule::Stops)) {
+        return Some(broken_at(13, k));
+    }
+    if let Some(k) = first_part(edition, trip, parts, PartRule::Fare(FareRule::Transfers)) {
+        return Some(broken_at(14, k));
+    }
+    if let Some(k) = first_part(edition, trip, parts, PartRule::Fare(FareRule::Advance)) {
+        return Some(broken_at(15, k));
+    }
+    first_from_mileage(edition, trip, parts)
+}
+
+/// The first rule that a list of parts breaks, at its least place.
+#[tactic(auto, using(crate::proofs::UnitLemmas::advances_of_cover), unfolding(fare_rules::specs::Lawful::first_broken, fare_rules::specs::Lawful::breaks, crate::specs::Breaks::breaks_from_distinct, crate::specs::Breaks::breaks_from_mileage, fare_rules::specs::Shape::mixed, fare_rules::specs::Shape::unchained, fare_rules::specs::Shape::unclosed))]
+fn first_broken(edition: &Edition, trip: &Trip, parts: &[Part]) -> Option<Broken>
+    requires { length parts.now ≤ 16 }
+    ensures { result ≡ first_broken edition.now trip.now parts.now }
+{
+    if let Some(k) = uncovered(trip, parts) {
+        return Some(broken_at(1, k));
+    }
+    if let Some(k) = misnumbered(parts) {
+        return Some(broken_at(2, k));
+    }
+    if let Some(k) = unfiled(edition, parts) {
+        return Some(broken_at(3, k));
+    }
+    if let Some(k) = crossed(parts) {
+        return Some(broken_at(4, k));
+    }
+    if let Some(u) = first_unit(edition, trip, parts, UnitRule::Alone) {
+        return Some(broken_at(5, u));
+    }
+    if let Some(u) = first_unit(edition, trip, parts, UnitRule::Chain) {
+        return Some(broken_at(6, u));
+    }
+    if let Some(u) = first_unit(edition, trip, parts, UnitRule::Close) {
+        return Some(broken_at(7, u));
+    }
+    first_from_distinct(edition, trip, parts)
+}
+
+/// The price of a lawful construction, or the first rule that it breaks: the least number, at the least place.
+#[tactic(auto, using(crate::proofs::UnitLemmas::advances_of_unbroken, crate::proofs::UnitLemmas::numbered_of_unbroken), unfolding(fare_rules::specs::Lawful::lawful_price))]
+pub fn lawful_price(edition: &Edition, trip: &Trip, c: &Construction) -> Result<u64, Broken>
+    ensures { result ≡ lawful_price edition.now trip.now c.now }
+{
+    let parts = c.parts();
+    match first_broken(edition, trip, parts) {
+        Some(found) => Err(found),
+        None => Ok(price(edition, trip, parts)),
+    }
+}
