@@ -1,4 +1,7 @@
 -- The lines of records, one record further.
+use Rattle.std.specs.List.{All}
+use Rattle.std.proofs.lemmas.List.Elements.{All-append, All-cons, All-nil}
+use Rattle.fare_csv.specs.ReadBack.{ReadsBack}
 use Rattle.std.proofs.Common.{◌≡◌, ◌<◌, ◌+◌, ℕ, List, [], ◌∷◌, ◌++◌, length, take, get_or, refl, sym, ap, ◌∙◌, map, append_assoc}
 use Rattle.std.proofs.lemmas.List.{append-nil, map-append, take_more}
 use Rattle.fare_tariff.specs.declared.record.Record.{Record}
@@ -36,3 +39,13 @@ lines-whole tariff =
     append_assoc (line_of (head_row tariff.number tariff.effective)) (lines_of (map record_row tariff.records)) (line_of end_row)
     ∙ ap (λ (t : List ℕ). line_of (head_row tariff.number tariff.effective) ++ t)
     (ap (λ (t : List ℕ). lines_of (map record_row tariff.records) ++ t) (sym (lines_of-one end_row)) ∙ sym (lines_of-append (map record_row tariff.records) (end_row ∷ [])))
+
+-- no record is read back yet
+pub back-start : (records : List Record) → All ReadsBack (take 0 records)
+back-start records = All-nil ReadsBack
+
+-- the first records are read back, and so is the next
+pub back-step : (records : List Record) (i : ℕ) (one : Record) → i < length records → one ≡ get_or records i one
+    → All ReadsBack (take i records) → ReadsBack one → All ReadsBack (take (i + 1) records)
+back-step records i one h is before next =
+    rw (take_more records i one h, ← is) (All-append ReadsBack (take i records) (one ∷ []) before (All-cons ReadsBack one [] next (All-nil ReadsBack)))

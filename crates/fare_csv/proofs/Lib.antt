@@ -8,3 +8,6 @@ pub mod NamesText
 pub mod CanonicalLines
 pub mod PlainFields
 pub mod RecordsLemmas
+pub mod NamesReadBack
+pub mod RecordsReadBack
+pub mod EditionReadBack

@@ -1,10 +1,11 @@
 -- The text of names, one name further.
 use Rattle.std.proofs.Common.{◌≡◌, ◌<◌, ◌+◌, ℕ, zero, suc, List, [], ◌∷◌, ◌++◌, length, take, get_or, true, false, Option, refl, sym, ap, ◌∙◌, arith, map, append_assoc, length-take-le, if◌then◌else◌}
 use Rattle.std.specs.Prelude.{◌==◌}
-use Rattle.std.specs.List.{join_with_byte}
+use Rattle.std.specs.List.{join_with_byte, list_all}
 use Rattle.std.proofs.lemmas.Bool.{ne_eqb}
 use Rattle.std.proofs.lemmas.List.{map-append, take_more}
-use Rattle.std.proofs.lemmas.List.Folds.{list_all-append}
+use Rattle.std.proofs.lemmas.List.Folds.{list_all-append, list_all_more}
+use Rattle.fare_csv.specs.ReadBack.{is_name}
 use Rattle.fare_csv.specs.CanonicalText.{name_text}
 use Rattle.fare_csv.specs.Lines.{is_plain_field}
 
@@ -41,3 +42,8 @@ join-plain text name zero h k = rw (list_all-append, h, k) refl
 join-plain text name (suc i) h k =
     let some : (suc i == 0) ≡ false = ne_eqb (suc i) 0 (λ z. cc z) in
     rw (some, list_all-append, list_all-append, h, k) refl
+
+-- the first names are in their form, and so is the next
+pub form-step : (names : List (Option (List ℕ))) (i : ℕ) (name : Option (List ℕ)) → i < length names → name ≡ get_or names i name
+    → list_all is_name (take i names) ≡ true → is_name name ≡ true → list_all is_name (take (i + 1) names) ≡ true
+form-step names i name h is before form = rw (list_all_more is_name names i name h, ← is, before, form) refl

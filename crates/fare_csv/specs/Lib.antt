@@ -13,5 +13,6 @@ pub mod TariffText
 pub mod Filed
 pub mod NameList
 pub mod CanonicalText
+pub mod ReadBack
 pub use Rattle.fare_tariff.specs.Tariff
 pub use Rattle.fare_tariff.specs.Check

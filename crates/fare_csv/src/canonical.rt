@@ -1,5 +1,7 @@
-ghost use Rattle.std.specs.Prelude.{◌≡◌, ◌++◌, IfOk, OnOk};
+ghost use Rattle.std.specs.Prelude.{◌≡◌, ◌++◌, Ok, IfOk, OnOk};
 ghost use Rattle.fare_csv.specs.Lines.{line_of};
+ghost use Rattle.fare_csv.specs.ReadBack.{ReadsBack};
+ghost use Rattle.fare_csv.specs.TariffText.{edition_of};
 ghost use Rattle.fare_csv.specs.CanonicalText.{canonical_text, record_row};
 
 use crate::lines::Lines;
@@ -14,7 +16,8 @@ use std::alloc::{AllocError, Global};
 /// The line of a record.
 #[tactic(auto, unfolding(crate::specs::CanonicalText::record_row))]
 fn write_record(alloc: Global, lines: &mut Lines, one: &Record) -> Result<(), AllocError>
-    ensures { OnOk result (lines.new ≡ lines.old ++ line_of (record_row one.now)) }
+    ensures line { OnOk result (lines.new ≡ lines.old ++ line_of (record_row one.now)) }
+    ensures read_back { OnOk result (ReadsBack one.now) }
 {
     match one {
         Record::City(city) => write_city(lines, city),
@@ -28,9 +31,11 @@ fn write_record(alloc: Global, lines: &mut Lines, one: &Record) -> Result<(), Al
 }
 
 /// The canonical text of an edition: the version 2 spelling of HEAD, its records in their order
-/// and END, with a comma between two fields, without quotes, and LF behind each record.
+/// and END, with a comma between two fields, without quotes, and LF behind each record. Read back it
+/// is the edition.
 pub fn edition_text(alloc: Global, edition: &Edition) -> Result<Vec<u8>, NoMemory>
-    ensures { IfOk result (λ text. text.items ≡ canonical_text edition.now) }
+    ensures text { IfOk result (λ text. text.items ≡ canonical_text edition.now) }
+    ensures read_back { IfOk result (λ text. edition_of text.items ≡ Ok edition.now) }
 {
     let mut lines = Lines::new(alloc);
     write_head(&mut lines, edition.number(), edition.effective())?;

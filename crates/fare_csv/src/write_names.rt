@@ -1,8 +1,9 @@
 //! The text of a list of rules.
 
 ghost use Rattle.std.specs.Prelude.{◌≡◌, ◌==◌, [], ◌∷◌, ◌++◌, true, IfOk, OnOk, map, if◌then◌else◌};
-ghost use Rattle.std.specs.List.{join_with_byte};
+ghost use Rattle.std.specs.List.{join_with_byte, list_all};
 ghost use Rattle.fare_csv.specs.Lines.{is_plain_field};
+ghost use Rattle.fare_csv.specs.ReadBack.{are_names, is_name};
 ghost use Rattle.fare_csv.specs.CanonicalText.{name_text, names_text};
 
 use fare_codes::RuleId;
@@ -13,6 +14,7 @@ use std::alloc::{AllocError, Global};
 fn push_name(text: &mut Vec<u8>, name: Option<RuleId>) -> Result<(), AllocError>
     ensures text { OnOk result (text.new.items ≡ text.old.items ++ name_text name) }
     ensures plain { is_plain_field (name_text name) ≡ true }
+    ensures form { is_name name ≡ true }
 {
     match name {
         None => text.extend_from_slice(b"-"),
@@ -34,6 +36,7 @@ fn separate(text: &mut Vec<u8>, index: usize) -> Result<(), AllocError>
 fn joined(alloc: Global, names: &[Option<RuleId>]) -> Result<Vec<u8>, AllocError>
     ensures text { IfOk result (λ text. text.items ≡ join_with_byte 32 (map name_text names.now)) }
     ensures plain { IfOk result (λ text. is_plain_field text.items ≡ true) }
+    ensures form { OnOk result (list_all is_name names.now ≡ true) }
 {
     let mut text = Vec::new(alloc);
     for i in 0..names.len() {
@@ -47,6 +50,7 @@ fn joined(alloc: Global, names: &[Option<RuleId>]) -> Result<Vec<u8>, AllocError
 pub(crate) fn names_text(alloc: Global, names: &Names) -> Result<Vec<u8>, AllocError>
     ensures text { IfOk result (λ text. text.items ≡ names_text names.now) }
     ensures plain { IfOk result (λ text. is_plain_field text.items ≡ true) }
+    ensures form { OnOk result (are_names names.now ≡ true) }
 {
     match names {
         Names::All => Vec::from_slice(alloc, b"*"),

@@ -1,7 +1,10 @@
 //! The lines of records.
 
-ghost use Rattle.std.specs.Prelude.{◌≡◌, ◌++◌, true, OnOk};
+ghost use Rattle.std.specs.Prelude.{◌≡◌, ◌<◌, ◌≤◌, ◌++◌, true, Some, OnOk};
 ghost use Rattle.fare_csv.specs.Lines.{is_plain_field, line_of};
+ghost use Rattle.fare_csv.specs.RecordText.{read_fare_rule, read_via};
+ghost use Rattle.fare_csv.specs.ReadBack.{HeadReadsBack, ReadsBack};
+ghost use Rattle.fare_tariff.specs.declared.record.Record.TheVariants as filed;
 ghost use Rattle.fare_csv.specs.CanonicalText.{allowance_row, city_row, currency_row, end_row, excess_text, fare_row, head_row, mileage_row, pair_row, rule_row, text_or_empty};
 
 use crate::lines::Lines;
@@ -20,7 +23,10 @@ pub(crate) fn bytes_of(text: &ArrayString<16>) -> &[u8]
 
 /// HEAD, in version 2.
 pub(crate) fn write_head(lines: &mut Lines, number: u32, effective: Day) -> Result<(), AllocError>
-    ensures { OnOk result (lines.new ≡ lines.old ++ line_of (head_row number effective)) }
+    requires above_zero { 0 < number }
+    requires in_range { number ≤ 99_999 }
+    ensures line { OnOk result (lines.new ≡ lines.old ++ line_of (head_row number effective)) }
+    ensures read_back { HeadReadsBack number effective }
 {
     let number = number_text(number);
     let effective = effective.text();
@@ -41,7 +47,8 @@ pub(crate) fn write_end(lines: &mut Lines) -> Result<(), AllocError>
 
 /// The line of a CITY.
 pub(crate) fn write_city(lines: &mut Lines, city: &CityRec) -> Result<(), AllocError>
-    ensures { OnOk result (lines.new ≡ lines.old ++ line_of (city_row city.now)) }
+    ensures line { OnOk result (lines.new ≡ lines.old ++ line_of (city_row city.now)) }
+    ensures read_back { OnOk result (ReadsBack (filed.City city.now)) }
 {
     let code = city.code.text();
     let country = city.country.text();
@@ -56,7 +63,8 @@ pub(crate) fn write_city(lines: &mut Lines, city: &CityRec) -> Result<(), AllocE
 
 /// The line of a CUR.
 pub(crate) fn write_currency(lines: &mut Lines, rate: &CurRec) -> Result<(), AllocError>
-    ensures { OnOk result (lines.new ≡ lines.old ++ line_of (currency_row rate.now)) }
+    ensures line { OnOk result (lines.new ≡ lines.old ++ line_of (currency_row rate.now)) }
+    ensures read_back { OnOk result (ReadsBack (filed.Cur rate.now)) }
 {
     let country = rate.country.text();
     let currency = rate.currency.text();
@@ -77,7 +85,8 @@ pub(crate) fn write_currency(lines: &mut Lines, rate: &CurRec) -> Result<(), All
 
 /// The line of an MPM.
 pub(crate) fn write_mileage(lines: &mut Lines, mileage: &MileRec) -> Result<(), AllocError>
-    ensures { OnOk result (lines.new ≡ lines.old ++ line_of (mileage_row mileage.now)) }
+    ensures line { OnOk result (lines.new ≡ lines.old ++ line_of (mileage_row mileage.now)) }
+    ensures read_back { OnOk result (ReadsBack (filed.Mpm mileage.now)) }
 {
     let from = mileage.from.text();
     let to = mileage.to.text();
@@ -94,7 +103,8 @@ pub(crate) fn write_mileage(lines: &mut Lines, mileage: &MileRec) -> Result<(), 
 
 /// The line of a TPM.
 pub(crate) fn write_pair(lines: &mut Lines, pair: &PairRec) -> Result<(), AllocError>
-    ensures { OnOk result (lines.new ≡ lines.old ++ line_of (pair_row pair.now)) }
+    ensures line { OnOk result (lines.new ≡ lines.old ++ line_of (pair_row pair.now)) }
+    ensures read_back { OnOk result (ReadsBack (filed.Tpm pair.now)) }
 {
     let from = pair.from.text();
     let to = pair.to.text();
@@ -111,6 +121,7 @@ pub(crate) fn write_pair(lines: &mut Lines, pair: &PairRec) -> Result<(), AllocE
 fn via_text(via: Option<City>) -> ArrayString<16>
     ensures text { result.bytes ≡ text_or_empty via }
     ensures plain { is_plain_field (text_or_empty via) ≡ true }
+    ensures read_back { read_via (text_or_empty via) ≡ Some via }
 {
     match via {
         Some(city) => city.text(),
@@ -122,6 +133,7 @@ fn via_text(via: Option<City>) -> ArrayString<16>
 fn fare_rule_text(rule: Option<RuleId>) -> ArrayString<16>
     ensures text { result.bytes ≡ text_or_empty rule }
     ensures plain { is_plain_field (text_or_empty rule) ≡ true }
+    ensures read_back { read_fare_rule (text_or_empty rule) ≡ Some rule }
 {
     match rule {
         Some(id) => id.text(),
@@ -131,7 +143,8 @@ fn fare_rule_text(rule: Option<RuleId>) -> ArrayString<16>
 
 /// The line of an EMA.
 pub(crate) fn write_allowance(lines: &mut Lines, allowance: &EmaRec) -> Result<(), AllocError>
-    ensures { OnOk result (lines.new ≡ lines.old ++ line_of (allowance_row allowance.now)) }
+    ensures line { OnOk result (lines.new ≡ lines.old ++ line_of (allowance_row allowance.now)) }
+    ensures read_back { OnOk result (ReadsBack (filed.Ema allowance.now)) }
 {
     let from = allowance.from.text();
     let to = allowance.to.text();
@@ -150,7 +163,8 @@ pub(crate) fn write_allowance(lines: &mut Lines, allowance: &EmaRec) -> Result<(
 
 /// The line of a FARE.
 pub(crate) fn write_fare(lines: &mut Lines, fare: &FareRec) -> Result<(), AllocError>
-    ensures { OnOk result (lines.new ≡ lines.old ++ line_of (fare_row fare.now)) }
+    ensures line { OnOk result (lines.new ≡ lines.old ++ line_of (fare_row fare.now)) }
+    ensures read_back { OnOk result (ReadsBack (filed.Fare fare.now)) }
 {
     let from = fare.from.text();
     let to = fare.to.text();
@@ -187,7 +201,8 @@ fn excess_text(excess: bool) -> &'static [u8]
 
 /// The line of a RULE.
 pub(crate) fn write_rule(alloc: Global, lines: &mut Lines, rule: &RuleRec) -> Result<(), AllocError>
-    ensures { OnOk result (lines.new ≡ lines.old ++ line_of (rule_row rule.now)) }
+    ensures line { OnOk result (lines.new ≡ lines.old ++ line_of (rule_row rule.now)) }
+    ensures read_back { OnOk result (ReadsBack (filed.Rule rule.now)) }
 {
     let units = names_text(alloc, &rule.units)?;
     let ends = names_text(alloc, &rule.ends)?;

@@ -1,9 +1,18 @@
-use Rattle.std.proofs.Common.{arith, refl}
+use Rattle.std.proofs.Common.{◌≡◌, Some, arith, refl}
+use Rattle.std.specs.Prelude.{decimal}
+use Rattle.fare_codes.specs.Numbers.{read_number}
 use Rattle.fare_csv.specs.Lines.{is_plain_row}
 use Rattle.fare_csv.proofs.PlainFields.{country-plain, currency-plain, decimal-plain, mode-plain, rate-plain}
+use Rattle.fare_csv.proofs.RecordsReadBack.{currency_reads_back, on_any}
 use Rattle.fare_csv.proofs.write_record.write_currency.Goals as goal
 
 pub write-requires : goal.write-requires
 unfolding is_plain_row
 write-requires c =
     rw (c.as_slice.ensures, c.bytes_of.ensures, c.text-country.ensures.text, c.bytes_of-2.ensures, c.text-currency.ensures.text, c.bytes_of-3.ensures, c.rate_text-roe.ensures.text, c.bytes_of-4.ensures, c.number_text-decimals.ensures.text, c.from.ensures, c.bytes_of-5.ensures, c.number_text-unit.ensures.text, c.bytes_of-6.ensures, c.text-mode.ensures.text, country-plain _ c.text-country.ensures.form, currency-plain _ c.text-currency.ensures.form, rate-plain c.rate.inside.roe (omega arith), decimal-plain c.rate.inside.decimals (omega arith), decimal-plain c.rate.inside.unit (omega arith), mode-plain _) refl
+
+pub returns-clause-read_back : goal.returns-clause-read_back
+returns-clause-read_back c =
+    let decimals : read_number 2 (decimal c.rate.inside.decimals) ≡ Some c.rate.inside.decimals =
+    rw c.from.ensures at (c.number_text-decimals.ensures.read_back 2 (omega (arith, c.from.ensures, c.rate.invariant.decimals_in_range))) in
+    rw (← c.rate.view_is) (on_any _ (currency_reads_back _ c.rate.invariant c.text-country.ensures.form c.text-currency.ensures.form c.rate_text-roe.ensures.read_back decimals (c.number_text-unit.ensures.read_back 10_000 c.rate.invariant.unit_in_range) c.text-mode.ensures.read_back))
