@@ -1,5 +1,5 @@
 -- How many numbers of a range pass a test, one number on.
-use Rattle.std.proofs.Common.{◌≡◌, ℕ, ◌+◌, ◌<◌, ◌≤◌, Bool, true, false, cond, List, [], ◌∷◌, length, filter, refl, ap, ◌∙◌, arith}
+use Rattle.std.proofs.Common.{◌≡◌, ℕ, ◌+◌, ◌<◌, ◌≤◌, Bool, true, false, cond, List, ◌∷◌, length, filter, ap, ◌∙◌, arith}
 use Rattle.fare_rules.specs.Numbers.{numbers}
 use Rattle.fare_rules.proofs.NumberLemmas.{numbers_next, numbers_none}
 

@@ -1,3 +1,3 @@
 pub mod Conditions
 pub mod Counts
-pub mod Tests
+pub mod SameText

@@ -108,7 +108,7 @@ fn covers_cabins(trip: &Trip, a: usize, b: usize, fare: &FareRec) -> bool
 }
 
 /// Whether two carriers are the same.
-#[tactic(auto, using(crate::proofs::Tests::same_text))]
+#[tactic(auto, using(crate::proofs::SameText::same_text))]
 fn same_carriers(a: Carrier, b: Carrier) -> bool
     ensures { result ≡ bytes_eq a b }
 {

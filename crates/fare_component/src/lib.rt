@@ -9,3 +9,6 @@ mod terms;
 
 pub use amounts::applicable;
 pub use fare_rules::Amount;
+
+#[cfg(test)]
+mod tests;

@@ -23,7 +23,7 @@ pub(crate) fn holds_surface(trip: &Trip, a: usize, b: usize) -> bool
 }
 
 /// Whether two cities are the same.
-#[tactic(auto, using(crate::proofs::Tests::same_text))]
+#[tactic(auto, using(crate::proofs::SameText::same_text))]
 pub(crate) fn same_cities(a: City, b: City) -> bool
     ensures { result ≡ bytes_eq a b }
 {

@@ -1,7 +1,6 @@
 -- The cities of a range of points, one point on.
-use Rattle.std.proofs.Common.{◌≡◌, ℕ, ◌+◌, ◌<◌, ◌≤◌, List, [], ◌∷◌, map, ap}
+use Rattle.std.proofs.Common.{◌≡◌, ℕ, ◌+◌, ◌<◌, ◌≤◌, [], ◌∷◌, map, ap}
 use Rattle.fare_codes.specs.declared.city.City.{City}
-use Rattle.fare_trip.specs.Itinerary.{Itinerary, point}
 use Rattle.fare_rules.specs.Numbers.{numbers}
 use Rattle.fare_rules.proofs.NumberLemmas.{numbers_next, numbers_none}
 

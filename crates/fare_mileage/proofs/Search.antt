@@ -1,5 +1,5 @@
 -- A search of a list of numbers, one number on.
-use Rattle.std.proofs.Common.{◌≡◌, ℕ, ◌+◌, ◌<◌, ◌≤◌, Bool, cond, List, length, get_or, drop, Option, Some, None, find}
+use Rattle.std.proofs.Common.{◌≡◌, ℕ, ◌+◌, ◌<◌, ◌≤◌, Bool, cond, List, length, get_or, drop, Some, None, find}
 use Rattle.std.proofs.lemmas.List.{at_drop_more, at_drop_all}
 
 -- what is found in what is left of a list is its first number, or what is found in the rest

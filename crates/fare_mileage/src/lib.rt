@@ -8,3 +8,6 @@ mod steps;
 
 pub use fare_rules::{Mileage, Miles};
 pub use spans::mileage;
+
+#[cfg(test)]
+mod tests;

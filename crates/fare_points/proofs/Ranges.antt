@@ -1,6 +1,5 @@
 -- Ranges of numbers, one number on.
-use Rattle.std.proofs.Common.{◌≡◌, ℕ, suc, ◌+◌, ◌-◌, ◌<◌, ◌≤◌, Bool, true, false, cond, List, [], ◌∷◌, Option, Some, None, find, filter, refl, ap, ◌∙◌, arith, ◌||◌, ◌&&◌}
-use Rattle.std.specs.List.{range_with_len, list_any, list_all}
+use Rattle.std.proofs.Common.{◌≡◌, ℕ, ◌+◌, ◌<◌, ◌≤◌, Bool, true, false, cond, List, ◌∷◌, Option, Some, None, filter, refl, ap, ◌∙◌, arith}
 use Rattle.fare_rules.proofs.NumberLemmas.{numbers_next, numbers_none}
 use Rattle.fare_rules.specs.Numbers.{numbers, greater, greatest_of}
 

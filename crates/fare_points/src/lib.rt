@@ -15,3 +15,6 @@ pub use highers::higher;
 pub use indicators::{indicator, indicator_of};
 pub use places::placed;
 pub use references::{every_carrier, reference};
+
+#[cfg(test)]
+mod tests;
