@@ -1,5 +1,5 @@
 -- A number that was read from a field is in its range.
-use Rattle.std.proofs.Common.{◌≡◌, ◌≤◌, ℕ, Option, Some, None}
+use Rattle.std.proofs.Common.{◌≡◌, ◌≤◌, ℕ, Option, Some}
 use Rattle.std.specs.Prelude.{IfSome}
 use Rattle.fare_tariff.specs.declared.names.Names.{Names}
 use Rattle.fare_tariff.specs.Record.{name_count}

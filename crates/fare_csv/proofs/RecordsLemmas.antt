@@ -1,5 +1,5 @@
 -- The records that are left to read, behind those that were read.
-use Rattle.std.proofs.Common.{◌≡◌, ℕ, List, [], ◌∷◌, ◌++◌, Bool, true, false, refl, sym, ap, ◌∙◌, append_assoc, if◌then◌else◌}
+use Rattle.std.proofs.Common.{◌≡◌, ℕ, List, [], ◌∷◌, ◌++◌, Bool, true, false, refl, sym, ap, append_assoc, if◌then◌else◌}
 use Rattle.std.specs.Prelude.{Result, Ok, Err, codes}
 use Rattle.std.specs.Str.{bytes_eq}
 use Rattle.std.proofs.lemmas.List.{append-nil}
@@ -8,7 +8,7 @@ use Rattle.fare_csv.specs.declared.text_fault.TextFault.{TextFault}
 use Rattle.fare_csv.specs.declared.text_fault.TextFault.TheVariants.{Memory, NoHeader, UnknownRecord, BadRecord, AfterEnd, NoEnd, Check}
 use Rattle.fare_csv.specs.declared.version.Version.{Version}
 use Rattle.fare_csv.specs.Rows.{Fields}
-use Rattle.fare_csv.specs.Fields.{◌>>=◌, Gives, GivesFault, field}
+use Rattle.fare_csv.specs.Fields.{GivesFault, field}
 use Rattle.fare_csv.specs.TariffText.{end_of, ended_by, followed_by, number_after, record_of, records_of}
 
 -- records in front of those of a reading

@@ -1,5 +1,5 @@
 -- The rows of short texts.
-use Rattle.std.proofs.Common.{◌≡◌, [], ◌∷◌, ◌++◌, codes, refl}
+use Rattle.std.proofs.Common.{◌≡◌, [], ◌∷◌, codes, refl}
 use Rattle.csv.proofs.OnLiterals.{csv_on_literals}
 use Rattle.fare_csv.specs.Rows.{rows_of}
 

@@ -8,6 +8,10 @@ pub mod Head
 pub mod RecordKind
 pub mod RecordText
 pub mod CheckedFault
+pub mod FaultText
 pub mod TariffText
 pub mod Filed
 pub mod NameList
+pub mod CanonicalText
+pub use Rattle.fare_tariff.specs.Tariff
+pub use Rattle.fare_tariff.specs.Check

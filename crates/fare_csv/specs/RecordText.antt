@@ -1,5 +1,5 @@
 -- The records of a tariff text: what the fields of each kind spell.
-use Rattle.std.specs.Prelude.{ℕ, Bool, true, false, List, [], Option, Some, None, option_map, Result, Ok, Err, ◌==◌, length, codes, nat_lt, if◌then◌else◌}
+use Rattle.std.specs.Prelude.{ℕ, Bool, true, false, List, Option, Some, None, option_map, Result, Ok, ◌==◌, length, codes, nat_lt, if◌then◌else◌}
 use Rattle.std.specs.Str.{bytes_eq}
 use Rattle.fare_codes.specs.Codes.{read_city, read_country, read_currency, read_carrier, read_rule_id}
 use Rattle.fare_codes.specs.Words.{read_area, read_indicator, read_mode, read_cabin, read_kind}

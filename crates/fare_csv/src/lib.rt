@@ -1,7 +1,17 @@
-//! The text of a tariff: reads it as an edition, and writes an edition as its one canonical text.
+//! The text of a tariff: reads it as an edition or tells its first fault, and writes an edition as its one canonical
+//! text. What a text stands for is defined in `specs/`: its rows (`Rows`), what the fields of a row spell (`Head`,
+//! `RecordText`, `NameList`), the whole (`TariffText`), and the one spelling of an edition (`CanonicalText`, `Lines`).
+//!
+//! - `rows`, `lines`: a text row by row, and line by line;
+//! - `head`, `record_kind`, `read_record`, `read_rule`, `read_fare`, `name_list`, `numbers`: records from their fields;
+//! - `read_text`, `edition`: the whole text;
+//! - `write_record`, `write_names`, `canonical`: the canonical text;
+//! - `text_fault`, `fault_text`: what is wrong with a text, and the line that tells it.
 #![tactic(auto)]
 
+mod canonical;
 mod edition;
+mod fault_text;
 mod head;
 mod lines;
 mod name_list;
@@ -12,8 +22,13 @@ mod read_rule;
 mod read_text;
 mod record_kind;
 mod rows;
+#[cfg(test)]
+mod tests;
 mod text_fault;
 mod version;
+mod write_names;
+mod write_record;
 
+pub use canonical::edition_text;
 pub use edition::read_edition;
 pub use text_fault::TextFault;

@@ -16,9 +16,10 @@ use Rattle.fare_rules.specs.Shape.{crossed, is_hr, mixed, closes, is_open_jaw, u
 use Rattle.fare_rules.specs.Terms.{stops_hold, transfers_hold, advance_holds}
 use Rattle.fare_rules.specs.UnitPrice.{part_amount, unit_sum, is_round_trip, unit_kind, unit_minimum, unit_sheet, price}
 use Rattle.fare_rules.specs.UnitRules.{stay, mistimed, misfitted, clashed}
-use Rattle.fare_codes.specs.Day.{day_number}
+use Rattle.fare_codes.specs.Amounts.{surcharged}
+use Rattle.fare_codes.specs.Day.{day_number, days_since_1970}
 use Rattle.fare_codes.specs.Season.{season_holds}
-use Rattle.jiff_core.specs.Calendar.{days_of_years, days_of_months, day_count, days_from_civil}
+use Rattle.jiff_core.specs.Calendar.{days_of_months}
 use Rattle.fare_rules.proofs.Filed.{city, part}
 use Rattle.fare_rules.proofs.Cases.{Case, case, found, expected, broken}
 use Rattle.fare_rules.proofs.Editions.{through_fare, beside_paris, pacific_circle, end_on_end, side_trip, paris_and_lyon, limited}
@@ -85,5 +86,5 @@ broken_constructions =
 
 -- each breaks that rule first, there
 pub broken_rules : map found broken_constructions ≡ map expected broken_constructions
-unfolding greatest_reference backhaul compared_pairs base own_sectors circle_reference unit_circle_minimum repeats_city runs_between has_indicator covers_cabins covers_carriers in_season span_surcharge is_applicable fare_amount component_amount uncovered misnumbered unfiled own is_back_in indicator_of breaks first_broken lawful_price surcharge sum_of_miles compared_miles mileage reference crossed is_hr mixed closes is_open_jaw unchained unclosed stops_hold transfers_hold advance_holds part_amount unit_sum is_round_trip unit_kind unit_minimum unit_sheet price stay mistimed misfitted clashed day_number season_holds days_of_years days_of_months day_count days_from_civil
+unfolding greatest_reference backhaul compared_pairs base own_sectors circle_reference unit_circle_minimum repeats_city runs_between has_indicator covers_cabins covers_carriers in_season span_surcharge is_applicable fare_amount component_amount uncovered misnumbered unfiled own is_back_in indicator_of breaks first_broken lawful_price surcharge sum_of_miles compared_miles mileage reference crossed is_hr mixed closes is_open_jaw unchained unclosed stops_hold transfers_hold advance_holds part_amount unit_sum is_round_trip unit_kind unit_minimum unit_sheet price stay mistimed misfitted clashed day_number season_holds days_of_months days_since_1970 surcharged
 broken_rules = refl

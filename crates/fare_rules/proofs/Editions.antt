@@ -141,6 +141,14 @@ paris_and_lyon lyon = edition (three_cities ++
     ∷ fare "LON" "LYS" EH "YY" Y HR free 9_000
     ∷ [])
 
+-- record 4 is a half round trip inside one country
+abbrev pub inside_a_country : Tariff
+inside_a_country = edition (
+    city "LON" "GB" Two
+    ∷ city "MAN" "GB" Two
+    ∷ fare "LON" "MAN" EH "YY" Y HR free 6_000
+    ∷ [])
+
 -- record 4 is a fare of the summer, and record 5 one of the winter
 abbrev pub summer_and_winter : Tariff
 summer_and_winter = edition (

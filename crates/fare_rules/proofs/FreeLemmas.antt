@@ -8,7 +8,7 @@ use Rattle.std.proofs.lemmas.List.FromFn.{length-range_with_len}
 use Rattle.jiff_core.specs.Calendar.{days_in_month}
 use Rattle.fare_codes.specs.declared.rule_id.RuleId.{RuleId}
 use Rattle.fare_codes.specs.Day.{is_month_day, month_day_of, place_in_year, two_digits}
-use Rattle.fare_codes.specs.Season.{season_holds}
+use Rattle.fare_codes.specs.Season.{season_holds, whole_year}
 use Rattle.fare_trip.specs.Itinerary.{Itinerary}
 use Rattle.fare_tariff.specs.declared.terms.Terms.{Terms}
 use Rattle.fare_tariff.specs.Record.{FareRecord}
@@ -18,7 +18,7 @@ use Rattle.fare_rules.specs.Span.{is_stopover, is_transfer, interior, first_day}
 use Rattle.fare_rules.specs.Terms.{term_holds, allows_stops, allows_transfers, allows_advance, allows_surcharge, allows_stay, stops_hold, transfers_hold, advance_holds, advance_days}
 use Rattle.fare_rules.specs.ComponentAmount.{in_season, span_surcharge, is_allowed, is_applicable}
 use Rattle.fare_rules.specs.UnitRules.{allows_stay_of}
-use Rattle.fare_rules.specs.Free.{whole_year, is_applicable_freely}
+use Rattle.fare_rules.specs.Free.{is_applicable_freely}
 
 -- the interior points of a span within 16 sectors that pass a test are at most 16
 few_inside : (test : ℕ → Bool) (a b : ℕ) → b ≤ 16 → length (filter test (interior a b)) ≤ 16
@@ -75,7 +75,6 @@ days_up_to month =
 
 -- the place of a day of the year is from that of 1 January to that of 31 December
 place_in_range : (on : List ℕ) → is_month_day on ≡ true → (101 ≤ place_in_year on) × (place_in_year on ≤ 1_231)
-unfolding is_month_day
 place_in_range on e =
     let calendar = (and_parts _ _ e).1 in
     let day_in = and_parts _ _ calendar in

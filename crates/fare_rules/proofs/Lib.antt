@@ -2,6 +2,7 @@ pub mod Filed
 pub mod Editions
 pub mod Trips
 pub mod Cases
+pub mod Oceans
 pub mod WorkedMiles
 pub mod WorkedPrices
 pub mod BrokenRules
@@ -22,3 +23,4 @@ pub mod CheapestLemmas
 pub mod PriceLemmas
 pub mod TotalLemmas
 pub mod FreeLemmas
+pub mod ExistenceLemmas

@@ -3,6 +3,7 @@ use Rattle.std.proofs.Common.{◌≡◌, ℕ, zero, suc, ◌+◌, ◌-◌, ◌*�
 use Rattle.std.specs.Prelude.{Option, Some, None, option_map, option_and_then, find, filter_map, flat_map}
 use Rattle.std.specs.List.{cons_option}
 use Rattle.std.proofs.Math.Nat.{mul-le-mul, div-le_of_le-mul}
+use Rattle.fare_codes.specs.Amounts.{surcharged}
 use Rattle.fare_codes.specs.declared.city.City.{City}
 use Rattle.fare_codes.specs.declared.day.Day.{Day}
 use Rattle.fare_codes.specs.declared.indicator.Indicator.{Indicator}
@@ -109,6 +110,7 @@ minimum_up_to low (Some high) h =
 
 -- a base with a surcharge of at most 25
 raised_up_to : (amount : ℕ) (step : Option ℕ) → amount ≤ greatest_fare → UpTo 25 step → hundredths_of (option_map (amount_from amount) step) ≤ 1_250_000_000
+unfolding surcharged
 raised_up_to amount None h k = omega arith
 raised_up_to amount (Some step) h k =
     let raise : 100 + step ≤ 125 = omega arith in

@@ -27,9 +27,10 @@ use Rattle.fare_rules.specs.Shape.{crossed, is_hr, mixed, closes, is_open_jaw, u
 use Rattle.fare_rules.specs.Terms.{stops_hold, transfers_hold, advance_holds}
 use Rattle.fare_rules.specs.UnitPrice.{part_amount, unit_sum, is_round_trip, unit_kind, unit_minimum, unit_sheet, price}
 use Rattle.fare_rules.specs.UnitRules.{stay, mistimed, misfitted, clashed}
-use Rattle.fare_codes.specs.Day.{day_number}
+use Rattle.fare_codes.specs.Amounts.{surcharged}
+use Rattle.fare_codes.specs.Day.{day_number, days_since_1970}
 use Rattle.fare_codes.specs.Season.{season_holds}
-use Rattle.jiff_core.specs.Calendar.{days_of_years, days_of_months, day_count, days_from_civil}
+use Rattle.jiff_core.specs.Calendar.{days_of_months}
 use Rattle.fare_rules.proofs.Filed.{city, currency, fare, permitted, ticketed, allowed, edition, free, trip, stop, change, part}
 use Rattle.fare_rules.proofs.Cases.{Case, case, found, expected, priced, broken}
 
@@ -96,7 +97,7 @@ sampled_constructions =
     ∷ []
 
 pub sampled_prices : map found sampled_constructions ≡ map expected sampled_constructions
-unfolding greatest_reference backhaul compared_pairs base own_sectors circle_reference unit_circle_minimum repeats_city runs_between has_indicator covers_cabins covers_carriers in_season span_surcharge is_applicable fare_amount component_amount uncovered misnumbered unfiled own is_back_in indicator_of breaks first_broken lawful_price surcharge sum_of_miles compared_miles mileage single_fare reference crossed is_hr mixed closes is_open_jaw unchained unclosed stops_hold transfers_hold advance_holds part_amount unit_sum is_round_trip unit_kind unit_minimum unit_sheet price stay mistimed misfitted clashed day_number season_holds days_of_years days_of_months day_count days_from_civil
+unfolding greatest_reference backhaul compared_pairs base own_sectors circle_reference unit_circle_minimum repeats_city runs_between has_indicator covers_cabins covers_carriers in_season span_surcharge is_applicable fare_amount component_amount uncovered misnumbered unfiled own is_back_in indicator_of breaks first_broken lawful_price surcharge sum_of_miles compared_miles mileage single_fare reference crossed is_hr mixed closes is_open_jaw unchained unclosed stops_hold transfers_hold advance_holds part_amount unit_sum is_round_trip unit_kind unit_minimum unit_sheet price stay mistimed misfitted clashed day_number season_holds days_of_months days_since_1970 surcharged
 sampled_prices = refl
 
 -- the sheet of a unit by its number
@@ -121,5 +122,5 @@ pub sampled_sheets :
     ∷ (sheet unit.CT 55_821 (Some 36_882) 55_821 ∷ [])
     ∷ (sheet unit.OW 20_000 None 20_000 ∷ sheet unit.RT 44_760 None 44_760 ∷ sheet unit.OW 27_102 None 27_102 ∷ [])
     ∷ [])
-unfolding greatest_reference backhaul compared_pairs base own_sectors circle_reference unit_circle_minimum repeats_city runs_between has_indicator covers_cabins covers_carriers in_season span_surcharge is_applicable fare_amount component_amount uncovered misnumbered unfiled own is_back_in indicator_of breaks first_broken lawful_price surcharge sum_of_miles compared_miles mileage single_fare reference crossed is_hr mixed closes is_open_jaw unchained unclosed stops_hold transfers_hold advance_holds part_amount unit_sum is_round_trip unit_kind unit_minimum unit_sheet price stay mistimed misfitted clashed day_number season_holds days_of_years days_of_months day_count days_from_civil
+unfolding greatest_reference backhaul compared_pairs base own_sectors circle_reference unit_circle_minimum repeats_city runs_between has_indicator covers_cabins covers_carriers in_season span_surcharge is_applicable fare_amount component_amount uncovered misnumbered unfiled own is_back_in indicator_of breaks first_broken lawful_price surcharge sum_of_miles compared_miles mileage single_fare reference crossed is_hr mixed closes is_open_jaw unchained unclosed stops_hold transfers_hold advance_holds part_amount unit_sum is_round_trip unit_kind unit_minimum unit_sheet price stay mistimed misfitted clashed day_number season_holds days_of_months days_since_1970 surcharged
 sampled_sheets = refl

@@ -29,6 +29,10 @@ straight_to_rome day = sold (stop "ROM" "Q1" day ∷ [])
 abbrev pub rome_and_back : Itinerary
 rome_and_back = sold (stop "ROM" "Q1" "2025-04-10" ∷ stop "LON" "Q1" "2025-04-12" ∷ [])
 
+-- London to Manchester and back
+abbrev pub manchester_and_back : Itinerary
+manchester_and_back = sold (stop "MAN" "Q1" "2025-04-10" ∷ stop "LON" "Q1" "2025-04-12" ∷ [])
+
 -- London by way of Paris to Rome, and back by way of Paris
 abbrev pub paris_twice : Itinerary
 paris_twice = sold (

@@ -12,8 +12,9 @@ use Rattle.fare_rules.specs.ComponentAmount.{component_amount, fare_amount, is_a
 use Rattle.fare_rules.specs.Indicator.{indicator_of}
 use Rattle.fare_codes.specs.Season.{season_holds}
 use Rattle.fare_rules.specs.Terms.{stops_hold, transfers_hold, advance_holds}
-use Rattle.fare_codes.specs.Day.{day_number}
-use Rattle.jiff_core.specs.Calendar.{days_of_years, days_of_months, day_count, days_from_civil}
+use Rattle.fare_codes.specs.Amounts.{surcharged}
+use Rattle.fare_codes.specs.Day.{day_number, days_since_1970}
+use Rattle.jiff_core.specs.Calendar.{days_of_months}
 use Rattle.fare_rules.specs.Mileage.{mileage, compared_miles, surcharge, sum_of_miles}
 use Rattle.fare_rules.specs.Base.{base, compared_pairs}
 use Rattle.fare_rules.specs.Reference.{reference}
@@ -101,7 +102,7 @@ pub through_amounts :
     ∷ amount 40_000 10 44_000
     ∷ None
     ∷ [])
-unfolding component_amount fare_amount is_applicable repeats_city runs_between has_indicator indicator_of covers_cabins covers_carriers in_season season_holds stops_hold transfers_hold advance_holds day_number days_of_years days_of_months day_count days_from_civil span_surcharge mileage compared_miles surcharge sum_of_miles base compared_pairs reference
+unfolding component_amount fare_amount is_applicable repeats_city runs_between has_indicator indicator_of covers_cabins covers_carriers in_season season_holds stops_hold transfers_hold advance_holds day_number days_of_months days_since_1970 surcharged span_surcharge mileage compared_miles surcharge sum_of_miles base compared_pairs reference
 through_amounts = refl
 
 -- the first parts that a construction can have
@@ -112,7 +113,7 @@ first_parts tariff = first_part_choices tariff stopping_in_paris
 pub first_parts_to_rome :
     map first_parts (through_fare 40_000 700 ∷ through_fare 40_000 951 ∷ without_miles ∷ [])
     ≡ (((2, 8) ∷ []) ∷ [] ∷ [] ∷ [])
-unfolding first_part_choices component_amount fare_amount is_applicable repeats_city runs_between has_indicator indicator_of covers_cabins covers_carriers in_season season_holds stops_hold transfers_hold advance_holds day_number days_of_years days_of_months day_count days_from_civil span_surcharge mileage compared_miles surcharge sum_of_miles base compared_pairs reference
+unfolding first_part_choices component_amount fare_amount is_applicable repeats_city runs_between has_indicator indicator_of covers_cabins covers_carriers in_season season_holds stops_hold transfers_hold advance_holds day_number days_of_months days_since_1970 surcharged span_surcharge mileage compared_miles surcharge sum_of_miles base compared_pairs reference
 first_parts_to_rome = refl
 
 -- the first city of a trip that an edition does not know

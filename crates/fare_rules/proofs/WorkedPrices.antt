@@ -28,14 +28,15 @@ use Rattle.fare_rules.specs.Shape.{crossed, is_hr, mixed, closes, is_open_jaw, u
 use Rattle.fare_rules.specs.Terms.{stops_hold, transfers_hold, advance_holds}
 use Rattle.fare_rules.specs.UnitPrice.{part_amount, unit_sum, is_round_trip, unit_kind, unit_minimum, unit_sheet, price}
 use Rattle.fare_rules.specs.UnitRules.{stay, mistimed, misfitted, clashed}
-use Rattle.fare_codes.specs.Day.{day_number}
+use Rattle.fare_codes.specs.Amounts.{surcharged}
+use Rattle.fare_codes.specs.Day.{day_number, days_since_1970}
 use Rattle.fare_codes.specs.Season.{season_holds}
-use Rattle.jiff_core.specs.Calendar.{days_of_years, days_of_months, day_count, days_from_civil}
+use Rattle.jiff_core.specs.Calendar.{days_of_months}
 use Rattle.fare_rules.specs.Order.{is_before, compare_parts}
 use Rattle.fare_rules.proofs.Filed.{city, part}
 use Rattle.fare_rules.proofs.Cases.{Case, case, found, expected, priced}
-use Rattle.fare_rules.proofs.Editions.{through_fare, beside_paris, pacific_circle, round_the_world, end_on_end, side_trip, paris_and_lyon, summer_and_winter}
-use Rattle.fare_rules.proofs.Trips.{stopping_in_paris, changing_in_paris, straight_to_rome, paris_twice, by_the_pacific, on_two_carriers, back_from_lyon}
+use Rattle.fare_rules.proofs.Editions.{through_fare, beside_paris, pacific_circle, round_the_world, end_on_end, side_trip, paris_and_lyon, inside_a_country, summer_and_winter}
+use Rattle.fare_rules.proofs.Trips.{stopping_in_paris, changing_in_paris, straight_to_rome, paris_twice, by_the_pacific, on_two_carriers, back_from_lyon, manchester_and_back}
 
 -- the through fare with 700 miles from Paris
 abbrev plain : Tariff
@@ -66,6 +67,8 @@ lawful_constructions =
     ∷ case round_the_world on_two_carriers (part 2 1 12 ∷ part 5 1 13 ∷ []) (priced 280_000)
     -- an open jaw between Paris and Lyon
     ∷ case (paris_and_lyon (city "LYS" "FR" Two)) back_from_lyon (part 1 1 9 ∷ part 3 1 10 ∷ []) (priced 19_000)
+    -- a round trip inside one country, whose last part goes back
+    ∷ case inside_a_country manchester_and_back (part 1 1 4 ∷ part 2 1 4 ∷ []) (priced 12_000)
     -- a fare of the summer
     ∷ case summer_and_winter (straight_to_rome "2025-04-10") (part 1 1 4 ∷ []) (priced 40_000)
     -- the winter lasts to 31 March
@@ -76,7 +79,7 @@ lawful_constructions =
 
 -- each costs that
 pub lawful_prices : map found lawful_constructions ≡ map expected lawful_constructions
-unfolding greatest_reference backhaul compared_pairs base own_sectors circle_reference unit_circle_minimum repeats_city runs_between has_indicator covers_cabins covers_carriers in_season span_surcharge is_applicable fare_amount component_amount uncovered misnumbered unfiled own is_back_in indicator_of breaks first_broken lawful_price surcharge sum_of_miles compared_miles mileage reference crossed is_hr mixed closes is_open_jaw unchained unclosed stops_hold transfers_hold advance_holds part_amount unit_sum is_round_trip unit_kind unit_minimum unit_sheet price stay mistimed misfitted clashed day_number season_holds days_of_years days_of_months day_count days_from_civil
+unfolding greatest_reference backhaul compared_pairs base own_sectors circle_reference unit_circle_minimum repeats_city runs_between has_indicator covers_cabins covers_carriers in_season span_surcharge is_applicable fare_amount component_amount uncovered misnumbered unfiled own is_back_in indicator_of breaks first_broken lawful_price surcharge sum_of_miles compared_miles mileage reference crossed is_hr mixed closes is_open_jaw unchained unclosed stops_hold transfers_hold advance_holds part_amount unit_sum is_round_trip unit_kind unit_minimum unit_sheet price stay mistimed misfitted clashed day_number season_holds days_of_months days_since_1970 surcharged
 lawful_prices = refl
 
 -- the sheet of a unit by its number
@@ -107,7 +110,7 @@ pub worked_sheets :
     ∷ (sheet unit.CT 277_500 (Some 280_000) 280_000 ∷ [])
     ∷ (sheet unit.OJ 19_000 None 19_000 ∷ [])
     ∷ [])
-unfolding greatest_reference backhaul compared_pairs base own_sectors circle_reference unit_circle_minimum repeats_city runs_between has_indicator covers_cabins covers_carriers in_season span_surcharge is_applicable fare_amount component_amount uncovered misnumbered unfiled own is_back_in indicator_of breaks first_broken lawful_price surcharge sum_of_miles compared_miles mileage reference crossed is_hr mixed closes is_open_jaw unchained unclosed stops_hold transfers_hold advance_holds part_amount unit_sum is_round_trip unit_kind unit_minimum unit_sheet price stay mistimed misfitted clashed day_number season_holds days_of_years days_of_months day_count days_from_civil
+unfolding greatest_reference backhaul compared_pairs base own_sectors circle_reference unit_circle_minimum repeats_city runs_between has_indicator covers_cabins covers_carriers in_season span_surcharge is_applicable fare_amount component_amount uncovered misnumbered unfiled own is_back_in indicator_of breaks first_broken lawful_price surcharge sum_of_miles compared_miles mileage reference crossed is_hr mixed closes is_open_jaw unchained unclosed stops_hold transfers_hold advance_holds part_amount unit_sum is_round_trip unit_kind unit_minimum unit_sheet price stay mistimed misfitted clashed day_number season_holds days_of_months days_since_1970 surcharged
 worked_sheets = refl
 
 -- the higher intermediate point of a fare
@@ -148,7 +151,7 @@ world_indicators = refl
 pub world_amount :
     component_amount round_the_world on_two_carriers 2 5 13 true
     ≡ Some (record { base = 150_000; surcharge = 5; amount = 157_500 })
-unfolding component_amount fare_amount is_applicable repeats_city runs_between has_indicator indicator_of covers_cabins covers_carriers in_season season_holds stops_hold transfers_hold advance_holds day_number days_of_years days_of_months day_count days_from_civil span_surcharge mileage compared_miles surcharge sum_of_miles base compared_pairs reference
+unfolding component_amount fare_amount is_applicable repeats_city runs_between has_indicator indicator_of covers_cabins covers_carriers in_season season_holds stops_hold transfers_hold advance_holds day_number days_of_months days_since_1970 surcharged span_surcharge mileage compared_miles surcharge sum_of_miles base compared_pairs reference
 world_amount = refl
 
 -- at equal prices the construction whose first part is longer is before

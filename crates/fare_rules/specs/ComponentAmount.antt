@@ -1,5 +1,5 @@
 -- Component amount: what a fare costs for a span, one test a condition.
-use Rattle.std.specs.Prelude.{ℕ, ◌+◌, ◌*◌, ◌/◌, Bool, true, not, Option, Some, None, bytes_eq, option_and_then, option_map, is_some, nat_le, ◌&&◌, ◌||◌, if◌then◌else◌}
+use Rattle.std.specs.Prelude.{ℕ, ◌+◌, Bool, true, not, Option, Some, None, bytes_eq, option_and_then, option_map, is_some, nat_le, ◌&&◌, ◌||◌, if◌then◌else◌}
 use Rattle.std.specs.List.{list_any, list_all}
 use Rattle.fare_codes.specs.declared.cabin.Cabin.{Cabin}
 use Rattle.fare_codes.specs.declared.cabin.Cabin.TheVariants.{F, C, Y}
@@ -7,6 +7,7 @@ use Rattle.fare_codes.specs.declared.carrier.Carrier.{Carrier}
 use Rattle.fare_codes.specs.declared.city.City.{City}
 use Rattle.fare_codes.specs.declared.kind.Kind.TheVariants.{HR}
 use Rattle.fare_codes.specs.declared.nuc.Nuc.{Nuc}
+use Rattle.fare_codes.specs.Amounts.{surcharged}
 use Rattle.fare_codes.specs.Day.{month_day_of}
 use Rattle.fare_codes.specs.Season.{season_holds}
 use Rattle.fare_trip.specs.Itinerary.{Itinerary, sector, point}
@@ -26,7 +27,7 @@ use Rattle.fare_rules.specs.Base.{base}
 abbrev pub is_same_city : Itinerary → ℕ → ℕ → Bool
 is_same_city trip i j = bytes_eq (point trip i) (point trip j)
 
--- a point is the city of an earlier point of a span that begins at another
+-- a point of a span that begins at a point a is the city of an earlier point of it
 abbrev pub is_repeated : Itinerary → ℕ → ℕ → Bool
 is_repeated trip a i = list_any (is_same_city trip i) (numbers a i)
 
@@ -112,7 +113,7 @@ is_applicable tariff trip a b back fare =
 
 -- a base with a surcharge, rounded down
 abbrev pub amount_from : Nuc → ℕ → Amount
-amount_from base step = record { base = base; surcharge = step; amount = base * (100 + step) / 100 }
+amount_from base step = record { base = base; surcharge = step; amount = surcharged base step }
 
 -- the amount of a fare for a span, where it may be used
 unfoldable pub fare_amount : Tariff → Itinerary → ℕ → ℕ → Bool → FareRecord → Option Amount

@@ -1,15 +1,10 @@
 -- Fares of the free rule that are filed for the whole year: what is left to ask of them.
-use Rattle.std.specs.Prelude.{ℕ, Bool, not, [], ◌∷◌, ◌&&◌}
-use Rattle.fare_codes.specs.declared.season.Season.{Season}
+use Rattle.std.specs.Prelude.{ℕ, Bool, not, ◌&&◌}
 use Rattle.fare_trip.specs.Itinerary.{Itinerary}
 use Rattle.fare_tariff.specs.Record.{FareRecord}
 use Rattle.fare_tariff.specs.Tariff.{Tariff}
 use Rattle.fare_rules.specs.Span.{holds_surface}
 use Rattle.fare_rules.specs.ComponentAmount.{repeats_city, runs_between, may_be_priced, has_indicator, covers_cabins, covers_carriers, mileage_holds}
-
--- the whole year is the season from `01-01` to `12-31`
-abbrev pub whole_year : Season
-whole_year = record { first = 48 ∷ 49 ∷ 45 ∷ 48 ∷ 49 ∷ []; last = 49 ∷ 50 ∷ 45 ∷ 51 ∷ 49 ∷ [] }
 
 -- a fare without a rule and a season may be used for a span: there is no surface sector and no city twice, its cities, its
 -- indicator, its class and its carrier are those of the span, and the miles are not over

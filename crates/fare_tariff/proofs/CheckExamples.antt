@@ -4,7 +4,6 @@ use Rattle.fare_codes.specs.declared.area.Area.TheVariants.{Two}
 use Rattle.fare_codes.specs.declared.cabin.Cabin.TheVariants.{Y}
 use Rattle.fare_codes.specs.declared.kind.Kind.TheVariants.{OW}
 use Rattle.fare_codes.specs.declared.mode.Mode.TheVariants.{Up}
-use Rattle.fare_codes.specs.declared.indicator.Indicator.{Indicator}
 use Rattle.fare_codes.specs.declared.indicator.Indicator.TheVariants.{EH}
 use Rattle.fare_codes.specs.Season.{season_holds}
 use Rattle.fare_tariff.specs.declared.record.Record.{Record}

@@ -1,25 +1,17 @@
 -- What is known of the record that a look-up finds in a list without a fault.
-use Rattle.std.proofs.Common.{◌≡◌, ◌≢◌, ℕ, ◌+◌, ◌-◌, ◌*◌, ◌<◌, ◌≤◌, Bool, true, false, cond, IsTrue, ◌&&◌, ◌||◌, List, [], ◌∷◌, length, get_or, take, Option, Some, None, IsSome, IfSome, OnSome, IsSomeAnd, option_map, option_and_then, is_none, slice_get, position, count_by, nat_le, bytes_eq, refl, sym, ap, ◌∙◌, subst, arith, rules, zero, suc, ◌⊎◌, inl, inr}
-use Rattle.std.specs.Option.{option_or, option_copied}
+use Rattle.std.proofs.Common.{◌≡◌, ◌≢◌, ℕ, ◌<◌, Bool, true, false, cond, List, [], ◌∷◌, length, get_or, take, Option, Some, None, IsSome, is_none, bytes_eq, refl, sym, ◌∙◌, arith, rules, zero, suc, ◌⊎◌, inl, inr}
+use Rattle.std.specs.Option.{option_or}
 use Rattle.std.proofs.lemmas.Bool.{eqb-false, false≢true}
-use Rattle.std.proofs.lemmas.Bool.Decides.{nat_tests}
 use Rattle.std.proofs.lemmas.Slice.Eq.{bytes_eq-Decides}
-use Rattle.std.proofs.lemmas.Option.{slice_get_within, slice_get-get_or, get_or_from_slice_get}
-use Rattle.std.proofs.lemmas.List.Quantifiers.{position-Some}
 use Rattle.fare_codes.specs.declared.city.City.{City}
-use Rattle.fare_codes.specs.declared.country.Country.{Country}
 use Rattle.fare_codes.specs.declared.indicator.Indicator.{Indicator}
-use Rattle.fare_codes.specs.declared.indicator.Indicator.TheVariants.{WH, EH, AT, PA, AP}
-use Rattle.fare_codes.specs.declared.month_day.MonthDay.{MonthDay}
 use Rattle.fare_tariff.specs.declared.record.Record.{Record}
 use Rattle.fare_tariff.specs.declared.record.Record.TheVariants as filed
 use Rattle.fare_tariff.specs.declared.city_record.CityRec.{CityRec}
-use Rattle.fare_tariff.specs.declared.fare_key.FareKey.{FareKey}
-use Rattle.fare_tariff.specs.Record.{FareRecord}
 use Rattle.fare_tariff.specs.Tariff.{Tariff}
-use Rattle.fare_tariff.specs.Lookup.{first_some, city_in, currency_in, city_record, currency_of, mpm_in, tpm_in, fare_at, fare_in, is_fare_on, is_fare_between, number_at, numbers_from, same_indicator, has_key, terms}
+use Rattle.fare_tariff.specs.Lookup.{first_some, city_in, currency_in, city_record, mpm_in, tpm_in}
 use Rattle.fare_tariff.specs.Check.{first_fault}
-use Rattle.fare_tariff.specs.Filed.{IsFiledCity, IsFiledFare, IsFareOn, IsFareBetween}
+use Rattle.fare_tariff.specs.Filed.{IsFiledCity}
 use Rattle.fare_tariff.proofs.Validity.{HasNoKind, no_kind_at}
 
 -- what a test admits

@@ -1,6 +1,6 @@
 -- What is known of the fares that the look-ups of an edition find.
-use Rattle.std.proofs.Common.{◌≡◌, ◌≢◌, ℕ, ◌+◌, ◌-◌, ◌<◌, ◌≤◌, Bool, true, false, cond, ◌&&◌, ◌||◌, List, [], ◌∷◌, length, get_or, take, Option, Some, None, IsSome, IsSomeAnd, option_map, option_and_then, is_none, slice_get, position, count_by, bytes_eq, leb, refl, sym, ap, ◌∙◌, arith, rules, zero, suc, add-one}
-use Rattle.std.proofs.lemmas.Bool.{false≢true, le-leb, leb-true, ltb-false, leb-false}
+use Rattle.std.proofs.Common.{◌≡◌, ℕ, ◌+◌, ◌-◌, ◌<◌, ◌≤◌, Bool, true, false, cond, ◌&&◌, ◌||◌, List, [], ◌∷◌, get_or, take, Option, Some, None, IsSome, IsSomeAnd, option_map, option_and_then, is_none, slice_get, position, count_by, bytes_eq, leb, refl, ap, ◌∙◌, arith, rules, zero, suc}
+use Rattle.std.proofs.lemmas.Bool.{le-leb, leb-true, leb-false}
 use Rattle.std.proofs.lemmas.Option.{slice_get_within, slice_get-get_or, get_or_from_slice_get}
 use Rattle.std.proofs.lemmas.List.Quantifiers.{position-Some}
 use Rattle.std.proofs.lemmas.List.Sums.{sum_by-append}
@@ -14,7 +14,7 @@ use Rattle.fare_tariff.specs.declared.record.Record.TheVariants as filed
 use Rattle.fare_tariff.specs.declared.fare_key.FareKey.{FareKey}
 use Rattle.fare_tariff.specs.Record.{FareRecord}
 use Rattle.fare_tariff.specs.Tariff.{Tariff}
-use Rattle.fare_tariff.specs.Lookup.{first_some, city_in, rule_in, fare_at, fare_in, fare_number, is_fare_on, is_fare_between, number_at, numbers_from, nth_fare, same_indicator, has_key, terms, terms_of}
+use Rattle.fare_tariff.specs.Lookup.{first_some, city_in, fare_at, fare_in, fare_number, is_fare_on, is_fare_between, number_at, numbers_from, nth_fare, same_indicator, has_key, terms, terms_of}
 use Rattle.fare_tariff.specs.Check.{first_fault, is_one_unknown, is_unknown_rule}
 use Rattle.fare_tariff.specs.Filed.{IsFiledFare, IsFareOn, IsFareBetween}
 use Rattle.fare_tariff.proofs.Validity.{HasNoKind, no_kind_at, place_in_limit}

@@ -1,5 +1,5 @@
 -- Two seasons share a day exactly where one of them holds the other's first day.
-use Rattle.std.proofs.Common.{◌≡◌, ℕ, ◌<◌, ◌≤◌, Bool, true, false, cond, leb, ◌&&◌, ◌||◌, nat_le, if◌then◌else◌, IsTrue, arith, refl, ◌⊎◌, inl, inr}
+use Rattle.std.proofs.Common.{◌≡◌, ℕ, Bool, true, false, ◌&&◌, ◌||◌, nat_le, if◌then◌else◌, IsTrue, arith, refl, ◌⊎◌, inl, inr}
 use Rattle.std.proofs.lemmas.Bool.Decides.{nat_tests}
 use Rattle.fare_codes.specs.declared.season.Season.{Season}
 use Rattle.fare_codes.specs.Day.{place_in_year, is_month_day}

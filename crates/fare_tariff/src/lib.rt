@@ -38,3 +38,6 @@ pub use record::Record;
 pub use rule_record::RuleRec;
 pub use seasons::overlap_is_a_shared_day;
 pub use terms::Terms;
+
+#[cfg(test)]
+mod tests;

@@ -119,8 +119,8 @@ apart a b differ same =
 points_differ_at : (trip : Itinerary) → MadeOf trip.sectors trip.from trip.sale → (k : ℕ) → k < count trip → point trip k ≢ point trip (suc k)
 points_differ_at trip made k k_in = rw (point-before trip k, point-before trip (suc k)) (apart _ _ (faultless_sector trip made k k_in).reaches_another)
 
-days_rise_at : (trip : Itinerary) → MadeOf trip.sectors trip.from trip.sale → (k : ℕ) → k < count trip → day_number (day_before trip (suc k)) ≤ day_number (sector trip (suc k)).day
-days_rise_at trip made k k_in = rw (day_before-before trip k, sector-suc trip k) (faultless_sector trip made k k_in).rises
+days_never_fall_at : (trip : Itinerary) → MadeOf trip.sectors trip.from trip.sale → (k : ℕ) → k < count trip → day_number (day_before trip (suc k)) ≤ day_number (sector trip (suc k)).day
+days_never_fall_at trip made k k_in = rw (day_before-before trip k, sector-suc trip k) (faultless_sector trip made k k_in).rises
 
 -- a sector in its place is flown where a surface sector may not stand
 flown_where_barred : (surface bars : Bool) → (surface && bars) ≡ false → bars ≡ true → surface ≡ false
@@ -162,7 +162,7 @@ is_trip trip h =
       some = made.some;
       at_most = made.at_most;
       points_differ = λ number from_one to_count. let P : ℕ → Type 0 = λ n. point trip (number - 1) ≢ point trip n in subst P (next_after number from_one) (points_differ_at trip made (number - 1) (omega arith));
-      days_rise = λ number from_one to_count. let P : ℕ → Type 0 = λ n. day_number (day_before trip n) ≤ day_number (sector trip n).day in subst P (next_after number from_one) (days_rise_at trip made (number - 1) (omega arith));
+      days_never_fall = λ number from_one to_count. let P : ℕ → Type 0 = λ n. day_number (day_before trip n) ≤ day_number (sector trip n).day in subst P (next_after number from_one) (days_never_fall_at trip made (number - 1) (omega arith));
       first_flown = flown_at trip made 0 (omega arith) refl;
       last_flown = flown_at trip made (count trip - 1) (omega arith) (second_of_three (1 + (count trip - 1) == 1) (1 + (count trip - 1) == count trip) (before trip (count trip - 1)).surface (grind (arith, nat_tests)));
       surfaces_apart = λ number from_one below_count is_surface. surface_apart trip made (number - 1) number (next_after number from_one) below_count is_surface;

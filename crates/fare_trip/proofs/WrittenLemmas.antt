@@ -81,7 +81,7 @@ trip_has_no_float : (t : Itinerary) → has_float (trip_data t) ≡ false
 unfolding trip_data
 trip_has_no_float t = rw (sectors_have_no_float t.sectors)
 
-trip_is_shallow : (t : Itinerary) → depth (trip_data t) ≤ max_depth
+pub trip_is_shallow : (t : Itinerary) → depth (trip_data t) ≤ max_depth
 unfolding trip_data
 trip_is_shallow t = omega (arith, sectors_are_shallow t.sectors)
 

@@ -55,7 +55,7 @@ pub record IsTrip (trip : Itinerary) : Type 0 where
   pub some : 1 ≤ count trip
   pub at_most : count trip ≤ 16
   pub points_differ : (number : ℕ) → 1 ≤ number → number ≤ count trip → point trip (number - 1) ≢ point trip number
-  pub days_rise : (number : ℕ) → 1 ≤ number → number ≤ count trip → day_number (day_before trip number) ≤ day_number (sector trip number).day
+  pub days_never_fall : (number : ℕ) → 1 ≤ number → number ≤ count trip → day_number (day_before trip number) ≤ day_number (sector trip number).day
   pub first_flown : (sector trip 1).surface ≡ false
   pub last_flown : (sector trip (count trip)).surface ≡ false
   pub surfaces_apart : (number : ℕ) → 1 ≤ number → number < count trip → (sector trip number).surface ≡ true → (sector trip (number + 1)).surface ≡ false

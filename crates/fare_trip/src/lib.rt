@@ -19,7 +19,7 @@ pub use itinerary_text::{read_trip, trip_of};
 pub use sector::Sector;
 pub use short_line::read_short;
 pub use trip::Trip;
-pub use written::trip_text;
+pub use written::{text_tells, trip_text};
 
 #[cfg(test)]
 mod tests;

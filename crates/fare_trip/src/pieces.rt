@@ -4,7 +4,7 @@ ghost use Rattle.std.specs.Prelude.{◌≡◌, ◌≤◌, ◌==◌, ◌∷◌, [
 ghost use Rattle.std.specs.List.{position};
 ghost use Rattle.fare_trip.specs.ShortLine.{pieces, without_return};
 
-/// The pieces behind the first one of a short line.
+/// The seven pieces of a short line, of which the first names its kind.
 #[derive(Clone, Copy)]
 pub(crate) struct ShortTexts<'a> {
     pub(crate) kind: &'a [u8],

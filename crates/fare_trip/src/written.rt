@@ -71,3 +71,8 @@ pub fn trip_text(alloc: Global, trip: &Trip) -> Result<Vec<u8>, NoMemory>
     let value = trip_value(alloc, trip)?;
     Ok(value.to_vec(alloc)?)
 }
+
+/// No two trips have one text.
+pub fn text_tells(one: &Trip, other: &Trip)
+    ensures { trip_text one.now ≡ trip_text other.now → one.now ≡ other.now }
+{}

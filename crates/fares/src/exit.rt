@@ -1,9 +1,9 @@
 ghost use Rattle.std.specs.Prelude.{◌≡◌};
-ghost use Rattle.fares.specs.Exit.{status_of};
 
 use fare_book::Damage;
 use fare_codes::{City, Day};
 use fare_csv::TextFault;
+use fare_outside::NoMemory;
 use fare_trip::TripFault;
 
 /// What a run ended in.
@@ -46,6 +46,8 @@ pub enum Exit {
 }
 
 impl Exit {
+    ghost use Rattle.fares.specs.Exit.{status_of};
+
     /// The program's status.
     pub fn status(&self) -> u8
         ensures { result ≡ status_of self.now }
@@ -69,5 +71,16 @@ impl Exit {
             Exit::Memory => 20,
             Exit::NotYet => 30,
         }
+    }
+}
+
+impl From<NoMemory> for Exit {
+    ghost use Rattle.std.specs.Prelude.{◌≡◌};
+    ghost use Rattle.fares.specs.declared.exit.Exit.TheVariants.{Memory};
+
+    ghost from_gives = { λ _ exit. exit ≡ Memory };
+
+    fn from(_: NoMemory) -> Exit {
+        Exit::Memory
     }
 }

@@ -2,26 +2,42 @@
 //! sink, store, door and gate; `main` calls it over the real ones.
 #![tactic(auto)]
 
-mod answer;
 mod exit;
-mod fault_text;
+mod fault_line;
+mod input;
 mod price;
+mod quotation;
 mod quote;
 mod run;
+#[cfg(test)]
+mod tests;
 mod words;
 
 use crate::exit::Exit;
-use crate::fault_text::fault_text;
+use crate::fault_line::fault_text;
 use crate::run::run;
-use fare_outside::{Bodies, OpenGate, PlainDoor, PlainKeeper, StdSink, StdSource};
-use std::alloc::{AllocError, Global};
-use std::io::ErrorKind;
+use fare_outside::{Bodies, NoMemory, OpenGate, PlainDoor, PlainKeeper, StdSink, StdSource};
+use std::io::{ErrorKind, Write};
 use std::process::ExitCode;
 use std::{env, io};
 
 fn main(rt: HostRuntime) -> ExitCode {
+    let alloc = rt.alloc();
+    let mut source = StdSource::new(&rt);
+    let mut sink = StdSink::new(&rt);
+    let mut store = PlainKeeper::new(Bodies::new(alloc));
+    let mut door = PlainDoor::new();
     let exit = match words_after_the_first(&rt) {
-        Ok(words) => run_for_real(&rt, words.as_slice()),
+        Ok(words) => run(
+            &rt,
+            alloc,
+            words.as_slice(),
+            &mut source,
+            &mut sink,
+            &mut store,
+            &mut door,
+            &OpenGate,
+        ),
         Err(exit) => exit,
     };
     if exit.status() != 0 {
@@ -30,7 +46,7 @@ fn main(rt: HostRuntime) -> ExitCode {
     ExitCode::from(exit.status())
 }
 
-/// The words behind the program's own name. A word that isn't UTF-8 is no word that the program takes.
+/// The words behind the program's own name. A word that isn't UTF-8 is none that the program takes.
 fn words_after_the_first(rt: &HostRuntime) -> Result<Vec<String>, Exit> {
     let mut words = Vec::new(rt.alloc());
     for word in env::args(rt).map_err(exit_of)?.skip(1) {
@@ -46,15 +62,11 @@ fn exit_of(error: io::Error) -> Exit {
     }
 }
 
-fn run_for_real(rt: &HostRuntime, words: &[String]) -> Exit {
-    let alloc = rt.alloc();
-    let mut source = StdSource::new(rt);
-    let mut sink = StdSink::new(rt);
-    let mut store = PlainKeeper::new(Bodies::new(alloc));
-    let mut door = PlainDoor::new();
-    run(rt, alloc, words, &mut source, &mut sink, &mut store, &mut door, &OpenGate)
-}
-
-/// Prints why the program ends, on standard error; nothing more can be done where that fails too.
+/// Prints on standard error why the program ends. Where that fails too, nothing more can be done.
 fn tell(rt: &HostRuntime, exit: &Exit) {
+    let mut standard_error = rt.stderr();
+    let _ = match fault_text(rt.alloc(), exit) {
+        Ok(line) => standard_error.write_all(line.as_slice()),
+        Err(NoMemory) => standard_error.write_all(b"NO MEMORY\n"),
+    };
 }

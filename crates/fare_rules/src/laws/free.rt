@@ -1,5 +1,6 @@
 ghost use Rattle.std.specs.Prelude.{◌≡◌, ◌<◌, ◌≤◌, ◌^◌, ℕ, Bool, true, Some, None};
 ghost use Rattle.fare_codes.specs.Day.{is_month_day, month_day_of};
+ghost use Rattle.fare_codes.specs.Season.{whole_year};
 ghost use Rattle.fare_trip.specs.Itinerary.{Itinerary};
 ghost use Rattle.fare_tariff.specs.Lookup.{unit_ok, ends_ok};
 ghost use Rattle.fare_tariff.specs.Record.{FareRecord};
@@ -7,7 +8,7 @@ ghost use Rattle.fare_tariff.specs.Tariff.{Tariff};
 ghost use Rattle.fare_rules.specs.Span.{first_day};
 ghost use Rattle.fare_rules.specs.ComponentAmount.{is_applicable, in_season};
 ghost use Rattle.fare_rules.specs.UnitRules.{allows_stay_of};
-ghost use Rattle.fare_rules.specs.Free.{whole_year, is_applicable_freely};
+ghost use Rattle.fare_rules.specs.Free.{is_applicable_freely};
 
 /// A fare of the whole year is in season on each day.
 pub fn whole_year_holds_each_day()

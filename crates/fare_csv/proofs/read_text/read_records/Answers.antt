@@ -1,4 +1,4 @@
-use Rattle.std.proofs.Common.{◌≡◌, ◌∙◌, Err, ap, refl, rules, sym}
+use Rattle.std.proofs.Common.{◌≡◌, ◌∙◌, Err, refl, rules, sym}
 use Rattle.fare_csv.specs.Fields.{Gives, GivesFault}
 use Rattle.fare_csv.proofs.RecordsLemmas.{behind-end, behind-ended, behind-followed, behind-none, behind-nothing, behind-record, fault-ended, fault-followed}
 use Rattle.fare_csv.proofs.read_text.read_records.Goals as goal

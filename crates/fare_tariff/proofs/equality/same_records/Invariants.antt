@@ -1,5 +1,5 @@
 -- both lists agree up to this place
-use Rattle.std.proofs.Common.{◌≡◌, take, length}
+use Rattle.std.proofs.Common.{◌≡◌, take}
 use Rattle.fare_tariff.proofs.equality.same_records.Given as goal
 
 abbrev pub invariant-loop-place : goal.invariant-loop-place

@@ -1,0 +1,107 @@
+//! The line on standard error that says why a run ended.
+
+ghost use Rattle.std.specs.Prelude.{◌≡◌, ◌++◌, IfOk, OnOk, drop, codes, decimal};
+ghost use Rattle.fares.specs.FaultText.{line, damage_text, fault_line};
+ghost use Rattle.fare_csv.specs.FaultText.{fault_text as tariff_fault_text};
+
+use crate::exit::Exit;
+use fare_book::Damage;
+use fare_codes::number_text;
+use fare_csv::TextFault;
+use fare_outside::NoMemory;
+use std::alloc::Global;
+
+/// The line of what a run ended in; nothing for `Done`.
+pub fn fault_text(alloc: Global, exit: &Exit) -> Result<Vec<u8>, NoMemory>
+    ensures { IfOk result (λ text. text.items ≡ fault_line exit.now) }
+{
+    match exit {
+        Exit::Done => Ok(Vec::new(alloc)),
+        Exit::Usage => words(alloc, b"USAGE"),
+        Exit::BadTariff(fault) => words(alloc, fault.text().as_str().as_bytes()),
+        Exit::BadTrip(fault) => words(alloc, fault.text().as_str().as_bytes()),
+        Exit::Limit => words(alloc, b"LIMIT"),
+        Exit::NoEdition(day) => named(alloc, b"NO EDITION ", day.text().as_str().as_bytes()),
+        Exit::UnknownPlace(city) => named(
+            alloc,
+            b"UNKNOWN PLACE ",
+            city.text().as_str().as_bytes(),
+        ),
+        Exit::ReadFault => words(alloc, b"READ FAULT"),
+        Exit::WriteFault => words(alloc, b"WRITE FAULT"),
+        Exit::KeeperFault => words(alloc, b"KEEPER FAULT"),
+        Exit::DoorFault => words(alloc, b"DOOR FAULT"),
+        Exit::Differs(number) => numbered(alloc, b"DIFFERS ", *number),
+        Exit::BookFull => words(alloc, b"BOOK FULL"),
+        Exit::Damaged(place, damage) => damaged(alloc, *place, damage),
+        Exit::NoSuch(number) => numbered(alloc, b"NO SUCH EDITION ", *number),
+        Exit::Memory => words(alloc, b"NO MEMORY"),
+        Exit::NotYet => words(alloc, b"NOT YET"),
+    }
+}
+
+/// A line of words.
+fn words(alloc: Global, words: &[u8]) -> Result<Vec<u8>, NoMemory>
+    ensures { IfOk result (λ text. text.items ≡ line words.now) }
+{
+    let mut text = Vec::from_slice(alloc, words)?;
+    text.push(b'\n')?;
+    Ok(text)
+}
+
+/// A line of words and what they speak of.
+fn named(alloc: Global, front: &[u8], name: &[u8]) -> Result<Vec<u8>, NoMemory>
+    ensures { IfOk result (λ text. text.items ≡ line (front.now ++ name.now)) }
+{
+    let mut text = Vec::from_slice(alloc, front)?;
+    text.extend_from_slice(name)?;
+    text.push(b'\n')?;
+    Ok(text)
+}
+
+/// A line of words and a number.
+fn numbered(alloc: Global, front: &[u8], number: u32) -> Result<Vec<u8>, NoMemory>
+    ensures { IfOk result (λ text. text.items ≡ line (front.now ++ decimal number)) }
+{
+    named(alloc, front, number_text(number).as_str().as_bytes())
+}
+
+/// The line of a damaged place of a store.
+fn damaged(alloc: Global, place: u32, damage: &Damage) -> Result<Vec<u8>, NoMemory>
+    ensures { IfOk result (λ text. text.items ≡ line (codes "DAMAGED " ++ decimal place ++ codes " " ++ damage_text damage.now)) }
+{
+    let mut text = Vec::from_slice(alloc, b"DAMAGED ")?;
+    text.extend_from_slice(number_text(place).as_str().as_bytes())?;
+    text.extend_from_slice(b" ")?;
+    append_damage(&mut text, damage)?;
+    text.push(b'\n')?;
+    Ok(text)
+}
+
+fn append_damage(text: &mut Vec<u8>, damage: &Damage) -> Result<(), NoMemory>
+    ensures { OnOk result (text.new.items ≡ text.old.items ++ damage_text damage.now) }
+{
+    match damage {
+        Damage::Text(fault) => append_fault(text, fault),
+        Damage::Repeat(place) => append_repeat(text, *place),
+        Damage::TooMany => Ok(text.extend_from_slice(b"TooMany")?),
+    }
+}
+
+/// Appends a tariff fault without its first word.
+fn append_fault(text: &mut Vec<u8>, fault: &TextFault) -> Result<(), NoMemory>
+    ensures { OnOk result (text.new.items ≡ text.old.items ++ drop 7 (tariff_fault_text fault.now)) }
+{
+    let line = fault.text();
+    let bytes = line.as_str().as_bytes();
+    text.extend_from_slice(&bytes[bytes.len().min(7)..])?;
+    Ok(())
+}
+
+fn append_repeat(text: &mut Vec<u8>, place: u32) -> Result<(), NoMemory>
+    ensures { OnOk result (text.new.items ≡ text.old.items ++ codes "Repeat " ++ decimal place) }
+{
+    text.extend_from_slice(b"Repeat ")?;
+    text.extend_from_slice(number_text(place).as_str().as_bytes())?;
+    Ok(())
+}

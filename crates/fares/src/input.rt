@@ -1,0 +1,79 @@
+//! The source of `price`: an itinerary on its first line, and a tariff text behind it.
+
+ghost use Rattle.std.specs.Prelude.{◌≡◌, ◌+◌, ◌≤◌, length, drop};
+ghost use Rattle.std.specs.List.{position_or_len};
+ghost use Rattle.fares.specs.declared.exit.Exit.TheVariants.{BadTariff, BadTrip};
+ghost use Rattle.fares.specs.Input.{is_line_feed, itinerary_text, tariff_text, itinerary_of};
+ghost use Rattle.fares.specs.Run.{Reads};
+ghost use Rattle.fare_csv.specs.TariffText.{edition_of};
+
+use crate::exit::Exit;
+use fare_csv::{TextFault, read_edition};
+use fare_tariff::Edition;
+use fare_trip::{Trip, TripFault, read_short, read_trip};
+use std::alloc::Global;
+use std::thread::Threads;
+
+/// Where the first LF stands; the length where there is none.
+#[tactic(auto, using(std::proofs::lemmas::List::Sums::position_or_len_is))]
+fn line_end(source: &[u8]) -> usize
+    ensures place { result ≡ position_or_len is_line_feed source.now }
+    ensures within { result ≤ length source.now }
+{
+    for (i, byte) in source.iter().enumerate() {
+        if *byte == b'\n' {
+            return i;
+        }
+    }
+    source.len()
+}
+
+/// The bytes before the first LF, and those behind it.
+pub fn split_source(source: &[u8]) -> (&[u8], &[u8])
+    ensures itinerary { result.0.now ≡ itinerary_text source.now }
+    ensures tariff { result.1.now ≡ tariff_text source.now }
+{
+    let end = line_end(source);
+    (&source[..end], behind(source, end))
+}
+
+/// What stands behind a place of a text.
+fn behind(text: &[u8], place: usize) -> &[u8]
+    requires { place ≤ length text.now }
+    ensures { result.now ≡ drop (place + 1) text.now }
+{
+    if place == text.len() {
+        &[]
+    } else {
+        &text[place + 1..]
+    }
+}
+
+/// The edition of a tariff text.
+#[tactic(auto, unfolding(fare_csv::specs::Fields::Gives, fare_csv::specs::Fields::GivesFault))]
+pub fn edition_in<R: Threads + Sync>(rt: &R, alloc: Global, text: &[u8]) -> Result<Edition, Exit>
+    ensures { Reads BadTariff (edition_of text.now) result }
+{
+    match read_edition(rt, alloc, text) {
+        Ok(edition) => Ok(edition),
+        Err(TextFault::Memory) => Err(Exit::Memory),
+        Err(fault) => Err(Exit::BadTariff(fault)),
+    }
+}
+
+/// The trip of an itinerary text, a short line or JSON.
+#[tactic(auto, unfolding(crate::specs::Input::itinerary_of))]
+pub fn trip_in(alloc: Global, text: &[u8]) -> Result<Trip, Exit>
+    ensures { Reads BadTrip (itinerary_of text.now) result }
+{
+    let reading = if text.starts_with(b"TRIP,") {
+        read_short(text)
+    } else {
+        read_trip(alloc, text)
+    };
+    match reading {
+        Ok(trip) => Ok(trip),
+        Err(TripFault::Memory) => Err(Exit::Memory),
+        Err(fault) => Err(Exit::BadTrip(fault)),
+    }
+}

@@ -1,0 +1,67 @@
+ghost use Rattle.std.specs.Prelude.{◌≡◌, ◌⊎◌, map, string_bytes, IfSome};
+ghost use Rattle.std.specs.Bool.{OnFalse};
+ghost use Rattle.std.specs.Io.KnownBytes.{Appends};
+ghost use Rattle.fare_outside.specs.Cause.{Rose};
+ghost use Rattle.fare_outside.specs.Sink.{AppendsPrefix};
+ghost use Rattle.fares.specs.Words.{is_price};
+ghost use Rattle.fares.specs.Outcome.{IsOutcome};
+ghost use Rattle.fares.specs.Run.{EndsIn, IsSilent, WritesNothing};
+
+use crate::exit::Exit;
+use crate::price::{PRICE_LIMIT, price};
+use crate::words::is_price;
+use fare_outside::{Door, Gate, Keeper, ReadEnd, Sink, Source, read_all, write_all};
+use std::alloc::Global;
+use std::thread::Threads;
+
+/// The whole program, over any source, sink, store, door and gate: does what the words ask, and says how it ended.
+///
+/// `ReadFault` and `WriteFault` come only where the source's and the sink's count rose in this call. Where the source
+/// tells its bytes, every other answer but want of memory is the one that the words and those bytes define. All text is
+/// built before the first write, so nothing is written on any answer but `Done` and, a prefix, `WriteFault`.
+pub fn run<R: Threads + Sync, S: Source, K: Sink, P: Keeper, D: Door, G: Gate>(
+    rt: &R,
+    alloc: Global,
+    words: &[String],
+    src: &mut S,
+    out: &mut K,
+    store: &mut P,
+    door: &mut D,
+    gate: &G,
+) -> Exit
+    ensures answer { IfSome (S.left src.old) (λ source. EndsIn (IsOutcome (map string_bytes words.now) source) result (K.taken out.old) (K.taken out.new)) }
+    ensures not_taken { OnFalse (is_price (map string_bytes words.now)) (result ≡ Exit.NotYet) }
+
+    ensures read_fault { result ≡ Exit.ReadFault → Rose (S.faults src.old) (S.faults src.new) }
+    ensures write_fault { result ≡ Exit.WriteFault → Rose (K.faults out.old) (K.faults out.new) }
+    ensures silent { IsSilent result → WritesNothing (K.taken out.old) (K.taken out.new) }
+    ensures store { store.new ≡ store.old }
+    ensures door { door.new ≡ door.old }
+{
+    if !is_price(words) {
+        return Exit::NotYet;
+    }
+    let source = match read_all(alloc, src, PRICE_LIMIT) {
+        Ok(source) => source,
+        Err(ReadEnd::Memory) => return Exit::Memory,
+        Err(ReadEnd::ReadFault) => return Exit::ReadFault,
+        Err(ReadEnd::TooLong) => return Exit::Limit,
+    };
+    match price(rt, alloc, source.as_slice()) {
+        Ok(text) => written(out, text.as_slice()),
+        Err(exit) => exit,
+    }
+}
+
+/// Writes the text of an answer, whole.
+fn written<K: Sink>(out: &mut K, text: &[u8]) -> Exit
+    ensures ends { (result ≡ Exit.Done) ⊎ (result ≡ Exit.WriteFault) }
+    ensures whole { result ≡ Exit.Done → Appends (K.taken out.old) (K.taken out.new) text.now }
+    ensures prefix { result ≡ Exit.WriteFault → AppendsPrefix (K.taken out.old) (K.taken out.new) text.now }
+    ensures cause { result ≡ Exit.WriteFault → Rose (K.faults out.old) (K.faults out.new) }
+{
+    match write_all(out, text) {
+        Ok(()) => Exit::Done,
+        Err(_) => Exit::WriteFault,
+    }
+}
