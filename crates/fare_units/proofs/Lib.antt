@@ -4,6 +4,7 @@ pub mod OrderLemmas
 pub mod SameLemmas
 pub mod ShapeLemmas
 pub mod WalkLemmas
+pub mod AloneLemmas
 pub mod NextLemmas
 pub mod StepLemmas
 pub mod FrontLemmas

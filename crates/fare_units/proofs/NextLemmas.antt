@@ -14,14 +14,15 @@ use Rattle.fare_rules.specs.Numbers.{numbers}
 use Rattle.fare_rules.specs.ComponentAmount.{runs_between}
 use Rattle.fare_rules.specs.Construction.{part_at, no_part, end_of, unit_of, begin_after, start_of, places, fare_of, greatest_unit, is_misnumbered, misnumbered, uncovered}
 use Rattle.fare_rules.specs.Direction.{is_back}
-use Rattle.fare_rules.specs.Shape.{is_same_unit, is_begun_before, is_straddled, is_crossed, crossed}
+use Rattle.fare_rules.specs.Shape.{is_one_way, is_ow, is_same_unit, is_begun_before, is_straddled, is_crossed, crossed}
 use Rattle.fare_rules.specs.Best.{IsLawful}
 use Rattle.fare_rules.proofs.NumberLemmas.{find_none}
 use Rattle.fare_rules.proofs.CoverLemmas.{IsCover, cover, both_false, begins_later, cover_is_whole}
 use Rattle.fare_rules.proofs.LawfulLemmas.{IsKept, kept}
 use Rattle.fare_rules.proofs.AmountLemmas.{MayBeUsed, fare_is_filed, part_may_be_used}
+use Rattle.fare_units.proofs.AloneLemmas.{unmixed}
 use Rattle.fare_rules.proofs.ReferenceLemmas.{number_of_record}
-use Rattle.fare_units.specs.Walk.{next_start, may_serve, runs_either, is_fruitless}
+use Rattle.fare_units.specs.Walk.{next_start, is_mixed_with, mixes, may_serve, runs_either, is_fruitless}
 
 -- the parts of a list are not changed by others behind them
 pub front_part : (front rest : List Part) (k : ℕ) → 1 ≤ k → k ≤ length front → part_at (front ++ rest) k ≡ part_at front k
@@ -74,6 +75,15 @@ straddled_front front rest d b dl dh bl bh =
 pub crossed_front : (front rest : List Part) (d : ℕ) → 1 ≤ d → d ≤ length front → is_crossed (front ++ rest) d ≡ is_crossed front d
 crossed_front front rest d dl dh =
     any_same (is_straddled (front ++ rest) d) (is_straddled front d) 1 (d - 1) (λ k low high. straddled_front front rest d k dl dh low (omega arith))
+
+-- a part shares its unit with a one way fare of a list where it does in a front of the list
+ow_front : (tariff : Tariff) (front rest : List Part) (k : ℕ) → 1 ≤ k → k ≤ length front → is_ow tariff (front ++ rest) k ≡ is_ow tariff front k
+ow_front tariff front rest k low high = ap (λ (p : Part). is_one_way (fare_at tariff p.fare)) (front_part front rest k low high)
+
+mixes_front : (tariff : Tariff) (front rest : List Part) (k : ℕ) → 1 ≤ k → k ≤ length front → mixes tariff (front ++ rest) k ≡ mixes tariff front k
+mixes_front tariff front rest k low high =
+    any_same (is_mixed_with tariff (front ++ rest) k) (is_mixed_with tariff front k) 1 (k - 1)
+    (λ j jl jh. rw (same_unit_front front rest k j low high jl (omega arith), ow_front tariff front rest j jl (omega arith), ow_front tariff front rest k low high) refl)
 
 not_true : (b : Bool) → not b ≡ false → b ≡ true
 not_true true e = refl
@@ -158,13 +168,31 @@ module _ (tariff : Tariff) (trip : Itinerary) (front : List Part) (next : Part) 
       let runs = subst P (ap (λ (p : Part). p.end) (next_part front next rest)) (subst Q (start_by trip front next rest) used.pair) in
       rw is (runs_one trip (next_start trip front) next.end (is_back tariff trip (front ++ next ∷ rest) (length front + 1)) filed.0 runs)
 
-  -- and its place is not fruitless
-  pub next_fruitful : is_fruitless (front ++ next ∷ []) ≡ false
-  unfolding is_fruitless crossed here
-  next_fruitful =
+  next_uncrossed : is_crossed (front ++ next ∷ []) (length front + 1) ≡ false
+  unfolding crossed here
+  next_uncrossed =
       let inside : length front + 1 ≤ length (front ++ next ∷ rest) = in_all in
       let n : length (front ++ next ∷ []) ≡ length front + 1 = length-append front (next ∷ []) ∙ omega arith in
       let fails : is_crossed (front ++ next ∷ rest) (length front + 1) ≡ false = find_none (is_crossed (front ++ next ∷ rest)) 1 (length (front ++ next ∷ rest) + 1) holds.crossing (length front + 1) (omega arith) (omega arith) in
       let split : (front ++ next ∷ []) ++ rest ≡ front ++ next ∷ rest = append_assoc front (next ∷ []) rest in
       let same : is_crossed ((front ++ next ∷ []) ++ rest) (length front + 1) ≡ is_crossed (front ++ next ∷ []) (length front + 1) = crossed_front (front ++ next ∷ []) rest (length front + 1) (omega arith) (omega arith) in
-      rw n (sym same ∙ (rw split fails))
+      sym same ∙ (rw split fails)
+
+  next_unmixed : mixes tariff (front ++ next ∷ []) (length front + 1) ≡ false
+  unfolding here
+  next_unmixed =
+      let inside : length front + 1 ≤ length (front ++ next ∷ rest) = in_all in
+      let n : length (front ++ next ∷ []) ≡ length front + 1 = length-append front (next ∷ []) ∙ omega arith in
+      let unit : unit_of (front ++ next ∷ rest) (length front + 1) ≡ next.unit = ap (λ (p : Part). p.unit) (next_part front next rest) in
+      let low : 1 ≤ next.unit = next_numbered.0 in
+      let fails : mixes tariff (front ++ next ∷ rest) (length front + 1) ≡ false = unmixed tariff (front ++ next ∷ rest) holds.alone (length front + 1) inside (omega arith) in
+      let split : (front ++ next ∷ []) ++ rest ≡ front ++ next ∷ rest = append_assoc front (next ∷ []) rest in
+      let same : mixes tariff ((front ++ next ∷ []) ++ rest) (length front + 1) ≡ mixes tariff (front ++ next ∷ []) (length front + 1) = mixes_front tariff (front ++ next ∷ []) rest (length front + 1) (omega arith) (omega arith) in
+      sym same ∙ (rw split fails)
+
+  -- and its place is not fruitless
+  pub next_fruitful : is_fruitless tariff (front ++ next ∷ []) ≡ false
+  unfolding is_fruitless
+  next_fruitful =
+      let n : length (front ++ next ∷ []) ≡ length front + 1 = length-append front (next ∷ []) ∙ omega arith in
+      rw (n, next_uncrossed) next_unmixed

@@ -161,12 +161,12 @@ module _ (tariff : Tariff) (trip : Itinerary) (front : List Part) where
       record { next = g.next; rest = g.rest; whole = g.whole; meets = (g.meets.0, g.meets.1, omega arith) })
 
   -- over one part
-  pub part_none : (part : Part) (b : Found) → is_fruitless (front ++ part ∷ []) ≡ true → Walks tariff trip (GoesOn front (IsPart part)) b b
+  pub part_none : (part : Part) (b : Found) → is_fruitless tariff (front ++ part ∷ []) ≡ true → Walks tariff trip (GoesOn front (IsPart part)) b b
   part_none part b none =
       walk_nothing tariff trip (GoesOn front (IsPart part)) b
       (λ parts price l g.
-      let fruitful : is_fruitless (front ++ g.next ∷ []) ≡ false = next_fruitful tariff trip front g.next g.rest price (lawful_next (IsPart part) parts price l g) in
-      let P : Part → Type 0 = λ p. is_fruitless (front ++ p ∷ []) ≡ false in
+      let fruitful : is_fruitless tariff (front ++ g.next ∷ []) ≡ false = next_fruitful tariff trip front g.next g.rest price (lawful_next (IsPart part) parts price l g) in
+      let P : Part → Type 0 = λ p. is_fruitless tariff (front ++ p ∷ []) ≡ false in
       true_false (sym none ∙ subst P g.meets fruitful))
 
   pub part_walked : (part : Part) (a b : Found) → Walks tariff trip (Completes (front ++ part ∷ [])) a b → Walks tariff trip (GoesOn front (IsPart part)) a b

@@ -1,5 +1,7 @@
 -- What a walk over constructions has seen, and what its best is worth.
-use Rattle.std.specs.Prelude.{◌≡◌, ℕ, ◌+◌, ◌<◌, ◌≤◌, Bool, true, false, ◌⊎◌, List, [], ◌∷◌, ◌++◌, length, Option, Some, None, ◌||◌}
+use Rattle.std.specs.Prelude.{◌≡◌, ℕ, ◌+◌, ◌<◌, ◌≤◌, Bool, true, false, ◌⊎◌, List, [], ◌∷◌, ◌++◌, length, Option, Some, None, ◌&&◌, ◌||◌}
+use Rattle.std.specs.List.{list_any}
+use Rattle.fare_rules.specs.Numbers.{numbers}
 use Rattle.fare_trip.specs.Itinerary.{Itinerary, count}
 use Rattle.fare_tariff.specs.Record.{FareRecord}
 use Rattle.fare_tariff.specs.Tariff.{Tariff}
@@ -9,7 +11,7 @@ use Rattle.fare_rules.specs.Best.{IsLawful}
 use Rattle.fare_rules.specs.ComponentAmount.{runs_between}
 use Rattle.fare_rules.specs.Construction.{start_of, end_of, greatest_unit, places}
 use Rattle.fare_rules.specs.Order.{is_before}
-use Rattle.fare_rules.specs.Shape.{is_crossed}
+use Rattle.fare_rules.specs.Shape.{is_same_unit, is_ow, is_crossed}
 use Rattle.fare_units.specs.Advance.{Advances}
 
 -- a list with its price is not before the best that was found
@@ -86,9 +88,18 @@ runs_either trip a b (Some fare) = runs_between trip a b false fare || runs_betw
 unfoldable pub may_serve : Tariff → Itinerary → List Part → ℕ → ℕ → Bool
 may_serve tariff trip front end number = runs_either trip (next_start trip front) end (fare_at tariff number)
 
--- the last of some parts has no place in any lawful construction that begins with them
-unfoldable pub is_fruitless : List Part → Bool
-is_fruitless parts = is_crossed parts (length parts)
+-- two parts share a unit, and the fare of one is one way
+abbrev pub is_mixed_with : Tariff → List Part → ℕ → ℕ → Bool
+is_mixed_with tariff parts k j = is_same_unit parts k j && (is_ow tariff parts j || is_ow tariff parts k)
+
+-- a part shares its unit with an earlier one, and the fare of one is one way
+abbrev pub mixes : Tariff → List Part → ℕ → Bool
+mixes tariff parts k = list_any (is_mixed_with tariff parts k) (numbers 1 k)
+
+-- the last of some parts has no place in any lawful construction that begins with them: it crosses a unit, or stands in one
+-- with a one way fare
+unfoldable pub is_fruitless : Tariff → List Part → Bool
+is_fruitless tariff parts = is_crossed parts (length parts) || mixes tariff parts (length parts)
 
 -- just these parts
 abbrev pub IsList : List Part → List Part → Type 0

@@ -6,11 +6,12 @@ ghost use Rattle.std.specs.Option.{option_copied};
 ghost use Rattle.fare_rules.specs.Best.{IsBestAnswer};
 ghost use Rattle.fare_trip.specs.Itinerary.{count};
 ghost use Rattle.fare_rules.specs.Construction.{greatest_unit, places};
-ghost use Rattle.fare_units.specs.Walk.{Walks, Completes, GoesOn, AnyPart, EndsAt, HasFare, IsPart, IsList, IsFront, TakesBetter, next_start, runs_either, may_serve, is_fruitless};
+ghost use Rattle.fare_units.specs.Walk.{Walks, Completes, GoesOn, AnyPart, EndsAt, HasFare, IsPart, IsList, IsFront, TakesBetter, next_start, runs_either, may_serve, is_mixed_with, mixes, is_fruitless};
 
 use crate::construction::Construction;
 use crate::cover::greatest_below;
-use crate::crossing::is_crossed;
+use crate::crossing::{is_crossed, is_same_unit};
+use crate::fares::is_ow;
 use crate::lawful::lawful_price;
 use crate::order::earlier;
 use crate::places::{end_of, start_of};
@@ -89,10 +90,30 @@ fn next_start(trip: &Trip, front: &Construction) -> usize
 
 /// Whether the last of some parts has no place in any lawful construction that begins with them.
 #[tactic(auto, unfolding(crate::specs::Walk::is_fruitless))]
-fn is_fruitless(parts: &[Part]) -> bool
-    ensures { result ≡ is_fruitless parts.now }
+fn is_fruitless(edition: &Edition, parts: &[Part]) -> bool
+    ensures { result ≡ is_fruitless edition.now parts.now }
 {
-    is_crossed(parts, parts.len())
+    is_crossed(parts, parts.len()) || mixes(edition, parts, parts.len())
+}
+
+/// Whether a part shares its unit with an earlier one, and the fare of one of the two is one way.
+#[tactic(auto, using(crate::proofs::Ranges::any_next, crate::proofs::Ranges::any_none))]
+fn mixes(edition: &Edition, parts: &[Part], k: usize) -> bool
+    ensures { result ≡ mixes edition.now parts.now k }
+{
+    for j in 1..k {
+        if is_mixed_with(edition, parts, k, j) {
+            return true;
+        }
+    }
+    false
+}
+
+/// Whether two parts share a unit, and the fare of one is one way.
+fn is_mixed_with(edition: &Edition, parts: &[Part], k: usize, j: usize) -> bool
+    ensures { result ≡ is_mixed_with edition.now parts.now k j }
+{
+    is_same_unit(parts, k, j) && (is_ow(edition, parts, j) || is_ow(edition, parts, k))
 }
 
 /// Walks over all constructions that have these parts as their first ones.
@@ -187,7 +208,7 @@ fn walk_part(edition: &Edition, trip: &Trip, front: &Construction, part: Part, b
     let sectors = trip.count();
     prove!(part.end as usize <= sectors);
     let longer = front.with(part);
-    if is_fruitless(longer.parts()) {
+    if is_fruitless(edition, longer.parts()) {
         return best;
     }
     walk(edition, trip, &longer, best)

@@ -33,3 +33,6 @@ pub use lawful::lawful_price;
 pub use order::earlier;
 pub use quoter::{PlainQuoter, Quoter};
 pub use sheet::unit_sheet;
+
+#[cfg(test)]
+mod tests;

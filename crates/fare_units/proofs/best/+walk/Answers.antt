@@ -49,7 +49,7 @@ walk_part-with-longer-requires t c =
 
 pub walk_part-returns-then-is_fruitless : goal.walk_part-returns-then-is_fruitless
 walk_part-returns-then-is_fruitless t c = part_none c.args.edition.now c.args.trip.now c.args.front.now c.args.part c.args.best
-    (sym (ap is_fruitless (c.parts.ensures.parts ∙ c.with-longer.ensures)) ∙ sym c.is_fruitless.ensures ∙ c.if-is_fruitless.true)
+    (sym (ap (is_fruitless c.args.edition.now) (c.parts.ensures.parts ∙ c.with-longer.ensures)) ∙ sym c.is_fruitless.ensures ∙ c.if-is_fruitless.true)
 
 pub walk_part-walk-requires : goal.walk_part-walk-requires
 walk_part-walk-requires t c =
