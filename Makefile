@@ -1,12 +1,14 @@
 # The commands of a fresh machine that has the toolchain's `rt` on its PATH.
 PREFIX ?= /usr/local
 EXAMPLE ?= examples/london-rome.txt
+RECORDS ?= 2000
+PROGRAM = crates/fares/out/fares
 
-.PHONY: quote try test install
+.PHONY: quote try test install speed program
 
 # Proves and builds the program where it isn't built yet, and quotes an example trip.
 quote: program
-	crates/fares/out/fares price < $(EXAMPLE)
+	$(PROGRAM) price < $(EXAMPLE)
 
 # Quotes the same trip with nothing proved, in seconds.
 try:
@@ -18,8 +20,13 @@ test:
 
 # Copies the proved program.
 install: program
-	install -D crates/fares/out/fares $(DESTDIR)$(PREFIX)/bin/fares
+	install -D $(PROGRAM) $(DESTDIR)$(PREFIX)/bin/fares
 
-.PHONY: program
+# How long a tariff of RECORDS records takes to be read and checked.
+speed: program
+	examples/many-records $(RECORDS) > many-records.txt
+	time $(PROGRAM) price < many-records.txt
+	rm many-records.txt
+
 program:
-	cd crates/fares && rt run fares -- price < $(abspath $(EXAMPLE)) > /dev/null
+	cd crates/fares && rt run fares -- price < $(abspath examples/london-rome.txt) > /dev/null

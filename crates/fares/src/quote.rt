@@ -4,11 +4,11 @@ ghost use Rattle.fares.specs.Run.{Answers};
 
 use crate::exit::Exit;
 use crate::quotation::quotation;
-use fare_codes::Nuc;
 use fare_outside::NoMemory;
 use fare_points::placed;
 use fare_tariff::Edition;
 use fare_trip::Trip;
+use fare_units::{PlainQuoter, Quoter};
 use std::alloc::Global;
 use std::thread::Threads;
 
@@ -35,14 +35,17 @@ pub fn quote<R: Threads + Sync>(
     Ok(quotation(alloc, edition, total)?)
 }
 
-/// The price of the best construction.
+/// The price of the best construction of a trip; nothing exactly where none is lawful.
 fn best_total<R: Threads + Sync>(
     rt: &R,
     alloc: Global,
     edition: &Edition,
     trip: &Trip,
-) -> Result<Option<Nuc>, NoMemory>
+) -> Result<Option<u64>, NoMemory>
     ensures { IfOk result (λ total. IsBestTotal edition.now trip.now total) }
 {
-    Err(NoMemory)
+    match PlainQuoter.quote(rt, alloc, edition, trip)? {
+        Some((_, price)) => Ok(Some(price)),
+        None => Ok(None),
+    }
 }
