@@ -1,5 +1,5 @@
 -- The canonical text of an edition is read as the edition.
-use Rattle.std.proofs.Common.{◌≡◌, ℕ, List, [], ◌∷◌, ◌++◌, true, Option, Some, None, refl, map}
+use Rattle.std.proofs.Common.{subst, sym, ◌∙◌, ◌≡◌, ℕ, List, [], ◌∷◌, ◌++◌, true, Option, Some, None, refl, map}
 use Rattle.std.specs.Prelude.{Ok, is_none}
 use Rattle.std.specs.List.{All, list_all}
 use Rattle.std.proofs.lemmas.List.Elements.{All-head, All-tail}
@@ -47,3 +47,9 @@ edition_reads_back t head each is =
     let valid = no_fault-None (first_fault t.records) is.no_fault in
     let rows : tariff_of (canonical_rows t) ≡ Ok t = rows_read_back t head each in
     rw (rows_of-lines (canonical_rows t) plain, rows, valid) refl
+
+-- two editions with one text are the edition that it is read as
+pub one_text : (a b : Tariff) → edition_of (canonical_text a) ≡ Ok a → edition_of (canonical_text b) ≡ Ok b → canonical_text a ≡ canonical_text b → a ≡ b
+one_text a b is_a is_b same =
+    let read : edition_of (canonical_text b) ≡ Ok a = subst (λ (t : List ℕ). edition_of t ≡ Ok a) same is_a in
+    cc (sym is_b ∙ read)

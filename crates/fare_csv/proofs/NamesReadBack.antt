@@ -15,7 +15,10 @@ use Rattle.fare_tariff.specs.Record.{name_count}
 use Rattle.fare_csv.specs.CanonicalText.{name_text, names_text}
 use Rattle.fare_csv.specs.NameList.{names_of, read_list, read_name, read_names}
 use Rattle.fare_csv.specs.ReadBack.{are_names, is_name}
+use Rattle.fare_csv.specs.Lines.{is_plain_field}
+use Rattle.fare_csv.proofs.PlainFields.{rule_id-plain}
 use Rattle.fare_csv.proofs.PlainLines.{both}
+use Rattle.std.proofs.lemmas.List.Folds.{list_all-append}
 
 -- a character of an id is no space, no star and no hyphen
 record IsOther (b : ℕ) : Type 0 where
@@ -110,3 +113,23 @@ names_read_back (listed.Of (first ∷ names)) h few =
     let within : nat_le (length (map name_text (first ∷ names))) 64 ≡ true = grind (arith, nat_tests, size) in
     let all : read_list (join_with_byte 32 (map name_text (first ∷ names))) ≡ Some (first ∷ names) = rw (pieces, within) (names-read (first ∷ names) h) in
     listed-from _ b rest (first ∷ names) is other all
+
+-- a name needs no quotes
+name-plain : (name : Option (List ℕ)) → is_name name ≡ true → is_plain_field (name_text name) ≡ true
+name-plain None h = refl
+name-plain (Some id) h = rule_id-plain id h
+
+joined-plain : (first : Option (List ℕ)) (names : List (Option (List ℕ))) → is_name first ≡ true → list_all is_name names ≡ true
+    → is_plain_field (join_with_byte 32 (map name_text (first ∷ names))) ≡ true
+joined-plain first [] h k = name-plain first h
+joined-plain first (next ∷ names) h k =
+    let parts = both (is_name next) (list_all is_name names) k in
+    rw (list_all-append, name-plain first h) (joined-plain next names parts.0 parts.1)
+
+-- nor does a list of names
+pub names_are_plain : (names : Names) → are_names names ≡ true → is_plain_field (names_text names) ≡ true
+names_are_plain listed.All h = refl
+names_are_plain (listed.Of []) h = refl
+names_are_plain (listed.Of (first ∷ names)) h =
+    let parts = both (is_name first) (list_all is_name names) h in
+    joined-plain first names parts.0 parts.1

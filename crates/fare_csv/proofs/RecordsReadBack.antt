@@ -15,7 +15,7 @@ use Rattle.fare_codes.specs.declared.area.Area.TheVariants as area
 use Rattle.fare_tariff.specs.declared.city_record.CityRec.{CityRec}
 use Rattle.fare_tariff.specs.declared.record.Record.TheVariants as filed
 use Rattle.fare_tariff.specs.Record.{AllowanceRecord, CurrencyRecord, FareRecord, IsCurrency, IsRule, MileageRecord, PairRecord, RuleRecord}
-use Rattle.fare_csv.specs.CanonicalText.{excess_text, names_text, record_row, text_or_empty}
+use Rattle.fare_csv.specs.CanonicalText.{excess_text, record_row, text_or_empty}
 use Rattle.fare_csv.specs.Fields.{counted}
 use Rattle.fare_csv.specs.Lines.{is_plain_field, is_plain_row}
 use Rattle.fare_csv.specs.Numbers.{above_zero}
@@ -24,7 +24,7 @@ use Rattle.fare_csv.specs.RecordText.{allowance_of, city_of, currency_of, fare_k
 use Rattle.fare_csv.specs.TariffText.{record_of, record_of_kind}
 use Rattle.fare_csv.specs.ReadBack.{HeadReadsBack, ReadsBack, are_names}
 use Rattle.fare_csv.specs.Head.{head_of, read_version}
-use Rattle.fare_csv.proofs.NamesReadBack.{names_read_back}
+use Rattle.fare_csv.proofs.NamesReadBack.{names_are_plain, names_read_back}
 use Rattle.fare_csv.proofs.PlainFields.{area-plain, cabin-plain, carrier-plain, city-plain, country-plain, currency-plain, day-plain, decimal-plain, indicator-plain, kind-plain, mode-plain, month_day-plain, nuc-plain, rate-plain, rule_id-plain}
 use Rattle.fare_csv.proofs.PlainLines.{both}
 
@@ -154,11 +154,10 @@ pub record ReadNumbers (r : RuleRecord) : Type 0 where
 
 -- a RULE
 pub rule_reads_back : (r : RuleRecord) → IsRule r → is_rule_id r.id ≡ true → ReadNumbers r
-    → is_plain_field (names_text r.units) ≡ true → are_names r.units ≡ true → is_plain_field (names_text r.ends) ≡ true → are_names r.ends ≡ true
-    → ReadsBack (filed.Rule r)
+    → are_names r.units ≡ true → are_names r.ends ≡ true → ReadsBack (filed.Rule r)
 unfolding record_row is_plain_row record_of record_of_kind kind_named rule_of counted
-rule_reads_back r is id numbers units_plain units ends_plain ends = record {
-  plain = rw (rule_id-plain r.id id, decimal-plain r.stops (omega (arith, is.stops)), decimal-plain r.transfers (omega (arith, is.transfers)), decimal-plain r.advance (omega (arith, is.advance)), decimal-plain r.min_stay (omega (arith, is.min_stay)), decimal-plain r.max_stay (omega (arith, is.max_stay)), excess_is_plain r.excess, units_plain, ends_plain) refl;
+rule_reads_back r is id numbers units ends = record {
+  plain = rw (rule_id-plain r.id id, decimal-plain r.stops (omega (arith, is.stops)), decimal-plain r.transfers (omega (arith, is.transfers)), decimal-plain r.advance (omega (arith, is.advance)), decimal-plain r.min_stay (omega (arith, is.min_stay)), decimal-plain r.max_stay (omega (arith, is.max_stay)), excess_is_plain r.excess, names_are_plain r.units units, names_are_plain r.ends ends) refl;
   goes_on = refl;
   reads = λ number. rw (id, numbers.stops, numbers.transfers, numbers.advance, numbers.min_stay, numbers.max_stay, excess_is_read r.excess, names_read_back r.units units is.units, names_read_back r.ends ends is.ends) refl;
 }

@@ -6,6 +6,7 @@
 //! - `head`, `record_kind`, `read_record`, `read_rule`, `read_fare`, `name_list`, `numbers`: records from their fields;
 //! - `read_text`, `edition`: the whole text;
 //! - `write_record`, `write_names`, `canonical`: the canonical text;
+//! - `laws`: it is read back as its edition, and no two editions have one;
 //! - `text_fault`, `fault_text`: what is wrong with a text, and the line that tells it.
 #![tactic(auto)]
 
@@ -13,6 +14,7 @@ mod canonical;
 mod edition;
 mod fault_text;
 mod head;
+mod laws;
 mod lines;
 mod name_list;
 mod numbers;
@@ -31,4 +33,5 @@ mod write_record;
 
 pub use canonical::edition_text;
 pub use edition::read_edition;
+pub use laws::{text_reads_back, text_tells};
 pub use text_fault::TextFault;

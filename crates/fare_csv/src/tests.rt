@@ -1,4 +1,4 @@
-use crate::{edition_text, read_edition};
+use crate::{edition_text, read_edition, text_reads_back, text_tells};
 use arrayvec::ArrayString;
 use std::test::Fail;
 use std::thread::Threads;
@@ -25,6 +25,8 @@ fn version_1_reads_as_version_2(rt: HostRuntime) -> Result<(), Fail> {
 #[test]
 fn each_kind_reads_back(rt: HostRuntime) -> Result<(), Fail> {
     let edition = read_edition(&rt, rt.alloc(), EVERY_KIND)?;
+    text_reads_back(&edition);
+    text_tells(&edition, &edition);
     let text = edition_text(rt.alloc(), &edition)?;
     assert!(rt; text.as_slice() == EVERY_KIND);
     Ok(())

@@ -118,7 +118,7 @@ pub(crate) fn write_pair(lines: &mut Lines, pair: &PairRec) -> Result<(), AllocE
 }
 
 /// The via city of an EMA: empty for every way.
-fn via_text(via: Option<City>) -> ArrayString<16>
+pub(crate) fn via_text(via: Option<City>) -> ArrayString<16>
     ensures text { result.bytes ≡ text_or_empty via }
     ensures plain { is_plain_field (text_or_empty via) ≡ true }
     ensures read_back { read_via (text_or_empty via) ≡ Some via }
@@ -130,7 +130,7 @@ fn via_text(via: Option<City>) -> ArrayString<16>
 }
 
 /// The rule of a FARE: empty for the free rule.
-fn fare_rule_text(rule: Option<RuleId>) -> ArrayString<16>
+pub(crate) fn fare_rule_text(rule: Option<RuleId>) -> ArrayString<16>
     ensures text { result.bytes ≡ text_or_empty rule }
     ensures plain { is_plain_field (text_or_empty rule) ≡ true }
     ensures read_back { read_fare_rule (text_or_empty rule) ≡ Some rule }

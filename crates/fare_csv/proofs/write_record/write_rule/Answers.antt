@@ -1,6 +1,5 @@
-use Rattle.std.proofs.Common.{◌≡◌, true, arith, refl}
-use Rattle.fare_csv.specs.CanonicalText.{names_text}
-use Rattle.fare_csv.specs.Lines.{is_plain_field, is_plain_row}
+use Rattle.std.proofs.Common.{arith, refl}
+use Rattle.fare_csv.specs.Lines.{is_plain_row}
 use Rattle.fare_csv.proofs.PlainFields.{decimal-plain, rule_id-plain}
 use Rattle.fare_csv.proofs.RecordsReadBack.{on_any, rule_reads_back}
 use Rattle.fare_csv.proofs.write_record.write_rule.Goals as goal
@@ -13,8 +12,6 @@ write-requires c =
 pub returns-clause-read_back : goal.returns-clause-read_back
 returns-clause-read_back c =
     let is = c.rule.invariant in
-    let units : is_plain_field (names_text c.rule.inside.units) ≡ true = rw c.in_ok-units.ensures.text at c.in_ok-units.ensures.plain in
-    let ends : is_plain_field (names_text c.rule.inside.ends) ≡ true = rw c.in_ok-ends.ensures.text at c.in_ok-ends.ensures.plain in
     rw (← c.rule.view_is) (on_any _ (rule_reads_back _ is c.text-id.ensures.form
     (record {
       stops = c.number_text-stops.ensures.read_back 16 is.stops;
@@ -22,4 +19,4 @@ returns-clause-read_back c =
       advance = c.number_text-advance.ensures.read_back 999 is.advance;
       min_stay = c.number_text-min_stay.ensures.read_back 999 is.min_stay;
       max_stay = c.number_text-max_stay.ensures.read_back 999 is.max_stay;
-    }) units c.in_ok-units.ensures.form ends c.in_ok-ends.ensures.form))
+    }) c.in_ok-units.ensures.form c.in_ok-ends.ensures.form))
