@@ -1,9 +1,10 @@
 //! Sources of `price`, with what comes of them.
 
 use super::tariffs::{
-    BROKEN_FARES, END, HALVES, HEAD_1, HEAD_2, JAW, JAW_FARES, MILES, NO_SECTORS, PACIFIC,
-    PACIFIC_FARES, PASSING, PERMITTED, PLACES, RULED_FARES, SHORT, SIDE_TRIP, STOPPING, SUMMER,
-    THROUGH, TIED_FARES, TO_PARIS, TWO_PLACES, WINTER, WORLD, WORLD_FARES,
+    BROKEN_FARES, END, HALVES, HEAD_1, HEAD_2, JAW, JAW_FARES, MILES, NO_SECTORS, OPENED_ARRAYS,
+    PACIFIC, PACIFIC_FARES, PASSING, PERMITTED, PLACES, RULED_FARES, SEVENTEEN_SECTORS, SHORT,
+    SIDE_TRIP, STOPPING, SUMMER, THROUGH, TIED_FARES, TO_PARIS, TWO_PLACES, WINTER, WORLD,
+    WORLD_FARES,
 };
 
 /// A source in pieces, with what `price` writes of it, its status, and its line on standard error.
@@ -64,7 +65,7 @@ pub static ONE_SECTOR: [Case; 5] = [
 ];
 
 /// Sources that are refused, each with its named fault.
-pub static FAULTS: [Case; 13] = [
+pub static FAULTS: [Case; 16] = [
     Case {
         source: &[
             "TRIP,2025-03-01,LON,ROM,Q1,2025-02-28,Y\n",
@@ -191,6 +192,24 @@ pub static FAULTS: [Case; 13] = [
         status: 7,
         text: "",
         fault: "UNKNOWN PLACE MIL\n",
+    },
+    Case {
+        source: &[SEVENTEEN_SECTORS, PLACES, THROUGH, MILES, END],
+        status: 4,
+        text: "",
+        fault: "TRIP TooMany 17\n",
+    },
+    Case {
+        source: &["\n", PLACES, THROUGH, MILES, END],
+        status: 4,
+        text: "",
+        fault: "TRIP NotJson\n",
+    },
+    Case {
+        source: &[OPENED_ARRAYS, PLACES, THROUGH, MILES, END],
+        status: 4,
+        text: "",
+        fault: "TRIP NotJson\n",
     },
 ];
 

@@ -72,3 +72,9 @@ pub const HEAD_2: &str = "HEAD,2,1,2025-01-01\n";
 pub const SUMMER: &str = "FARE,LON,ROM,EH,YY,Y,OW,,04-01,10-31,400.00\n";
 
 pub const WINTER: &str = "FARE,LON,ROM,EH,YY,Y,OW,,11-01,03-31,300.00\n";
+/// One sector more than a trip may have, none of which is looked at.
+pub const SEVENTEEN_SECTORS: &str =
+    "{\"sale\":\"2025-03-01\",\"from\":\"LON\",\"sectors\":[{},{},{},{},{},{},{},{},{},{},{},{},{},{},{},{},{}]}\n";
+/// Two hundred opened arrays.
+pub const OPENED_ARRAYS: &str =
+    "[[[[[[[[[[[[[[[[[[[[[[[[[[[[[[[[[[[[[[[[[[[[[[[[[[[[[[[[[[[[[[[[[[[[[[[[[[[[[[[[[[[[[[[[[[[[[[[[[[[[[[[[[[[[[[[[[[[[[[[[[[[[[[[[[[[[[[[[[[[[[[[[[[[[[[[[[[[[[[[[[[[[[[[[[[[[[[[[[[[[[[[[[[[[[[[[[[[[[[[[\n";
