@@ -11,3 +11,4 @@ pub mod FrontLemmas
 pub mod CircleSteps
 pub mod PriceSteps
 pub mod UnitLemmas
+pub mod PricedLemmas

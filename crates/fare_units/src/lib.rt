@@ -19,6 +19,7 @@ mod price;
 mod quoter;
 mod same;
 mod shape;
+mod shape_of_lawful;
 mod sheet;
 mod spans;
 mod stays;
@@ -32,6 +33,7 @@ pub use fare_rules::{Broken, Part, UnitKind, UnitSheet};
 pub use lawful::lawful_price;
 pub use order::earlier;
 pub use quoter::{PlainQuoter, Quoter};
+pub use shape_of_lawful::{price_is_of_unbroken, unit_count};
 pub use sheet::unit_sheet;
 
 #[cfg(test)]
