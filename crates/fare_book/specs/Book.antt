@@ -1,0 +1,30 @@
+-- A book of published editions.
+use Rattle.std.specs.Prelude.{ℕ, ◌≤◌, ◌==◌, Bool, List, Option, length}
+use Rattle.std.specs.List.{IsDistinct, find}
+use Rattle.fare_tariff.specs.Tariff.{Tariff}
+
+-- a book: its editions in the order of publication, and whether they are known to be those of the stored bodies
+pub record BookState : Type 0 where
+  pub editions : List Tariff
+  pub settled : Bool
+
+-- the most editions that a book holds
+abbrev pub most_editions : ℕ
+most_editions = 32
+
+-- an edition has this number
+abbrev pub has_number : ℕ → Tariff → Bool
+has_number number edition = edition.number == number
+
+-- the edition of a number
+abbrev pub numbered : ℕ → List Tariff → Option Tariff
+numbered number editions = find (has_number number) editions
+
+-- two editions have one number
+abbrev pub share_number : Tariff → Tariff → Bool
+share_number one other = other.number == one.number
+
+-- a book holds at most 32 editions, of which no two have one number
+pub record IsBook (editions : List Tariff) : Type 0 where
+  pub at_most_32 : length editions ≤ most_editions
+  pub distinct : IsDistinct share_number editions

@@ -1,0 +1,9 @@
+pub use Rattle.fare_tariff.specs.Tariff
+pub use Rattle.fare_csv.specs.TariffText
+pub use Rattle.fare_csv.specs.CanonicalText
+pub mod DamageText
+pub mod Book
+pub mod Selected
+pub mod Editions
+pub mod Publish
+pub mod Stands

@@ -1,0 +1,14 @@
+-- How a book and the stored bodies belong together.
+use Rattle.std.specs.Prelude.{◌≡◌, ◌⊎◌, ℕ, List, [], ◌∷◌, ◌++◌, false, Ok}
+use Rattle.fare_tariff.specs.Tariff.{Tariff}
+use Rattle.fare_book.specs.Book.{BookState}
+use Rattle.fare_book.specs.Editions.{editions_of}
+
+-- bodies stand for a book with one edition more at its end
+abbrev pub StandsForOneMore : BookState → List (List ℕ) → Type 0
+StandsForOneMore book bodies = (edition : Tariff) × (editions_of bodies ≡ Ok (book.editions ++ edition ∷ []))
+
+-- bodies stand for a book's editions or, in a book that isn't settled, for these with one more at the end
+abbrev pub Stands : BookState → List (List ℕ) → Type 0
+Stands book bodies =
+    (editions_of bodies ≡ Ok book.editions) ⊎ ((book.settled ≡ false) × StandsForOneMore book bodies)
