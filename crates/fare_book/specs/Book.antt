@@ -1,6 +1,6 @@
 -- A book of published editions.
-use Rattle.std.specs.Prelude.{ℕ, ◌≤◌, ◌==◌, Bool, List, Option, length}
-use Rattle.std.specs.List.{IsDistinct, find}
+use Rattle.std.specs.Prelude.{ℕ, ◌≤◌, ◌≢◌, ◌==◌, Bool, List, Option, length}
+use Rattle.std.specs.List.{AllPairs, find}
 use Rattle.fare_tariff.specs.Tariff.{Tariff}
 
 -- a book: its editions in the order of publication, and whether they are known to be those of the stored bodies
@@ -20,11 +20,11 @@ has_number number edition = edition.number == number
 abbrev pub numbered : ℕ → List Tariff → Option Tariff
 numbered number editions = find (has_number number) editions
 
--- two editions have one number
-abbrev pub share_number : Tariff → Tariff → Bool
-share_number one other = other.number == one.number
+-- two editions have different numbers
+abbrev pub HaveOtherNumbers : Tariff → Tariff → Type 0
+HaveOtherNumbers one other = one.number ≢ other.number
 
 -- a book holds at most 32 editions, of which no two have one number
 pub record IsBook (editions : List Tariff) : Type 0 where
   pub at_most_32 : length editions ≤ most_editions
-  pub distinct : IsDistinct share_number editions
+  pub distinct : AllPairs HaveOtherNumbers editions

@@ -82,6 +82,7 @@ impl Book {
 }
 
 /// The edition of a number among some.
+#[tactic(auto, using(crate::proofs::Scans::numbered_more, crate::proofs::Scans::numbered_all))]
 fn numbered(editions: &[Edition], number: u32) -> Option<&Edition>
     ensures { option_copied result ≡ numbered number editions.now }
 {

@@ -27,11 +27,11 @@ impl Damage {
 fn text_of_fault(fault: &TextFault) -> ArrayString<64>
     ensures { result.bytes ≡ drop 7 (fault_text fault.now) }
 {
-    let mut text = ArrayString::new();
     let line = fault.text();
-    let whole = line.as_str();
-    text.push_str(&whole[whole.len().min(7)..]);
-    text
+    match line.as_str().strip_prefix("TARIFF ") {
+        Some(rest) => words(rest),
+        None => ArrayString::new(),
+    }
 }
 
 /// The earlier place of a number.
@@ -46,7 +46,7 @@ fn text_of_repeat(place: u32) -> ArrayString<64>
 
 /// These words.
 fn words(words: &str) -> ArrayString<64>
-    requires { length words.now ≤ 20 }
+    requires { length words.now ≤ 64 }
     ensures { result.bytes ≡ words.now }
 {
     let mut text = ArrayString::new();

@@ -19,6 +19,7 @@ impl Book {
 }
 
 /// The edition that a day selects among some.
+#[tactic(auto, using(crate::proofs::Scans::latest_more, crate::proofs::Scans::latest_all), unfolding(crate::specs::Selected::selected))]
 fn selected(editions: &[Edition], day: Day) -> Option<&Edition>
     ensures { option_copied result ≡ selected editions.now day }
 {
@@ -49,7 +50,7 @@ fn is_later(one: &Edition, other: &Edition) -> bool
 
 /// The later of two editions, or the one where there is no other.
 fn later_of<'a>(other: Option<&'a Edition>, one: &'a Edition) -> &'a Edition
-    ensures { result.now ≡ later_of (option_copied other) one.now }
+    ensures { result.now ≡ later_of (option_copied other.entry) one.now }
 {
     match other {
         None => one,
