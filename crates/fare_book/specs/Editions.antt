@@ -26,20 +26,29 @@ abbrev pub edition_behind : List Tariff → Result Tariff TextFault → Result T
 edition_behind earlier (Err fault) = Err (Text fault)
 edition_behind earlier (Ok edition) = unrepeated edition (place_of edition.number earlier)
 
--- editions with one more at the end, or what is wrong at the place behind them
-abbrev pub with_edition : List Tariff → Result Tariff Damage → Result (List Tariff) DamageAt
+-- a reading at a place, or what is wrong there
+abbrev pub at_place : ℕ → Result Tariff Damage → Result Tariff DamageAt
+at_place place (Ok edition) = Ok edition
+at_place place (Err damage) = Err (record { place = place; damage = damage })
+
+-- the edition that a body stands for behind others
+unfoldable pub read_behind : List Tariff → List ℕ → Result Tariff DamageAt
+read_behind earlier body = at_place (length earlier + 1) (edition_behind earlier (edition_of body))
+
+-- editions with one more at the end
+abbrev pub with_edition : List Tariff → Result Tariff DamageAt → Result (List Tariff) DamageAt
 with_edition earlier (Ok edition) = Ok (earlier ++ edition ∷ [])
-with_edition earlier (Err damage) = Err (record { place = length earlier + 1; damage = damage })
+with_edition earlier (Err found) = Err found
 
 -- editions with that of one more body at the end
-unfoldable pub with_body : List Tariff → List ℕ → Result (List Tariff) DamageAt
-with_body earlier body = with_edition earlier (edition_behind earlier (edition_of body))
+abbrev pub with_body : List Tariff → List ℕ → Result (List Tariff) DamageAt
+with_body earlier body = with_edition earlier (read_behind earlier body)
 
 -- a list of editions, and then one that goes on from it: the first damage counts
 infixl 10 ◌>>=◌
 abbrev pub ◌>>=◌ : Result (List Tariff) DamageAt → (List Tariff → Result (List Tariff) DamageAt) → Result (List Tariff) DamageAt
 (Ok editions) >>= next = next editions
-(Err damage) >>= next = Err damage
+(Err found) >>= next = Err found
 
 -- editions with those of further bodies at the end
 unfoldable pub with_bodies : List Tariff → List (List ℕ) → Result (List Tariff) DamageAt

@@ -5,5 +5,6 @@ pub mod DamageText
 pub mod Book
 pub mod Selected
 pub mod Editions
+pub mod Restored
 pub mod Publish
 pub mod Stands

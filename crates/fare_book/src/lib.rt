@@ -13,6 +13,7 @@ mod damage;
 mod damage_text;
 mod publish_fault;
 mod published;
+mod restore;
 mod restore_fault;
 mod select;
 

@@ -24,3 +24,18 @@ impl From<NoMemory> for RestoreFault {
         RestoreFault::Memory
     }
 }
+
+/// A fault of the keeper keeps its kind.
+impl From<KeepFault> for RestoreFault {
+    ghost use Rattle.std.specs.Prelude.{◌≡◌};
+    ghost use Rattle.fare_book.specs.Restored.{kept_fault};
+
+    ghost from_gives = { λ kept fault. fault ≡ kept_fault kept };
+
+    fn from(fault: KeepFault) -> RestoreFault {
+        match fault {
+            KeepFault::Memory => RestoreFault::Memory,
+            KeepFault::Failed => RestoreFault::KeeperFault,
+        }
+    }
+}

@@ -54,12 +54,6 @@ fn later_of<'a>(other: Option<&'a Edition>, one: &'a Edition) -> &'a Edition
 {
     match other {
         None => one,
-        Some(other) => {
-            if is_later(one, other) {
-                one
-            } else {
-                other
-            }
-        }
+        Some(other) => { if is_later(one, other) { one } else { other } }
     }
 }
