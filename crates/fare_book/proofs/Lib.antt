@@ -3,3 +3,6 @@ pub mod Numbers
 pub mod Readings
 pub mod Places
 pub mod Bodies
+pub mod SameEditions
+pub mod Answers
+pub mod Publications

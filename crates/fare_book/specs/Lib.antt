@@ -6,5 +6,8 @@ pub mod Book
 pub mod Selected
 pub mod Editions
 pub mod Restored
+pub mod Faults
+pub mod SameEdition
 pub mod Publish
+pub mod Publishes
 pub mod Stands

@@ -1,5 +1,5 @@
 -- What a publication answers, and the book and the bodies after it.
-use Rattle.std.specs.Prelude.{◌≡◌, ℕ, Bool, true, false, List, [], ◌∷◌, ◌++◌, length, Option, Some, None, Result, Ok, Err, nat_le, bytes_eq, if◌then◌else◌}
+use Rattle.std.specs.Prelude.{ℕ, Bool, true, List, [], ◌∷◌, ◌++◌, length, Option, Some, None, Result, Ok, Err, nat_le, if◌then◌else◌}
 use Rattle.fare_tariff.specs.Tariff.{Tariff}
 use Rattle.fare_csv.specs.declared.text_fault.TextFault.{TextFault}
 use Rattle.fare_csv.specs.TariffText.{edition_of}
@@ -9,43 +9,51 @@ use Rattle.fare_book.specs.declared.published.Published.TheVariants.{New, Alread
 use Rattle.fare_book.specs.declared.publish_fault.PublishFault.{PublishFault}
 use Rattle.fare_book.specs.declared.publish_fault.PublishFault.TheVariants.{Malformed, Differs, Full, Damaged}
 use Rattle.fare_book.specs.Book.{BookState, numbered, most_editions}
+use Rattle.fare_book.specs.SameEdition.{same_edition}
 use Rattle.fare_book.specs.Editions.{DamageAt, editions_of}
+
+-- the answer to a publication
+abbrev pub Answer : Type 0
+Answer = Result Published PublishFault
 
 -- a publication: its answer, and the book and the bodies that it leaves
 pub record Publication : Type 0 where
-  pub answer : Result Published PublishFault
+  pub answer : Answer
   pub book : BookState
   pub bodies : List (List ℕ)
 
--- two editions are the same where they have one canonical text
-abbrev pub same_edition : Tariff → Tariff → Bool
-same_edition one other = bytes_eq (canonical_text one) (canonical_text other)
+-- an edition whose number stands in the book is published already where it is the same one, and else it differs; a
+-- book of 32 is full for a new number
+unfoldable pub answer_beside : Option Tariff → List Tariff → Tariff → Answer
+answer_beside (Some kept) editions edition =
+    if same_edition kept edition then Ok (Already edition.number) else Err (Differs edition.number)
+answer_beside None editions edition =
+    if nat_le most_editions (length editions) then Err Full else Ok (New edition.number)
+
+-- the answer to an edition that is offered to a settled book
+abbrev pub answer_to : List Tariff → Tariff → Answer
+answer_to editions edition = answer_beside (numbered edition.number editions) editions edition
+
+-- a new edition is the last of the list; any other answer leaves the list
+abbrev pub editions_after : Answer → List Tariff → Tariff → List Tariff
+editions_after (Ok (New number)) editions edition = editions ++ edition ∷ []
+editions_after (Ok (Already number)) editions edition = editions
+editions_after (Err fault) editions edition = editions
+
+-- the canonical text of a new edition is the last body; any other answer leaves the bodies
+abbrev pub bodies_after : Answer → List (List ℕ) → Tariff → List (List ℕ)
+bodies_after (Ok (New number)) bodies edition = bodies ++ canonical_text edition ∷ []
+bodies_after (Ok (Already number)) bodies edition = bodies
+bodies_after (Err fault) bodies edition = bodies
 
 -- a settled book of these editions
 abbrev pub settled : List Tariff → BookState
 settled editions = record { editions = editions; settled = true }
 
--- an edition of a number that stands in the book is published already where it is the same one, and else it differs
-abbrev pub beside : Tariff → Tariff → Result Published PublishFault
-beside kept edition =
-    if same_edition kept edition then Ok (Already edition.number) else Err (Differs edition.number)
-
--- an edition of a new number: a book of 32 is full; else its canonical text becomes the last body, and it the last edition
-abbrev pub added : List Tariff → List (List ℕ) → Tariff → Publication
-added editions bodies edition =
-    if nat_le most_editions (length editions)
-    then record { answer = Err Full; book = settled editions; bodies = bodies }
-    else record { answer = Ok (New edition.number); book = settled (editions ++ edition ∷ []); bodies = bodies ++ canonical_text edition ∷ [] }
-
--- an edition is offered to a book in which this one, if any, has its number
-abbrev pub offered_beside : Option Tariff → List Tariff → List (List ℕ) → Tariff → Publication
-offered_beside (Some kept) editions bodies edition =
-    record { answer = beside kept edition; book = settled editions; bodies = bodies }
-offered_beside None editions bodies edition = added editions bodies edition
-
--- an edition is offered to a settled book
-unfoldable pub offered : List Tariff → List (List ℕ) → Tariff → Publication
-offered editions bodies edition = offered_beside (numbered edition.number editions) editions bodies edition
+-- what an answer makes of a settled book and its bodies
+abbrev pub published_as : Answer → List Tariff → List (List ℕ) → Tariff → Publication
+published_as answer editions bodies edition =
+    record { answer = answer; book = settled (editions_after answer editions edition); bodies = bodies_after answer bodies edition }
 
 -- the editions of a book, which are read again from the bodies where it isn't settled
 abbrev pub reopened : BookState → List (List ℕ) → Result (List Tariff) DamageAt
@@ -58,9 +66,9 @@ refused fault book bodies = record { answer = Err fault; book = book; bodies = b
 -- an edition is offered to the editions that a book has once it is reopened; damaged bodies change nothing
 abbrev pub offered_to : Result (List Tariff) DamageAt → BookState → List (List ℕ) → Tariff → Publication
 offered_to (Err found) book bodies edition = refused (Damaged found.place found.damage) book bodies
-offered_to (Ok editions) book bodies edition = offered editions bodies edition
+offered_to (Ok editions) book bodies edition = published_as (answer_to editions edition) editions bodies edition
 
--- what a reading is published as; a text that stands for no edition changes nothing
+-- a text that stands for no edition changes nothing
 abbrev pub publish_reading : Result Tariff TextFault → BookState → List (List ℕ) → Publication
 publish_reading (Err fault) book bodies = refused (Malformed fault) book bodies
 publish_reading (Ok edition) book bodies = offered_to (reopened book bodies) book bodies edition

@@ -1,4 +1,4 @@
-ghost use Rattle.std.specs.Prelude.{◌≡◌, ◌<◌, [], ◌∷◌, ◌++◌, length, true, IfOk, None, vec_capacity};
+ghost use Rattle.std.specs.Prelude.{◌≡◌, ◌<◌, [], ◌∷◌, ◌++◌, length, true, false, nat_le, IfOk, None, vec_capacity};
 ghost use Rattle.std.specs.Option.{option_copied};
 ghost use Rattle.fare_book.specs.Book.{BookState, IsBook, numbered, has_number};
 
@@ -56,6 +56,20 @@ impl Book {
         ensures { self.new ≡ record { editions = self.old.editions ++ edition ∷ []; settled = self.old.settled } }
     {
         self.editions.push(edition).unwrap();
+    }
+
+    /// The editions may be no longer those of the stored bodies.
+    pub(crate) fn unsettle(&mut self)
+        ensures { self.new ≡ record { editions = self.old.editions; settled = false } }
+    {
+        self.settled = false;
+    }
+
+    /// Whether the book holds as many editions as it may.
+    pub(crate) fn is_full(&self) -> bool
+        ensures { result ≡ nat_le 32 (length self.now.editions) }
+    {
+        self.editions.len() >= MOST_EDITIONS
     }
 
     /// The editions, in the order of publication.

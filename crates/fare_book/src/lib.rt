@@ -11,6 +11,7 @@
 mod book;
 mod damage;
 mod damage_text;
+mod publish;
 mod publish_fault;
 mod published;
 mod restore;
