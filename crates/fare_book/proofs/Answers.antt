@@ -10,6 +10,7 @@ use Rattle.fare_book.specs.Faults.{CarriesFault}
 use Rattle.fare_book.specs.SameEdition.{same_edition}
 use Rattle.fare_book.specs.Publish.{Answer, answer_beside, answer_to, settled}
 use Rattle.fare_book.specs.Publishes.{IsNew, Offers, OffersBodies}
+use Rattle.fare_book.specs.Stands.{MayHaveStored}
 
 -- a new edition: no other has its number, there is room, and its number is told
 record NewBeside (kept : Option Tariff) (editions : List Tariff) (edition : Tariff) : Type 0 where
@@ -93,3 +94,12 @@ refusal_carries (Damaged place damage) own = absurd own
 -- a settled book is that of its editions
 pub settled_is : (book : BookState) → book.settled ≡ true → book ≡ settled book.editions
 settled_is book e i = record { editions = book.editions; settled = e i }
+
+-- a refusal of an edition that is offered stored nothing
+pub own_not_stored : (fault : PublishFault) → IsOwn fault → MayHaveStored (Err fault) → ⊥
+own_not_stored KeeperFault own stored = own
+own_not_stored Memory own stored = own
+own_not_stored (Malformed fault) own stored = own
+own_not_stored (Differs number) own stored = stored
+own_not_stored Full own stored = stored
+own_not_stored (Damaged place damage) own stored = own

@@ -6,3 +6,5 @@ pub mod Bodies
 pub mod SameEditions
 pub mod Answers
 pub mod Publications
+pub mod Untold
+pub mod Standing

@@ -5,7 +5,7 @@ use Rattle.fare_tariff.specs.Tariff.{Tariff}
 use Rattle.fare_csv.specs.TariffText.{edition_of}
 use Rattle.fare_csv.specs.CanonicalText.{canonical_text}
 use Rattle.fare_book.specs.declared.published.Published.TheVariants.{New}
-use Rattle.fare_book.specs.declared.publish_fault.PublishFault.TheVariants.{Memory, KeeperFault}
+use Rattle.fare_book.specs.declared.publish_fault.PublishFault.TheVariants.{Memory, Malformed, KeeperFault, Damaged}
 use Rattle.fare_book.specs.Book.{BookState}
 use Rattle.fare_book.specs.Editions.{editions_of}
 use Rattle.fare_book.specs.Publish.{Answer, Publication, answer_to, editions_after, bodies_after, publish, reopened, settled}
@@ -64,3 +64,25 @@ abbrev pub PublishesSettled : BookState → BookState → List ℕ → Answer �
 PublishesSettled old new bytes (Err Memory) = new ≡ old
 PublishesSettled old new bytes (Err KeeperFault) = IsNew (publish old [] bytes).answer × (new ≡ unsettled old.editions)
 PublishesSettled old new bytes answer = ((publish old [] bytes).answer ≡ answer) × ((publish old [] bytes).book ≡ new)
+
+-- a text stands for an edition
+abbrev pub IsReadable : List ℕ → Type 0
+IsReadable bytes = (edition : Tariff) × (edition_of bytes ≡ Ok edition)
+
+-- a text is offered to a settled book of some editions
+pub record IsOffered (bytes : List ℕ) (answer : Answer) (new : BookState) : Type 0 where
+  pub editions : List Tariff
+  pub edition : Tariff
+  pub readable : edition_of bytes ≡ Ok edition
+  pub offers : Offers editions edition answer new
+
+-- a call publishes a text, whatever is known of the bodies: its first fault and a damage leave the book; where memory
+-- was wanting the book is as before or reopened; a keeper that fails leaves it, or the append failed in a book of some
+-- editions; every other answer is that to an edition in a book of some editions
+abbrev pub PublishesUntold : BookState → BookState → List ℕ → Answer → Type 0
+PublishesUntold old new bytes (Err Memory) = (new ≡ old) ⊎ (new.settled ≡ true)
+PublishesUntold old new bytes (Err (Malformed fault)) = (edition_of bytes ≡ Err fault) × (new ≡ old)
+PublishesUntold old new bytes (Err (Damaged place damage)) = IsReadable bytes × (old.settled ≡ false) × (new ≡ old)
+PublishesUntold old new bytes (Err KeeperFault) =
+    IsReadable bytes × (new.settled ≡ false) × ((new ≡ old) ⊎ IsOffered bytes (Err KeeperFault) new)
+PublishesUntold old new bytes answer = IsOffered bytes answer new

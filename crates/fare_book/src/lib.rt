@@ -23,3 +23,6 @@ pub use damage::Damage;
 pub use publish_fault::PublishFault;
 pub use published::Published;
 pub use restore_fault::RestoreFault;
+
+#[cfg(test)]
+mod tests;

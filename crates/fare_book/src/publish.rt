@@ -11,7 +11,8 @@ ghost use Rattle.fare_book.specs.Faults.{CarriesFault};
 ghost use Rattle.fare_book.specs.Publish.{answer_to, answer_beside, reopened};
 ghost use Rattle.fare_book.specs.SameEdition.{same_edition, same_record};
 ghost use Rattle.std.specs.Cmp.Lexicographic.{pointwise};
-ghost use Rattle.fare_book.specs.Publishes.{IsNew, Offers, OffersBodies, Publishes, PublishesSettled};
+ghost use Rattle.fare_book.specs.Publishes.{IsNew, Offers, OffersBodies, Publishes, PublishesSettled, PublishesUntold};
+ghost use Rattle.fare_book.specs.Stands.{KeepsStanding, MayHaveStored};
 ghost use Rattle.fare_book.specs.Restored.{CarriesDamage, Gives};
 
 use crate::book::{Book, has_number};
@@ -41,6 +42,8 @@ impl Book {
         requires { IsTrue (P.ready keeper.old) }
         ensures answer { ToldAfter (P.bodies keeper.old) (P.bodies keeper.new) (Publishes self.old self.new bytes.now result) }
         ensures settled_book { self.old.settled ≡ true → PublishesSettled self.old self.new bytes.now result }
+        ensures untold { PublishesUntold self.old self.new bytes.now result }
+        ensures stands { ToldAfter (P.bodies keeper.old) (P.bodies keeper.new) (KeepsStanding self.old self.new result) }
         ensures carried { IfErr result CarriesFault }
 
         ensures ready { IsTrue (P.ready keeper.new) }
@@ -88,6 +91,7 @@ impl Book {
         requires settled { self.old.settled ≡ true }
         ensures answer { Offers self.old.editions edition result self.new }
         ensures bodies { ToldAfter (P.bodies keeper.old) (P.bodies keeper.new) (OffersBodies edition result) }
+        ensures read_back { MayHaveStored result → edition_of (canonical_text edition) ≡ Ok edition }
         ensures carried { IfErr result CarriesFault }
 
         ensures ready { IsTrue (P.ready keeper.new) }
@@ -137,6 +141,7 @@ impl Book {
         requires new { IsNew (answer_to self.old.editions edition) }
         ensures answer { Offers self.old.editions edition result self.new }
         ensures bodies { ToldAfter (P.bodies keeper.old) (P.bodies keeper.new) (OffersBodies edition result) }
+        ensures read_back { MayHaveStored result → edition_of (canonical_text edition) ≡ Ok edition }
         ensures carried { IfErr result CarriesFault }
 
         ensures ready { IsTrue (P.ready keeper.new) }

@@ -4,7 +4,7 @@ use Rattle.fare_book.specs.declared.publish_fault.PublishFault.TheVariants.{Keep
 use Rattle.fare_book.specs.Book.{BookState}
 use Rattle.fare_book.specs.Publish.{answer_to}
 use Rattle.fare_book.specs.Publishes.{Offers}
-use Rattle.fare_book.proofs.Answers.{IsOwn, own, refusal_carries, refusal_offers, settled_is}
+use Rattle.fare_book.proofs.Answers.{IsOwn, own, own_not_stored, refusal_carries, refusal_offers, settled_is}
 use Rattle.fare_book.proofs.book.Book.offer.Goals as goal
 
 pub returns-in-Err-clause-answer : goal.returns-in-Err-clause-answer
@@ -22,3 +22,7 @@ returns-in-Err-clause-cause g c =
     λ is.
     let fault : c.in-Err.fault ≡ KeeperFault = cc in
     absurd (subst IsOwn fault (own c.args.self.now.editions c.args.edition c.in-Err.fault (sym c.in-Err.ensures)))
+
+pub returns-in-Err-clause-read_back : goal.returns-in-Err-clause-read_back
+returns-in-Err-clause-read_back g c =
+    λ stored. absurd (own_not_stored c.in-Err.fault (own c.args.self.now.editions c.args.edition c.in-Err.fault (sym c.in-Err.ensures)) stored)
