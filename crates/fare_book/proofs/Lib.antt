@@ -8,3 +8,4 @@ pub mod Answers
 pub mod Publications
 pub mod Untold
 pub mod Standing
+pub mod Repeats

@@ -5,12 +5,14 @@
 //! - `book`, `select`: the book, and the edition that a day selects;
 //! - `damage`, `damage_text`: what can be wrong with stored bodies, and the words that tell it;
 //! - `restore_fault`, `restore`: a book from the bodies of a keeper;
-//! - `published`, `publish_fault`, `publish`: a text is published in a book.
+//! - `published`, `publish_fault`, `publish`: a text is published in a book;
+//! - `laws`: what holds of every publication.
 #![tactic(auto)]
 
 mod book;
 mod damage;
 mod damage_text;
+mod laws;
 mod publish;
 mod publish_fault;
 mod published;
@@ -20,6 +22,7 @@ mod select;
 
 pub use book::Book;
 pub use damage::Damage;
+pub use laws::{repeat_is_already, same_is_one};
 pub use publish_fault::PublishFault;
 pub use published::Published;
 pub use restore_fault::RestoreFault;
