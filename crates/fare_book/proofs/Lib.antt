@@ -9,3 +9,4 @@ pub mod Publications
 pub mod Untold
 pub mod Standing
 pub mod Repeats
+pub mod Examples
