@@ -2,6 +2,7 @@
 use Prim.Native.String.{String}
 use Rattle.std.specs.Prelude.{◌≡◌, refl, ⊤, ℕ, List, [], ◌∷◌, ◌++◌, Option, Some, None, option_map, map, codes, true, false, Result, Ok, Err}
 use Rattle.csv.proofs.OnLiterals.{csv_on_literals}
+use Rattle.std.specs.Fmt.{digits}
 use Rattle.jiff_core.specs.Calendar.{days_of_months}
 use Rattle.fare_codes.specs.Day.{day_number, days_since_1970, has_day_shape, is_civil}
 use Rattle.fare_codes.specs.Numbers.{decimal_text, decimal_value, is_decimal, is_number, last_digits, read_number}
@@ -29,7 +30,7 @@ use Rattle.fare_book.specs.Selected.{selected}
 
 -- what computes a reading and a spelling of a literal text
 unfoldable texts_on_literals : ⊤
-unfolding csv_on_literals rows_of tariff_of headed head_of counted read_version above_zero records_of record_of record_of_kind kind_named city_of currency_of end_of nothing_after followed_by ended_by edition_of first_fault_from kind_of is_one_unknown has_day_shape is_civil days_of_months is_number read_number is_decimal decimal_value last_digits decimal_text read_area read_mode canonical_rows record_row line_of lines_of
+unfolding csv_on_literals rows_of tariff_of headed head_of counted read_version above_zero records_of record_of record_of_kind kind_named city_of currency_of end_of nothing_after followed_by ended_by edition_of first_fault_from kind_of is_one_unknown has_day_shape is_civil days_of_months is_number read_number is_decimal decimal_value last_digits decimal_text read_area read_mode canonical_rows record_row line_of lines_of digits
 texts_on_literals = tt
 
 -- the number of an edition that is selected
@@ -41,7 +42,7 @@ abbrev effective_from : ℕ → String → Tariff
 effective_from number day = record { number = number; effective = codes day; records = [] }
 
 -- the editions 1, effective 2025-01-01, and 2 and 3, both effective 2025-02-01
-three_editions : List Tariff
+pub three_editions : List Tariff
 three_editions = effective_from 3 "2025-02-01" ∷ effective_from 1 "2025-01-01" ∷ effective_from 2 "2025-02-01" ∷ []
 
 -- a day selects the latest edition that is effective by then, and of two the one with the greater number
@@ -52,13 +53,13 @@ unfolding selected day_number days_since_1970 days_of_months three_editions
 days_select = refl
 
 -- the same edition in either version, and one with another rounding unit
-in_version_1 : List ℕ
+pub in_version_1 : List ℕ
 in_version_1 = codes "HEAD,1,1,2025-01-01\nCUR,GB,GBP,0.750000,0,1,U\nCITY,LON,GB,2\nEND\n"
 
-in_version_2 : List ℕ
+pub in_version_2 : List ℕ
 in_version_2 = codes "HEAD,2,1,2025-01-01\nCUR,GB,GBP,0.750000,0,1,U\nCITY,LON,GB,2\nEND\n"
 
-in_tens : List ℕ
+pub in_tens : List ℕ
 in_tens = codes "HEAD,1,1,2025-01-01\nCUR,GB,GBP,0.750000,0,10,U\nCITY,LON,GB,2\nEND\n"
 
 -- the damages of a body that is no tariff's text, and of a number that stands at an earlier place
@@ -71,7 +72,7 @@ unfolding editions_of with_bodies read_behind texts_on_literals in_version_1 in_
 repeat_is_damaged = refl
 
 -- the book of no edition
-no_edition : BookState
+pub no_edition : BookState
 no_edition = settled []
 
 -- a text is stored as its canonical text
@@ -97,7 +98,7 @@ unfolding publish answer_beside texts_on_literals no_edition in_version_1
 junk_is_malformed = refl
 
 -- a book that isn't settled is reopened before the edition is looked at
-unsettled_book : BookState
+pub unsettled_book : BookState
 unsettled_book = record { editions = []; settled = false }
 
 pub damage_before_the_edition : (publish unsettled_book (in_version_1 ∷ codes "junk" ∷ []) in_tens).answer ≡ Err (Damaged 2 (Text NoHeader))
@@ -109,7 +110,7 @@ unfolding publish answer_beside editions_of with_bodies read_behind same_edition
 reopened_before_the_edition = refl
 
 -- 32 editions, and one more or one of these
-full_book : List Tariff
+pub full_book : List Tariff
 full_book =
     map (λ number. effective_from number "2025-01-01")
     (1 ∷ 2 ∷ 3 ∷ 4 ∷ 5 ∷ 6 ∷ 7 ∷ 8 ∷ 9 ∷ 10 ∷ 11 ∷ 12 ∷ 13 ∷ 14 ∷ 15 ∷ 16 ∷ 17 ∷ 18 ∷ 19 ∷ 20 ∷ 21 ∷ 22 ∷ 23 ∷ 24 ∷ 25 ∷ 26 ∷ 27 ∷ 28 ∷ 29 ∷ 30 ∷ 31 ∷ 32 ∷ [])
