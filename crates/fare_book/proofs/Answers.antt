@@ -1,5 +1,5 @@
 -- What the answers to an edition that is offered to a settled book tell.
-use Rattle.std.proofs.Common.{◌≡◌, ◌<◌, ℕ, List, length, Option, Some, None, Result, Ok, Err, true, false, Bool, IfErr, nat_le, cond, arith, refl}
+use Rattle.std.proofs.Common.{◌≡◌, ◌<◌, ℕ, List, length, Option, Some, None, Ok, Err, true, false, Bool, nat_le, cond, arith, refl}
 use Rattle.std.proofs.lemmas.Bool.Decides.{nat_tests}
 use Rattle.fare_tariff.specs.Tariff.{Tariff}
 use Rattle.fare_book.specs.declared.published.Published.TheVariants.{New, Already}
@@ -8,8 +8,8 @@ use Rattle.fare_book.specs.declared.publish_fault.PublishFault.TheVariants.{Memo
 use Rattle.fare_book.specs.Book.{BookState, most_editions, numbered}
 use Rattle.fare_book.specs.Faults.{CarriesFault}
 use Rattle.fare_book.specs.SameEdition.{same_edition}
-use Rattle.fare_book.specs.Publish.{Answer, answer_beside, answer_to, settled}
-use Rattle.fare_book.specs.Publishes.{IsNew, Offers, OffersBodies}
+use Rattle.fare_book.specs.Publish.{answer_beside, answer_to, settled}
+use Rattle.fare_book.specs.Publishes.{IsNew, Offers}
 use Rattle.fare_book.specs.Stands.{MayHaveStored}
 
 -- a new edition: no other has its number, there is room, and its number is told

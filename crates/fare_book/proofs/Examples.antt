@@ -1,6 +1,6 @@
 -- Books of short editions, computed on the definitions.
 use Prim.Native.String.{String}
-use Rattle.std.specs.Prelude.{◌≡◌, refl, ⊤, ℕ, List, [], ◌∷◌, ◌++◌, Option, Some, None, option_map, map, codes, true, false, Result, Ok, Err}
+use Rattle.std.specs.Prelude.{◌≡◌, refl, ⊤, ℕ, List, [], ◌∷◌, Option, Some, None, option_map, map, codes, false, Ok, Err}
 use Rattle.csv.proofs.OnLiterals.{csv_on_literals}
 use Rattle.std.specs.Fmt.{digits}
 use Rattle.jiff_core.specs.Calendar.{days_of_months}
@@ -22,9 +22,9 @@ use Rattle.fare_csv.specs.TariffText.{edition_of, end_of, ended_by, followed_by,
 use Rattle.fare_book.specs.declared.damage.Damage.TheVariants.{Text, Repeat}
 use Rattle.fare_book.specs.declared.published.Published.TheVariants.{New, Already}
 use Rattle.fare_book.specs.declared.publish_fault.PublishFault.TheVariants.{Malformed, Differs, Full, Damaged}
-use Rattle.fare_book.specs.Book.{BookState, most_editions}
+use Rattle.fare_book.specs.Book.{BookState}
 use Rattle.fare_book.specs.Editions.{editions_of, read_behind, with_bodies}
-use Rattle.fare_book.specs.Publish.{Answer, Publication, answer_beside, answer_to, publish, settled}
+use Rattle.fare_book.specs.Publish.{Answer, answer_beside, answer_to, publish, settled}
 use Rattle.fare_book.specs.SameEdition.{same_edition, same_record}
 use Rattle.fare_book.specs.Selected.{selected}
 

@@ -10,3 +10,4 @@ pub mod Untold
 pub mod Standing
 pub mod Repeats
 pub mod Examples
+pub mod Latest

@@ -1,9 +1,8 @@
 -- The numbers of editions.
-use Rattle.std.proofs.Common.{◌≡◌, ◌≢◌, ◌==◌, ℕ, ◌+◌, ◌<◌, ◌≤◌, suc, zero, List, [], ◌∷◌, ◌++◌, length, get_or, Option, Some, None, true, false, Bool, cond, arith, eq-eqb, length-append}
-use Rattle.std.specs.List.{AllPairs}
+use Rattle.std.proofs.Common.{◌≡◌, ◌≢◌, ℕ, ◌<◌, suc, zero, List, [], ◌∷◌, ◌++◌, length, get_or, Option, Some, None, true, false, Bool, cond, arith, eq-eqb, length-append}
 use Rattle.std.proofs.lemmas.List.Quantifiers.{all_pairs_push}
 use Rattle.fare_tariff.specs.Tariff.{Tariff}
-use Rattle.fare_book.specs.Book.{IsBook, HaveOtherNumbers, numbered, has_number, most_editions}
+use Rattle.fare_book.specs.Book.{IsBook, HaveOtherNumbers, numbered, has_number}
 
 -- nothing is found at the first edition, nor behind it
 found_none : (test : Bool) (one : Tariff) (others : Option Tariff) → cond test (Some one) others ≡ None → (test ≡ false) × (others ≡ None)

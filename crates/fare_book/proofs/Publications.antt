@@ -1,5 +1,5 @@
 -- How the steps of a publication make one, where the bodies are told.
-use Rattle.std.proofs.Common.{◌≡◌, ◌∙◌, ◌⊎◌, inl, inr, ℕ, List, [], ◌∷◌, ◌++◌, Option, Some, None, Result, Ok, Err, IfSome, true, false, Bool, cond, refl, sym, ap}
+use Rattle.std.proofs.Common.{◌≡◌, ◌∙◌, ◌⊎◌, inl, inr, ℕ, List, [], Some, None, Ok, Err, IfSome, true, false, Bool, refl, sym, ap}
 use Rattle.fare_outside.specs.Keeper.{ToldAfter, BodiesStay}
 use Rattle.fare_tariff.specs.Tariff.{Tariff}
 use Rattle.fare_csv.specs.declared.text_fault.TextFault.{TextFault}
@@ -8,15 +8,13 @@ use Rattle.fare_csv.specs.Fields.{GivesFault}
 use Rattle.fare_csv.specs.TariffText.{edition_of}
 use Rattle.fare_book.specs.declared.restore_fault.RestoreFault.{RestoreFault}
 use Rattle.fare_book.specs.declared.restore_fault.RestoreFault.TheVariants as restoring
-use Rattle.fare_book.specs.declared.published.Published.TheVariants.{New, Already}
-use Rattle.fare_book.specs.declared.publish_fault.PublishFault.{PublishFault}
-use Rattle.fare_book.specs.declared.publish_fault.PublishFault.TheVariants.{Memory, Malformed, Differs, Full, KeeperFault, Damaged}
+use Rattle.fare_book.specs.declared.publish_fault.PublishFault.TheVariants.{Memory, Malformed, KeeperFault, Damaged}
 use Rattle.fare_book.specs.Book.{BookState}
 use Rattle.fare_book.specs.Editions.{DamageAt, editions_of}
 use Rattle.fare_book.specs.Faults.{reopening_fault, text_fault}
 use Rattle.fare_book.specs.Restored.{FitsFault}
-use Rattle.fare_book.specs.Publish.{Answer, Publication, answer_to, bodies_after, editions_after, offered_to, publish, publish_reading, published_as, refused, reopened, settled}
-use Rattle.fare_book.specs.Publishes.{AppendFails, IsNew, MayReopen, Offers, OffersBodies, Publishes, PublishesSettled, ReopeningFails, unsettled}
+use Rattle.fare_book.specs.Publish.{Answer, Publication, answer_to, bodies_after, editions_after, publish, published_as, refused, reopened, settled}
+use Rattle.fare_book.specs.Publishes.{IsNew, MayReopen, Offers, OffersBodies, Publishes, PublishesSettled, unsettled}
 use Rattle.fare_book.proofs.Answers.{settled_is}
 use Rattle.fare_book.proofs.Bodies.{Told}
 use Rattle.fare_book.proofs.Readings.{fault_of_reading}

@@ -1,5 +1,5 @@
 -- A text of an edition that stands is published already.
-use Rattle.std.proofs.Common.{◌≡◌, ◌≢◌, ◌∙◌, ◌<◌, ◌+◌, ◌==◌, ℕ, suc, zero, inl, inr, List, [], ◌∷◌, ◌++◌, length, get_or, Option, Some, None, option_map, Result, Ok, Err, true, false, Bool, cond, arith, refl, sym, ap, eq-eqb}
+use Rattle.std.proofs.Common.{◌≡◌, ◌≢◌, ◌<◌, ◌+◌, ◌==◌, ℕ, suc, zero, inl, inr, List, [], ◌∷◌, ◌++◌, ◌⊎◌, length, get_or, Option, Some, None, option_map, Result, Ok, Err, true, false, Bool, arith, refl, ap, eq-eqb}
 use Rattle.std.specs.List.{AllPairs, Contains, position}
 use Rattle.std.proofs.lemmas.Bool.Decides.{nat_tests}
 use Rattle.std.proofs.lemmas.List.Elements.{Contains-append_left}
@@ -9,10 +9,12 @@ use Rattle.fare_csv.specs.declared.text_fault.TextFault.{TextFault}
 use Rattle.fare_csv.specs.TariffText.{edition_of}
 use Rattle.fare_book.specs.declared.damage.Damage.{Damage}
 use Rattle.fare_book.specs.declared.published.Published.TheVariants.{New, Already}
+use Rattle.fare_book.specs.declared.publish_fault.PublishFault.TheVariants.{Memory, KeeperFault}
 use Rattle.fare_book.specs.Book.{BookState, HaveOtherNumbers, has_number, numbered}
 use Rattle.fare_book.specs.Editions.{DamageAt, at_place, edition_behind, editions_of, place_of, read_behind, unrepeated, with_body, with_bodies, with_edition}
 use Rattle.fare_book.specs.SameEdition.{same_edition}
-use Rattle.fare_book.specs.Publish.{Answer, Publication, answer_beside, answer_to, editions_after, offered_to, publish, publish_reading, published_as, reopened}
+use Rattle.fare_book.specs.Publish.{Answer, answer_beside, answer_to, editions_after, publish, publish_reading, reopened}
+use Rattle.fare_book.specs.Publishes.{AppendFails, MayReopen, Publishes, ReopeningFails}
 use Rattle.fare_book.specs.Stands.{Stands}
 use Rattle.fare_book.proofs.Numbers.{none_has}
 use Rattle.fare_book.proofs.Places.{numbered_nowhere}
@@ -146,3 +148,26 @@ reading_keeps (Ok edition) book bodies kept stands there =
 pub publish_keeps : (book : BookState) (bodies : List (List ℕ)) (bytes : List ℕ) (kept : Tariff) → Stands book bodies → Contains book.editions kept → Contains (publish book bodies bytes).book.editions kept
 unfolding publish
 publish_keeps book bodies bytes kept stands there = reading_keeps (edition_of bytes) book bodies kept stands there
+
+-- the editions of a book that stands are among those in which a publication goes on
+opened_keeps : (old : BookState) (before : List (List ℕ)) (editions : List Tariff) (kept : Tariff) → Stands old before → reopened old before ≡ Ok editions → Contains old.editions kept → Contains editions kept
+opened_keeps old before editions kept stands opened there =
+    let on = goes_on old before kept old.settled refl stands there in
+    let here = on.opened in
+    let same : on.editions ≡ editions = cc in
+    rw same at on.contains
+
+memory_keeps : (old new : BookState) (before : List (List ℕ)) (kept : Tariff) → Stands old before → MayReopen old new before → Contains old.editions kept → Contains new.editions kept
+memory_keeps old new before kept stands (inl same) there = rw same there
+memory_keeps old new before kept stands (inr w) there =
+    let opened : reopened old before ≡ Ok new.editions = rw w.0 w.1 in opened_keeps old before new.editions kept stands opened there
+
+failure_keeps : (old new : BookState) (bytes : List ℕ) (before after : List (List ℕ)) (kept : Tariff) → Stands old before → ReopeningFails old new bytes before after ⊎ AppendFails old new bytes before after → Contains old.editions kept → Contains new.editions kept
+failure_keeps old new bytes before after kept stands (inl fails) there = let same = fails.book in rw same there
+failure_keeps old new bytes before after kept stands (inr fails) there = opened_keeps old before new.editions kept stands fails.editions there
+
+-- a call that publishes keeps each edition, whatever it answers
+pub call_keeps : (old new : BookState) (bytes : List ℕ) (answer : Answer) (before after : List (List ℕ)) (kept : Tariff) → Stands old before → Publishes old new bytes answer before after → Contains old.editions kept → Contains new.editions kept
+call_keeps old new bytes (Err Memory) before after kept stands made there = memory_keeps old new before kept stands made.1 there
+call_keeps old new bytes (Err KeeperFault) before after kept stands made there = failure_keeps old new bytes before after kept stands made there
+call_keeps old new bytes answer before after kept stands made there = rw made at (publish_keeps old before bytes kept stands there)

@@ -1,5 +1,5 @@
 -- Two editions are the same exactly where the test says so.
-use Rattle.std.proofs.Common.{◌≡◌, ℕ, ap, refl, Bool, true, false, List, Option, Some, None, ◌==◌, ◌&&◌, ◌↔◌, IsTrue, bytes_eq}
+use Rattle.std.proofs.Common.{◌≡◌, ℕ, ap, refl, Bool, true, false, List, Option, Some, None, ◌↔◌, IsTrue, bytes_eq}
 use Rattle.std.specs.Bool.{Decides}
 use Rattle.std.specs.Cmp.Lexicographic.{pointwise}
 use Rattle.std.proofs.lemmas.Bool.Decides.{Decides-and, Decides-eqb, Decides-like, same_from_decides}
@@ -24,7 +24,7 @@ use Rattle.fare_tariff.specs.Record.{CurrencyRecord, RuleRecord, FareRecord, Mil
 use Rattle.fare_tariff.specs.Tariff.{Tariff}
 use Rattle.fare_tariff.specs.Lookup.{same_indicator, same_cabin, same_kind, same_rule}
 use Rattle.fare_tariff.specs.Check.{same_season, same_via}
-use Rattle.fare_book.specs.SameEdition.{same_area, same_mode, same_excess, same_names, same_city, same_currency, same_terms, same_filed_rule, same_run, same_tag, same_fare, same_mileage, same_ticketed, same_allowance, same_record, same_edition}
+use Rattle.fare_book.specs.SameEdition.{same_area, same_mode, same_excess, same_names, same_city, same_currency, same_filed_rule, same_fare, same_mileage, same_ticketed, same_allowance, same_record, same_edition}
 
 area_is : (a b : Area) → Decides (same_area a b) (a ≡ b)
 area_is One One = (λ h. refl, λ e. refl)

@@ -1,11 +1,11 @@
 -- Scans of a list of editions, one edition on.
-use Rattle.std.proofs.Common.{◌≡◌, ℕ, ◌+◌, ◌<◌, ◌≤◌, List, [], ◌∷◌, length, get_or, drop, Option, Some, None, cond}
+use Rattle.std.proofs.Common.{◌≡◌, ℕ, ◌+◌, ◌<◌, ◌≤◌, List, ◌∷◌, length, get_or, drop, Option, Some, None, cond}
 use Rattle.std.specs.List.{filter}
 use Rattle.std.proofs.lemmas.List.{at_drop_more, at_drop_all}
 use Rattle.fare_codes.specs.declared.day.Day.{Day}
 use Rattle.fare_tariff.specs.Tariff.{Tariff}
 use Rattle.fare_book.specs.Book.{numbered, has_number}
-use Rattle.fare_book.specs.Selected.{is_effective_by, later_of, latest}
+use Rattle.fare_book.specs.Selected.{is_effective_by, latest}
 
 -- the edition of a number in what is left of a list is its first, or that in what is left after it
 pub numbered_more : (number : ℕ) (editions : List Tariff) (i : ℕ) (d : Tariff) → i < length editions → numbered number (drop i editions) ≡ cond (has_number number (get_or editions i d)) (Some (get_or editions i d)) (numbered number (drop (i + 1) editions))

@@ -1,26 +1,20 @@
 -- Bodies that stand for a book still do after a publication.
-use Rattle.std.proofs.Common.{◌≡◌, ◌∙◌, ◌<◌, ◌≤◌, ◌+◌, ℕ, inl, inr, List, [], ◌∷◌, ◌++◌, length, get_or, Option, Some, None, Result, Ok, Err, IfSome, true, false, Bool, cond, nat_lt, arith, refl, sym, ap, length-append, append_assoc}
-use Rattle.std.specs.List.{position, position_or_len, slice_get}
+use Rattle.std.proofs.Common.{◌≡◌, ◌<◌, ◌+◌, ℕ, inl, inr, List, [], ◌∷◌, ◌++◌, length, Some, None, Result, Ok, Err, IfSome, true, false, Bool, cond, nat_lt, arith, refl, sym, length-append}
+use Rattle.std.specs.List.{position, position_or_len}
 use Rattle.std.proofs.lemmas.Option.{slice_get_cases}
 use Rattle.std.proofs.lemmas.List.Folds.{find_at}
 use Rattle.std.proofs.lemmas.Bool.Decides.{nat_tests}
 use Rattle.fare_outside.specs.Keeper.{ToldAfter, BodiesStay}
 use Rattle.fare_tariff.specs.Tariff.{Tariff}
-use Rattle.fare_csv.specs.declared.text_fault.TextFault.{TextFault}
-use Rattle.fare_csv.specs.declared.text_fault.TextFault.TheVariants as tariff
 use Rattle.fare_csv.specs.TariffText.{edition_of}
 use Rattle.fare_csv.specs.CanonicalText.{canonical_text}
 use Rattle.fare_book.specs.declared.damage.Damage.TheVariants.{TooMany}
-use Rattle.fare_book.specs.declared.restore_fault.RestoreFault.{RestoreFault}
-use Rattle.fare_book.specs.declared.restore_fault.RestoreFault.TheVariants as restoring
 use Rattle.fare_book.specs.declared.published.Published.TheVariants.{New, Already}
 use Rattle.fare_book.specs.declared.publish_fault.PublishFault.TheVariants.{Memory, Malformed, Differs, Full, KeeperFault, Damaged}
 use Rattle.fare_book.specs.Book.{BookState, has_number, most_editions, numbered}
-use Rattle.fare_book.specs.Editions.{DamageAt, ◌>>=◌, edition_behind, editions_of, place_of, read_behind, unrepeated, with_body, with_bodies, with_edition}
-use Rattle.fare_book.specs.Faults.{reopening_fault, text_fault}
-use Rattle.fare_book.specs.Restored.{FitsFault}
-use Rattle.fare_book.specs.Publish.{Answer, answer_to, bodies_after, editions_after, reopened, settled}
-use Rattle.fare_book.specs.Publishes.{IsNew, Offers, OffersBodies, unsettled}
+use Rattle.fare_book.specs.Editions.{DamageAt, ◌>>=◌, editions_of, read_behind, with_body, with_bodies, with_edition}
+use Rattle.fare_book.specs.Publish.{Answer, answer_to, reopened, settled}
+use Rattle.fare_book.specs.Publishes.{IsNew, Offers, OffersBodies}
 use Rattle.fare_book.specs.Stands.{IsUndamaged, KeepsStanding, MayHaveStored, Stands}
 use Rattle.fare_book.proofs.Answers.{new_has_room, new_is_new, own}
 use Rattle.fare_book.proofs.Bodies.{Told}

@@ -1,5 +1,5 @@
 -- How the steps of a publication make one, whatever is told.
-use Rattle.std.proofs.Common.{◌≡◌, ℕ, inl, inr, List, Ok, Err, true, false, refl}
+use Rattle.std.proofs.Common.{◌≡◌, ℕ, inl, inr, List, Ok, Err, false, refl}
 use Rattle.fare_tariff.specs.Tariff.{Tariff}
 use Rattle.fare_csv.specs.declared.text_fault.TextFault.{TextFault}
 use Rattle.fare_csv.specs.declared.text_fault.TextFault.TheVariants as tariff
@@ -11,7 +11,7 @@ use Rattle.fare_book.specs.declared.publish_fault.PublishFault.TheVariants.{Memo
 use Rattle.fare_book.specs.Book.{BookState}
 use Rattle.fare_book.specs.Faults.{reopening_fault, text_fault}
 use Rattle.fare_book.specs.Publish.{Answer}
-use Rattle.fare_book.specs.Publishes.{IsOffered, Offers, PublishesUntold}
+use Rattle.fare_book.specs.Publishes.{Offers, PublishesUntold}
 use Rattle.fare_book.proofs.Answers.{own}
 use Rattle.fare_book.proofs.Readings.{fault_of_reading}
 

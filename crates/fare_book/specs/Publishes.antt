@@ -1,5 +1,5 @@
 -- How a call that may want memory, over a keeper that may fail, answers what is defined of a publication.
-use Rattle.std.specs.Prelude.{◌≡◌, ◌⊎◌, ℕ, true, false, List, [], Result, Ok, Err}
+use Rattle.std.specs.Prelude.{◌≡◌, ◌⊎◌, ℕ, true, false, List, [], Ok, Err}
 use Rattle.fare_outside.specs.Keeper.{MayAppend}
 use Rattle.fare_tariff.specs.Tariff.{Tariff}
 use Rattle.fare_csv.specs.TariffText.{edition_of}
@@ -8,7 +8,7 @@ use Rattle.fare_book.specs.declared.published.Published.TheVariants.{New}
 use Rattle.fare_book.specs.declared.publish_fault.PublishFault.TheVariants.{Memory, Malformed, KeeperFault, Damaged}
 use Rattle.fare_book.specs.Book.{BookState}
 use Rattle.fare_book.specs.Editions.{editions_of}
-use Rattle.fare_book.specs.Publish.{Answer, Publication, answer_to, editions_after, bodies_after, publish, reopened, settled}
+use Rattle.fare_book.specs.Publish.{Answer, answer_to, editions_after, bodies_after, publish, reopened, settled}
 
 -- an answer is New
 abbrev pub IsNew : Answer → Type 0

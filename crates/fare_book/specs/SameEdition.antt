@@ -1,5 +1,5 @@
 -- When two editions are the same: they have one number, one effective day, and the same records in the same order.
-use Rattle.std.specs.Prelude.{ℕ, Bool, true, false, List, ◌==◌, ◌&&◌, bytes_eq}
+use Rattle.std.specs.Prelude.{Bool, true, false, ◌==◌, ◌&&◌, bytes_eq}
 use Rattle.std.specs.Cmp.Lexicographic.{pointwise}
 use Rattle.fare_codes.specs.declared.area.Area.{Area}
 use Rattle.fare_codes.specs.declared.area.Area.TheVariants.{One, Two, Three}

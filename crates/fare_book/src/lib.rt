@@ -22,7 +22,7 @@ mod select;
 
 pub use book::Book;
 pub use damage::Damage;
-pub use laws::{repeat_is_already, same_is_one};
+pub use laws::{repeat_is_already, same_is_one, selected_is_latest};
 pub use publish_fault::PublishFault;
 pub use published::Published;
 pub use restore_fault::RestoreFault;

@@ -2,7 +2,10 @@
 
 mod keeper;
 
-use crate::{Book, Damage, PublishFault, Published, RestoreFault, repeat_is_already, same_is_one};
+use crate::{
+    Book, Damage, PublishFault, Published, RestoreFault, repeat_is_already, same_is_one,
+    selected_is_latest,
+};
 use fare_codes::Day;
 use fare_csv::{TextFault, edition_text, read_edition};
 use fare_outside::{Bodies, Keeper, PlainKeeper};
@@ -58,6 +61,7 @@ fn a_text_is_published_once(rt: HostRuntime) -> Result<(), Fail> {
     assert!(rt; book.find(9).is_none() && book.settled());
     repeat_is_already();
     same_is_one();
+    selected_is_latest();
     let again = Book::restore(&rt, alloc, &mut store)?;
     assert_eq!(rt; again.editions().len(), 1);
     match again.find(1) {

@@ -1,4 +1,4 @@
-use Rattle.std.proofs.Common.{◌≡◌, ◌<◌, ◌≤◌, ◌++◌, ◌∷◌, [], length, None, sym, subst, arith}
+use Rattle.std.proofs.Common.{◌≡◌, ◌<◌, ◌++◌, ◌∷◌, [], length, None, sym, subst, arith}
 use Rattle.fare_book.specs.Book.{BookState, numbered}
 use Rattle.fare_book.proofs.Numbers.{book-push}
 use Rattle.fare_book.proofs.book.Book.add.Goals as goal

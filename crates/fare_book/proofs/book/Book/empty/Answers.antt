@@ -1,4 +1,3 @@
-use Rattle.std.proofs.Common.{arith}
 use Rattle.fare_book.proofs.Numbers.{book-nil}
 use Rattle.fare_book.proofs.book.Book.empty.Goals as goal
 

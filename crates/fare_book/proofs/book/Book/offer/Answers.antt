@@ -1,5 +1,4 @@
 use Rattle.std.proofs.Common.{◌≡◌, Err, subst, sym}
-use Rattle.fare_book.specs.declared.publish_fault.PublishFault.{PublishFault}
 use Rattle.fare_book.specs.declared.publish_fault.PublishFault.TheVariants.{KeeperFault}
 use Rattle.fare_book.specs.Book.{BookState}
 use Rattle.fare_book.specs.Publish.{answer_to}

@@ -1,6 +1,5 @@
-use Rattle.std.proofs.Common.{◌≡◌, Ok, Err, rules}
+use Rattle.std.proofs.Common.{◌≡◌, Err, rules}
 use Rattle.fare_csv.specs.Fields.{Gives}
-use Rattle.fare_csv.specs.TariffText.{edition_of}
 use Rattle.fare_book.specs.Faults.{reopening_fault, text_fault}
 use Rattle.fare_book.proofs.Publications.{malformed, malformed_settled, offered_publishes, not_true, offered_settled, reopening_stopped}
 use Rattle.fare_book.proofs.Standing.{offered_stands}
