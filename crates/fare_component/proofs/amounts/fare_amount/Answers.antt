@@ -1,7 +1,7 @@
 use Rattle.std.proofs.Common.{◌≡◌, true, Some, sym, ◌∙◌}
 use Rattle.fare_rules.specs.ComponentAmount.{span_surcharge}
 use Rattle.fare_component.specs.Usable.{is_usable}
-use Rattle.fare_component.proofs.Conditions.{by_rule}
+use Rattle.fare_component.proofs.AmountLemmas.{by_rule}
 use Rattle.fare_component.proofs.amounts.fare_amount.Goals as goal
 
 pub returns-in-Some-clause-value : goal.returns-in-Some-clause-value

@@ -1,16 +1,16 @@
 //! What a span must be to be a component, and how many stopovers and transfers it has.
 
-ghost use Rattle.std.specs.Prelude.{◌≡◌, ◌<◌, ◌≤◌, length, bytes_eq};
+ghost use Rattle.std.specs.Prelude.{◌≡◌, ◌<◌, ◌≤◌, length};
 ghost use Rattle.fare_trip.specs.Itinerary.{count};
 ghost use Rattle.fare_rules.specs.Span.{holds_surface, stopovers, transfers};
-ghost use Rattle.fare_rules.specs.ComponentAmount.{is_same_city, is_repeated, repeats_city};
+ghost use Rattle.fare_rules.specs.ComponentAmount.{is_repeated, repeats_city};
 
-use fare_codes::City;
+use fare_tariff::same_cities;
 use fare_trip::Trip;
 
 /// Whether a span holds a surface sector.
 #[tactic(auto, using(fare_rules::proofs::NumberLemmas::any_next, fare_rules::proofs::NumberLemmas::any_done))]
-pub(crate) fn holds_surface(trip: &Trip, a: usize, b: usize) -> bool
+pub fn holds_surface(trip: &Trip, a: usize, b: usize) -> bool
     requires { b ≤ count trip.now }
     ensures { result ≡ holds_surface trip.now a b }
 {
@@ -20,14 +20,6 @@ pub(crate) fn holds_surface(trip: &Trip, a: usize, b: usize) -> bool
         }
     }
     false
-}
-
-/// Whether two cities are the same.
-#[tactic(auto, using(crate::proofs::SameText::same_text))]
-pub(crate) fn same_cities(a: City, b: City) -> bool
-    ensures { result ≡ bytes_eq a b }
-{
-    a.is(b)
 }
 
 /// Whether a point is the city of an earlier point of a span that begins at another.
@@ -46,11 +38,12 @@ fn is_repeated(trip: &Trip, a: usize, i: usize) -> bool
 
 /// Whether two points of a span are one city.
 #[tactic(auto, using(fare_rules::proofs::NumberLemmas::any_next, fare_rules::proofs::NumberLemmas::any_done), unfolding(fare_rules::specs::ComponentAmount::repeats_city))]
-pub(crate) fn repeats_city(trip: &Trip, a: usize, b: usize) -> bool
-    requires ends { b ≤ count trip.now }
-    requires short { b ≤ 16 }
+pub fn repeats_city(trip: &Trip, a: usize, b: usize) -> bool
+    requires { b ≤ count trip.now }
     ensures { result ≡ repeats_city trip.now a b }
 {
+    let count = trip.count();
+    prove!(b <= count);
     for i in a..b + 1 {
         if is_repeated(trip, a, i) {
             return true;
@@ -64,9 +57,10 @@ pub(crate) fn repeats_city(trip: &Trip, a: usize, b: usize) -> bool
 pub(crate) fn stopovers(trip: &Trip, a: usize, b: usize) -> u32
     requires rises { a < b }
     requires ends { b ≤ count trip.now }
-    requires short { b ≤ 16 }
     ensures { result ≡ length (stopovers trip.now a b) }
 {
+    let count = trip.count();
+    prove!(b <= count);
     let mut found = 0;
     for i in a + 1..b {
         if trip.sector(i).stop {
@@ -81,9 +75,10 @@ pub(crate) fn stopovers(trip: &Trip, a: usize, b: usize) -> u32
 pub(crate) fn transfers(trip: &Trip, a: usize, b: usize) -> u32
     requires rises { a < b }
     requires ends { b ≤ count trip.now }
-    requires short { b ≤ 16 }
     ensures { result ≡ length (transfers trip.now a b) }
 {
+    let count = trip.count();
+    prove!(b <= count);
     let mut found = 0;
     for i in a + 1..b {
         if !trip.sector(i).stop {

@@ -1,17 +1,14 @@
-//! Whether a fare is for a span.
+//! What a fare must be for a span: the places between which it runs, its indicator, its class, its carrier and its season.
 
-ghost use Rattle.std.specs.Prelude.{◌≡◌, ◌<◌, ◌≤◌, ◌&&◌, not, bytes_eq};
+ghost use Rattle.std.specs.Prelude.{◌≡◌, ◌<◌, ◌≤◌};
 ghost use Rattle.std.specs.List.{list_all};
 ghost use Rattle.fare_trip.specs.Itinerary.{count};
-ghost use Rattle.fare_tariff.specs.Lookup.{same_indicator};
-ghost use Rattle.fare_rules.specs.Span.{sectors, holds_surface};
-ghost use Rattle.fare_rules.specs.ComponentAmount.{is_filed_between, runs_between, is_half_round_trip, may_be_priced, has_indicator, rank, covers_cabin, covers_cabins, is_carried_by, covers_carriers, in_season, repeats_city};
-ghost use Rattle.fare_component.specs.Usable.{is_for_span};
+ghost use Rattle.fare_rules.specs.Span.{sectors};
+ghost use Rattle.fare_rules.specs.ComponentAmount.{is_filed_between, runs_between, is_half_round_trip, may_be_priced, has_indicator, rank, covers_cabin, covers_cabins, is_carried_by, covers_carriers, in_season};
 
-use crate::spans::{holds_surface, repeats_city, same_cities};
-use fare_codes::{Cabin, Carrier, City, Indicator, Kind};
+use fare_codes::{Cabin, Carrier, City, Kind};
 use fare_points::{every_carrier, indicator};
-use fare_tariff::{Edition, FareRec};
+use fare_tariff::{Edition, FareRec, same_carriers, same_cities, same_indicators};
 use fare_trip::Trip;
 
 /// Whether a fare is filed from a city to another.
@@ -23,7 +20,7 @@ fn is_filed_between(fare: &FareRec, from: City, to: City) -> bool
 
 /// Whether a fare runs between the ends of a span: from its start, or from its end where it is priced back.
 #[tactic(auto, unfolding(fare_rules::specs::ComponentAmount::runs_between))]
-fn runs_between(trip: &Trip, a: usize, b: usize, back: bool, fare: &FareRec) -> bool
+pub fn runs_between(trip: &Trip, a: usize, b: usize, back: bool, fare: &FareRec) -> bool
     requires start { a ≤ count trip.now }
     requires end { b ≤ count trip.now }
     ensures { result ≡ runs_between trip.now a b back fare.now }
@@ -42,30 +39,16 @@ fn is_half_round_trip(fare: &FareRec) -> bool
     matches!(fare.kind, Kind::HR)
 }
 
-/// Whether a fare may be priced in a direction: only a half round trip is priced back.
-fn may_be_priced(back: bool, fare: &FareRec) -> bool
+/// Whether a fare may be priced in a direction, back or not: only a half round trip is priced back.
+pub fn may_be_priced(back: bool, fare: &FareRec) -> bool
     ensures { result ≡ may_be_priced back fare.now }
 {
     !back || is_half_round_trip(fare)
 }
 
-/// Whether two indicators are the same.
-fn same_indicators(a: Indicator, b: Indicator) -> bool
-    ensures { result ≡ same_indicator a b }
-{
-    match (a, b) {
-        (Indicator::WH, Indicator::WH) => true,
-        (Indicator::EH, Indicator::EH) => true,
-        (Indicator::AT, Indicator::AT) => true,
-        (Indicator::PA, Indicator::PA) => true,
-        (Indicator::AP, Indicator::AP) => true,
-        _ => false,
-    }
-}
-
 /// Whether a fare has the indicator of a span.
 #[tactic(auto, unfolding(fare_rules::specs::ComponentAmount::has_indicator))]
-fn has_indicator(edition: &Edition, trip: &Trip, a: usize, b: usize, fare: &FareRec) -> bool
+pub fn has_indicator(edition: &Edition, trip: &Trip, a: usize, b: usize, fare: &FareRec) -> bool
     requires rises { a < b }
     requires ends { b ≤ count trip.now }
     ensures { result ≡ has_indicator edition.now trip.now a b fare.now }
@@ -93,9 +76,9 @@ fn covers_cabin(trip: &Trip, class: Cabin, number: usize) -> bool
     rank(trip.sector(number).cabin) <= rank(class)
 }
 
-/// Whether the class of a fare covers the cabins of a span.
+/// Whether the class of a fare covers the cabins of a span: it has at least the rank of each sector's cabin.
 #[tactic(auto, using(fare_rules::proofs::NumberLemmas::all_next, fare_rules::proofs::NumberLemmas::all_done), unfolding(fare_rules::specs::ComponentAmount::covers_cabins))]
-fn covers_cabins(trip: &Trip, a: usize, b: usize, fare: &FareRec) -> bool
+pub fn covers_cabins(trip: &Trip, a: usize, b: usize, fare: &FareRec) -> bool
     requires { b ≤ count trip.now }
     ensures { result ≡ covers_cabins trip.now a b fare.now }
 {
@@ -105,14 +88,6 @@ fn covers_cabins(trip: &Trip, a: usize, b: usize, fare: &FareRec) -> bool
         }
     }
     true
-}
-
-/// Whether two carriers are the same.
-#[tactic(auto, using(crate::proofs::SameText::same_text))]
-fn same_carriers(a: Carrier, b: Carrier) -> bool
-    ensures { result ≡ bytes_eq a b }
-{
-    a.is(b)
 }
 
 /// Whether every sector of a span is by a carrier.
@@ -131,7 +106,7 @@ fn all_carried_by(trip: &Trip, carrier: Carrier, a: usize, b: usize) -> bool
 
 /// Whether the carrier of a fare is `YY` or that of each sector of a span.
 #[tactic(auto, unfolding(fare_rules::specs::ComponentAmount::covers_carriers))]
-fn covers_carriers(trip: &Trip, a: usize, b: usize, fare: &FareRec) -> bool
+pub fn covers_carriers(trip: &Trip, a: usize, b: usize, fare: &FareRec) -> bool
     requires { b ≤ count trip.now }
     ensures { result ≡ covers_carriers trip.now a b fare.now }
 {
@@ -140,44 +115,11 @@ fn covers_carriers(trip: &Trip, a: usize, b: usize, fare: &FareRec) -> bool
 
 /// Whether the season of a fare holds the day of the first sector of what begins at a point.
 #[tactic(auto, unfolding(fare_rules::specs::ComponentAmount::in_season))]
-fn in_season(trip: &Trip, a: usize, fare: &FareRec) -> bool
-    requires start { a < count trip.now }
-    requires short { a < 16 }
+pub fn in_season(trip: &Trip, a: usize, fare: &FareRec) -> bool
+    requires { a < count trip.now }
     ensures { result ≡ in_season trip.now a fare.now }
 {
+    let count = trip.count();
+    prove!(a < count);
     fare.season.holds(trip.sector(a + 1).day.month_day())
-}
-
-/// Whether a span can be a component: it holds no surface sector and no city twice.
-fn is_plain(trip: &Trip, a: usize, b: usize) -> bool
-    requires ends { b ≤ count trip.now }
-    requires short { b ≤ 16 }
-    ensures { result ≡ (not (holds_surface trip.now a b) && not (repeats_city trip.now a b)) }
-{
-    !holds_surface(trip, a, b) && !repeats_city(trip, a, b)
-}
-
-/// Whether a fare is for a span: the span can be a component, and the fare runs between its ends, has its indicator and
-/// covers its cabins, its carriers and its day.
-#[tactic(auto, unfolding(crate::specs::Usable::is_for_span))]
-pub(crate) fn is_for_span(
-    edition: &Edition,
-    trip: &Trip,
-    a: usize,
-    b: usize,
-    back: bool,
-    fare: &FareRec,
-) -> bool
-    requires rises { a < b }
-    requires ends { b ≤ count trip.now }
-    requires short { b ≤ 16 }
-    ensures { result ≡ is_for_span edition.now trip.now a b back fare.now }
-{
-    is_plain(trip, a, b)
-        && runs_between(trip, a, b, back, fare)
-        && may_be_priced(back, fare)
-        && has_indicator(edition, trip, a, b, fare)
-        && covers_cabins(trip, a, b, fare)
-        && covers_carriers(trip, a, b, fare)
-        && in_season(trip, a, fare)
 }

@@ -1,10 +1,11 @@
-//! Whether the terms of a fare's rule hold for a span.
+//! Whether the terms of a fare's rule hold for a span. A rule that isn't filed has no terms, and none hold.
 
 ghost use Rattle.std.specs.Prelude.{◌≡◌, ◌<◌, ◌≤◌};
 ghost use Rattle.fare_trip.specs.Itinerary.{count};
-ghost use Rattle.fare_rules.specs.Terms.{terms_of_fare, stops_hold, transfers_hold, advance_days, advance_holds, term_holds, allows_surcharge};
+ghost use Rattle.fare_rules.specs.Terms.{terms_of_fare, stops_hold, transfers_hold, advance_days, advance_holds};
+ghost use Rattle.fare_rules.specs.ComponentAmount.{is_allowed};
 
-use crate::spans::{stopovers, transfers};
+use crate::conditions::spans::{stopovers, transfers};
 use fare_tariff::{Edition, FareRec, Terms};
 use fare_trip::Trip;
 
@@ -15,12 +16,12 @@ fn terms_of_fare(edition: &Edition, fare: &FareRec) -> Option<Terms>
     edition.terms(fare.rule)
 }
 
-/// Whether the interior stopovers of a span are not more than the rule of a fare allows.
+/// Whether the interior stopovers of a span are not more than the rule of a fare allows; false where that rule
+/// isn't filed.
 #[tactic(auto, unfolding(fare_rules::specs::Terms::stops_hold))]
-pub(crate) fn stops_hold(edition: &Edition, trip: &Trip, a: usize, b: usize, fare: &FareRec) -> bool
+pub fn stops_hold(edition: &Edition, trip: &Trip, a: usize, b: usize, fare: &FareRec) -> bool
     requires rises { a < b }
     requires ends { b ≤ count trip.now }
-    requires short { b ≤ 16 }
     ensures { result ≡ stops_hold edition.now trip.now a b fare.now }
 {
     match terms_of_fare(edition, fare) {
@@ -29,18 +30,12 @@ pub(crate) fn stops_hold(edition: &Edition, trip: &Trip, a: usize, b: usize, far
     }
 }
 
-/// Whether the interior transfers of a span are not more than the rule of a fare allows.
+/// Whether the interior transfers of a span are not more than the rule of a fare allows; false where that rule
+/// isn't filed.
 #[tactic(auto, unfolding(fare_rules::specs::Terms::transfers_hold))]
-pub(crate) fn transfers_hold(
-    edition: &Edition,
-    trip: &Trip,
-    a: usize,
-    b: usize,
-    fare: &FareRec,
-) -> bool
+pub fn transfers_hold(edition: &Edition, trip: &Trip, a: usize, b: usize, fare: &FareRec) -> bool
     requires rises { a < b }
     requires ends { b ≤ count trip.now }
-    requires short { b ≤ 16 }
     ensures { result ≡ transfers_hold edition.now trip.now a b fare.now }
 {
     match terms_of_fare(edition, fare) {
@@ -51,17 +46,18 @@ pub(crate) fn transfers_hold(
 
 /// The days from the sale day to the day of the trip's first sector.
 fn advance_days(trip: &Trip) -> u32
-    requires { 1 ≤ count trip.now }
     ensures { result ≡ advance_days trip.now }
 {
+    let count = trip.count();
+    prove!(1 <= count);
     let first = trip.sector(1).day;
     first.number().saturating_sub(trip.sale().number())
 }
 
-/// Whether the trip is sold as many days ahead as the rule of a fare asks.
+/// Whether the trip is sold as many days ahead of its first sector as the rule of a fare asks; false where
+/// that rule isn't filed.
 #[tactic(auto, unfolding(fare_rules::specs::Terms::advance_holds))]
-pub(crate) fn advance_holds(edition: &Edition, trip: &Trip, fare: &FareRec) -> bool
-    requires { 1 ≤ count trip.now }
+pub fn advance_holds(edition: &Edition, trip: &Trip, fare: &FareRec) -> bool
     ensures { result ≡ advance_holds edition.now trip.now fare.now }
 {
     match terms_of_fare(edition, fare) {
@@ -70,12 +66,13 @@ pub(crate) fn advance_holds(edition: &Edition, trip: &Trip, fare: &FareRec) -> b
     }
 }
 
-/// Whether the rule of a fare allows a surcharge: one of 0, or any where it allows an excess.
-pub(crate) fn is_allowed(edition: &Edition, fare: &FareRec, step: u32) -> bool
-    ensures { result ≡ term_holds (allows_surcharge step) (terms_of_fare edition.now fare.now) }
+/// Whether the rule of a fare allows a surcharge, where there is one: it allows one of 0, and any where it allows an excess.
+pub(crate) fn is_allowed(edition: &Edition, fare: &FareRec, surcharge: Option<u32>) -> bool
+    ensures { result ≡ is_allowed edition.now fare.now surcharge }
 {
-    match terms_of_fare(edition, fare) {
-        None => false,
-        Some(asked) => step == 0 || asked.excess,
+    match (surcharge, terms_of_fare(edition, fare)) {
+        (None, _) => true,
+        (Some(_), None) => false,
+        (Some(step), Some(asked)) => step == 0 || asked.excess,
     }
 }
