@@ -6,7 +6,6 @@ use Rattle.fare_tariff.specs.Record.{FareRecord}
 use Rattle.fare_tariff.specs.Tariff.{Tariff}
 use Rattle.fare_rules.specs.declared.amount.Amount.{Amount}
 use Rattle.fare_rules.specs.Base.{base}
-use Rattle.fare_rules.specs.Terms.{term_holds, allows_surcharge, terms_of_fare}
 use Rattle.fare_rules.specs.ComponentAmount.{span_surcharge, is_applicable, is_allowed, amount_from, fare_amount}
 use Rattle.fare_component.specs.Usable.{is_for_span, is_usable}
 
@@ -32,5 +31,5 @@ no_surcharge tariff trip a b back fare s =
     ∙ no_choice (is_usable tariff trip a b back fare && is_some {T = ℕ} None && is_allowed tariff fare None) None
 
 -- a usable fare whose mileage asks for a surcharge has an amount where its rule allows that
-pub by_rule : (tariff : Tariff) (trip : Itinerary) (a b : ℕ) (back : Bool) (fare : FareRecord) (step : ℕ) → is_usable tariff trip a b back fare ≡ true → span_surcharge tariff trip a b ≡ Some step → fare_amount tariff trip a b back fare ≡ cond (term_holds (allows_surcharge step) (terms_of_fare tariff fare)) (Some (amount_from (base tariff trip a b fare back) step)) None
+pub by_rule : (tariff : Tariff) (trip : Itinerary) (a b : ℕ) (back : Bool) (fare : FareRecord) (step : ℕ) → is_usable tariff trip a b back fare ≡ true → span_surcharge tariff trip a b ≡ Some step → fare_amount tariff trip a b back fare ≡ cond (is_allowed tariff fare (Some step)) (Some (amount_from (base tariff trip a b fare back) step)) None
 by_rule tariff trip a b back fare step u s = by_tests tariff trip a b back fare true (Some step) u s

@@ -67,7 +67,7 @@ fn allowed_amount(
 }
 
 /// The amount of a fare for a span, where it may be used.
-#[tactic(auto, using(crate::proofs::AmountLemmas::unusable, crate::proofs::AmountLemmas::no_surcharge))]
+#[tactic(auto, using(crate::proofs::AmountLemmas::unusable, crate::proofs::AmountLemmas::no_surcharge, crate::proofs::AmountLemmas::by_rule))]
 fn fare_amount(
     edition: &Edition,
     trip: &Trip,

@@ -12,7 +12,7 @@ use Rattle.fare_rules.specs.Numbers.{numbers, greater, greatest_of}
 use Rattle.fare_rules.specs.Span.{is_stopover}
 use Rattle.fare_rules.specs.Construction.{last_of}
 use Rattle.fare_rules.specs.Circle.{is_own_sector, own_sectors, circle_reference, part_stopovers, greatest_turning, greatest_in_part}
-use Rattle.fare_units.proofs.Ranges.{filter_next, filter_none}
+use Rattle.fare_rules.proofs.NumberLemmas.{filter_next, filter_done}
 
 greater_nothing : (a : Option ℕ) → greater a None ≡ a
 greater_nothing None = refl
@@ -34,7 +34,7 @@ pub stopovers_over : (found : Option ℕ) (amount : ℕ → Option ℕ) (trip : 
 stopovers_over found amount trip first past h stop = rw (filter_next (is_stopover trip) first past h, stop) refl
 
 pub stopovers_all : (found : Option ℕ) (amount : ℕ → Option ℕ) (trip : Itinerary) (first past : ℕ) → past ≤ first → greater found (greatest_of amount (filter (is_stopover trip) (numbers first past))) ≡ found
-stopovers_all found amount trip first past h = rw (filter_none (is_stopover trip) first past h) (greater_nothing found)
+stopovers_all found amount trip first past h = rw (filter_done (is_stopover trip) first past h) (greater_nothing found)
 
 -- the greatest of some points and one more
 pub with_end : (amount : ℕ → Option ℕ) (xs : List ℕ) (x : ℕ) → greatest_of amount (xs ++ x ∷ []) ≡ greater (greatest_of amount xs) (amount x)

@@ -9,7 +9,8 @@ use Rattle.fare_rules.specs.declared.part.Part.{Part}
 use Rattle.fare_rules.specs.Numbers.{numbers}
 use Rattle.fare_rules.specs.Construction.{own, places, first_of, last_of, is_own, unit_of}
 use Rattle.fare_units.specs.Places.{IsPlace, ArePlaces}
-use Rattle.fare_units.proofs.Ranges.{filter_more, filter_over, filter_none}
+use Rattle.fare_rules.proofs.NumberLemmas.{filter_done}
+use Rattle.fare_units.proofs.Ranges.{filter_more, filter_over}
 
 -- a place that belongs to the unit is put to those that were gathered
 pub own_more : (kept : List ℕ) (parts : List Part) (unit first past : ℕ) → first < past → unit_of parts first ≡ unit → (kept ++ first ∷ []) ++ filter (is_own parts unit) (numbers (first + 1) past) ≡ kept ++ filter (is_own parts unit) (numbers first past)
@@ -21,7 +22,7 @@ own_over kept parts unit first past h other = filter_over kept (is_own parts uni
 
 -- at the end none is left
 pub own_all : (kept : List ℕ) (parts : List Part) (unit first past : ℕ) → past ≤ first → kept ++ filter (is_own parts unit) (numbers first past) ≡ kept
-own_all kept parts unit first past h = ap (λ more. kept ++ more) (filter_none (is_own parts unit) first past h) ∙ append-nil kept
+own_all kept parts unit first past h = ap (λ more. kept ++ more) (filter_done (is_own parts unit) first past h) ∙ append-nil kept
 
 -- the last of some places stands at the end
 pub last_at : (own : List ℕ) → last_of own ≡ get_or own (length own - 1) 0

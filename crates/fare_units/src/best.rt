@@ -87,7 +87,7 @@ fn is_fruitless(edition: &Edition, parts: &[Part]) -> bool
 }
 
 /// Whether a part shares its unit with an earlier one, and the fare of one of the two is one way.
-#[tactic(auto, using(crate::proofs::Ranges::any_next, crate::proofs::Ranges::any_none))]
+#[tactic(auto, using(fare_rules::proofs::NumberLemmas::any_next, fare_rules::proofs::NumberLemmas::any_done))]
 fn mixes(edition: &Edition, parts: &[Part], k: usize) -> bool
     ensures { result ≡ mixes edition.now parts.now k }
 {

@@ -5,10 +5,10 @@ ghost use Rattle.fare_rules.specs.Direction.{heads_home, goes_back, priced_back,
 ghost use Rattle.fare_rules.specs.Shape.{lie_together};
 ghost use Rattle.fare_units.specs.Advance.{Advances};
 
+use crate::countries::lie_together;
 use crate::fares::is_hr;
 use crate::own::{last_of, own};
 use crate::places::{end_city, start_city, unit_of};
-use crate::same::lie_together;
 use crate::shape::origin;
 use fare_codes::City;
 use fare_rules::Part;

@@ -1,35 +1,11 @@
-//! Whether two cities, their countries or two carriers are the same.
+//! Whether two cities lie in one country.
 
-ghost use Rattle.std.specs.Prelude.{◌≡◌, bytes_eq};
+ghost use Rattle.std.specs.Prelude.{◌≡◌};
 ghost use Rattle.fare_rules.specs.Indicator.{country};
 ghost use Rattle.fare_rules.specs.Shape.{is_same_country, lie_together};
 
-use fare_codes::{Carrier, City, Country};
-use fare_tariff::Edition;
-
-/// Whether two cities are the same.
-#[tactic(auto, using(crate::proofs::SameLemmas::same_text))]
-pub(crate) fn same_cities(a: City, b: City) -> bool
-    ensures { result ≡ bytes_eq a b }
-{
-    a.is(b)
-}
-
-/// Whether two carriers are the same.
-#[tactic(auto, using(crate::proofs::SameLemmas::same_text))]
-pub(crate) fn same_carriers(a: Carrier, b: Carrier) -> bool
-    ensures { result ≡ bytes_eq a b }
-{
-    a.is(b)
-}
-
-/// Whether two countries are the same.
-#[tactic(auto, using(crate::proofs::SameLemmas::same_text))]
-fn same_countries(a: Country, b: Country) -> bool
-    ensures { result ≡ bytes_eq a b }
-{
-    a.is(b)
-}
+use fare_codes::{City, Country};
+use fare_tariff::{Edition, same_countries};
 
 /// The country of a city.
 fn country(edition: &Edition, city: City) -> Option<Country>
