@@ -17,10 +17,3 @@ greatest_next amount test first past h =
 -- an empty range gives no amount
 pub greatest_none : (amount : ℕ → Option ℕ) (test : ℕ → Bool) (first past : ℕ) → past ≤ first → greatest_of amount (filter test (numbers first past)) ≡ None
 greatest_none amount test first past h = ap (λ l. greatest_of amount (filter test l)) (numbers_none first past h)
-
--- the greater of three amounts, whichever two come first
-pub greater_grouped : (a b c : Option ℕ) → greater (greater a b) c ≡ greater a (greater b c)
-greater_grouped None b c = refl
-greater_grouped (Some a) None c = refl
-greater_grouped (Some a) (Some b) None = refl
-greater_grouped (Some a) (Some b) (Some c) = ap Some (omega arith)
