@@ -13,11 +13,11 @@ is_left_out None k = false
 is_left_out (Some one) k = k == one
 
 -- the points of a part to which references are looked for: its interior stopovers, and its end but where that is left out
-abbrev pub points_but : Itinerary → List Part → Option ℕ → ℕ → List ℕ
-points_but trip parts left_out k =
+abbrev pub points_without : Itinerary → List Part → Option ℕ → ℕ → List ℕ
+points_without trip parts left_out k =
     if is_left_out left_out k then part_stopovers trip parts k else part_points trip parts k
 
 -- the greatest reference to one of them
-abbrev pub greatest_but : Tariff → Itinerary → List Part → List ℕ → Option ℕ → ℕ → Option Nuc
-greatest_but tariff trip parts own left_out k =
-    greatest_of (circle_reference tariff trip parts own k) (points_but trip parts left_out k)
+abbrev pub greatest_without : Tariff → Itinerary → List Part → List ℕ → Option ℕ → ℕ → Option Nuc
+greatest_without tariff trip parts own left_out k =
+    greatest_of (circle_reference tariff trip parts own k) (points_without trip parts left_out k)

@@ -9,7 +9,7 @@ ghost use Rattle.fare_rules.specs.Construction.{own};
 ghost use Rattle.fare_rules.specs.Circle.{holds_sector, is_own_sector, own_sectors, reference_from_origin, circle_reference, unit_circle_minimum, circle_minimum, twice};
 ghost use Rattle.fare_units.specs.Advance.{Advances};
 ghost use Rattle.fare_units.specs.Places.{IsPlace, ArePlaces};
-ghost use Rattle.fare_units.specs.Turning.{is_left_out, greatest_but};
+ghost use Rattle.fare_units.specs.Turning.{is_left_out, greatest_without};
 
 use crate::fares::fare_of;
 use crate::own::{last_of, own};
@@ -187,7 +187,7 @@ fn is_left_out(left_out: Option<usize>, k: usize) -> bool
 }
 
 /// The greatest reference to an interior stopover of a part, or to its end but where that is left out.
-fn greatest_in_part(
+fn greatest_without(
     edition: &Edition,
     trip: &Trip,
     parts: &[Part],
@@ -197,7 +197,7 @@ fn greatest_in_part(
 ) -> Option<Nuc>
     requires advances { Advances trip.now parts.now }
     requires place { IsPlace parts.now k }
-    ensures value { result ≡ greatest_but edition.now trip.now parts.now own.now left_out k }
+    ensures value { result ≡ greatest_without edition.now trip.now parts.now own.now left_out k }
     ensures bound { IfSome result (λ amount. amount < 10 ^ 9) }
 {
     let a = start_of(trip, parts, k);
@@ -219,13 +219,13 @@ fn greatest_in_all(
 ) -> Option<Nuc>
     requires advances { Advances trip.now parts.now }
     requires places { ArePlaces parts.now own.now }
-    ensures value { result ≡ greatest_of (greatest_but edition.now trip.now parts.now own.now left_out) own.now }
+    ensures value { result ≡ greatest_of (greatest_without edition.now trip.now parts.now own.now left_out) own.now }
     ensures bound { IfSome result (λ amount. amount < 10 ^ 9) }
 {
     let mut found = None;
     for i in 0..own.len() {
-        let inside = greatest_in_part(edition, trip, parts, own, left_out, own[i]);
-        found = greater(found, inside);
+        let here = greatest_without(edition, trip, parts, own, left_out, own[i]);
+        found = greater(found, here);
     }
     found
 }
