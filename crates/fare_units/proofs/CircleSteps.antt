@@ -1,17 +1,13 @@
 -- The greatest of the references that are looked at, one point or one part on.
-use Rattle.std.proofs.Common.{◌≡◌, ℕ, ◌+◌, ◌-◌, ◌<◌, ◌≤◌, Bool, true, false, cond, max, List, [], ◌∷◌, ◌++◌, length, get_or, drop, filter, Option, Some, None, All, subst, refl, ap, sym, ◌∙◌, arith, add-one, drop-cons}
+use Rattle.std.proofs.Common.{◌≡◌, ℕ, ◌+◌, ◌-◌, ◌<◌, ◌≤◌, true, false, List, [], ◌∷◌, ◌++◌, length, get_or, drop, filter, Option, Some, None, All, subst, refl, sym, arith, add-one, drop-cons}
 use Rattle.std.proofs.Math.ListN.{drop_of_length-le}
-use Rattle.std.proofs.lemmas.Bool.{eq-eqb, ne_eqb}
 use Rattle.std.proofs.lemmas.List.Elements.{All-filter, All-from_get_or}
 use Rattle.std.proofs.lemmas.List.FromFn.{length-range_with_len, get_or-range_with_len}
-use Rattle.fare_codes.specs.declared.nuc.Nuc.{Nuc}
 use Rattle.fare_trip.specs.Itinerary.{Itinerary, sector}
-use Rattle.fare_tariff.specs.Tariff.{Tariff}
 use Rattle.fare_rules.specs.declared.part.Part.{Part}
 use Rattle.fare_rules.specs.Numbers.{numbers, greater, greatest_of}
 use Rattle.fare_rules.specs.Span.{is_stopover}
-use Rattle.fare_rules.specs.Construction.{last_of}
-use Rattle.fare_rules.specs.Circle.{is_own_sector, own_sectors, circle_reference, part_stopovers, greatest_turning, greatest_in_part}
+use Rattle.fare_rules.specs.Circle.{is_own_sector, own_sectors}
 use Rattle.fare_rules.proofs.NumberLemmas.{filter_next, filter_done, greater_grouped}
 
 greater_nothing : (a : Option ℕ) → greater a None ≡ a
