@@ -1,8 +1,8 @@
 -- What a lawful construction says of the part that comes after its first ones.
-use Rattle.std.proofs.Common.{◌≡◌, ℕ, zero, suc, ◌+◌, ◌-◌, ◌<◌, ◌≤◌, Bool, true, false, not, ◌&&◌, ◌||◌, cond, max, leb, List, [], ◌∷◌, ◌++◌, length, Option, Some, None, is_some, refl, ap, subst, sym, ◌∙◌, inl, inr, arith}
+use Rattle.std.proofs.Common.{◌≡◌, ℕ, zero, suc, ◌+◌, ◌-◌, ◌<◌, ◌≤◌, Bool, true, false, not, ◌||◌, cond, leb, List, [], ◌∷◌, ◌++◌, length, Option, Some, is_some, refl, ap, subst, sym, ◌∙◌, arith}
 use Rattle.std.specs.List.{range_with_len, list_any}
-use Rattle.std.proofs.lemmas.List.{append_assoc, append-nil}
-use Rattle.std.proofs.lemmas.Bool.{cases_Bool, eqb-false, ltb-false, or_cases, and_left, and_right}
+use Rattle.std.proofs.lemmas.List.{append_assoc}
+use Rattle.std.proofs.lemmas.Bool.{eqb-false, ltb-false}
 use Rattle.std.proofs.Math.ListN.{get_or-append, length-append}
 use Rattle.std.proofs.Math.Seq.{get_or-append_seam}
 use Rattle.fare_trip.specs.Itinerary.{Itinerary, count}
@@ -12,12 +12,12 @@ use Rattle.fare_tariff.specs.Lookup.{fare_at}
 use Rattle.fare_rules.specs.declared.part.Part.{Part}
 use Rattle.fare_rules.specs.Numbers.{numbers}
 use Rattle.fare_rules.specs.ComponentAmount.{component_amount}
-use Rattle.fare_rules.specs.Construction.{part_at, no_part, end_of, unit_of, begin_after, start_of, places, fare_of, greatest_unit, is_misnumbered, misnumbered, uncovered}
+use Rattle.fare_rules.specs.Construction.{part_at, no_part, end_of, unit_of, begin_after, start_of, places, fare_of, greatest_unit, is_misnumbered, misnumbered}
 use Rattle.fare_rules.specs.Direction.{is_back}
 use Rattle.fare_rules.specs.Shape.{is_one_way, is_ow, is_same_unit, is_begun_before, is_straddled, is_crossed, crossed}
 use Rattle.fare_rules.specs.Best.{IsLawful}
 use Rattle.fare_rules.proofs.NumberLemmas.{find_none}
-use Rattle.fare_rules.proofs.CoverLemmas.{IsCover, cover, both_false, begins_later, cover_is_whole}
+use Rattle.fare_rules.proofs.CoverLemmas.{IsCover, cover, both_false}
 use Rattle.fare_rules.proofs.LawfulLemmas.{IsKept, kept}
 use Rattle.fare_rules.proofs.AmountLemmas.{fare_is_filed, amount_of_lawful}
 use Rattle.fare_units.proofs.AloneLemmas.{unmixed}

@@ -1,8 +1,8 @@
 -- What a walk over constructions has seen, and what its best is worth.
-use Rattle.std.specs.Prelude.{◌≡◌, ℕ, ◌+◌, ◌<◌, ◌≤◌, Bool, true, false, ◌⊎◌, List, [], ◌∷◌, ◌++◌, length, Option, Some, None, is_some, ◌&&◌, ◌||◌}
+use Rattle.std.specs.Prelude.{◌≡◌, ℕ, ◌+◌, ◌<◌, ◌≤◌, Bool, true, false, ◌⊎◌, List, ◌∷◌, ◌++◌, length, Option, Some, None, is_some, ◌&&◌, ◌||◌}
 use Rattle.std.specs.List.{list_any}
 use Rattle.fare_rules.specs.Numbers.{numbers}
-use Rattle.fare_trip.specs.Itinerary.{Itinerary, count}
+use Rattle.fare_trip.specs.Itinerary.{Itinerary}
 use Rattle.fare_tariff.specs.Tariff.{Tariff}
 use Rattle.fare_rules.specs.declared.part.Part.{Part}
 use Rattle.fare_rules.specs.Best.{IsLawful}
