@@ -1,0 +1,17 @@
+//! The calculation line of a construction: what a line is, the one text of each, and the reader of that text.
+//! A contract sees a line as its first city, its flown sectors, its parts and plus-ups, its total and its rate.
+#![tactic(auto)]
+
+mod flown;
+mod letter;
+mod line;
+mod plus_up;
+mod priced_part;
+mod printing;
+
+pub use flown::LineSector;
+pub use letter::Letter;
+pub use line::Line;
+pub use plus_up::PlusUp;
+pub use priced_part::LinePart;
+pub use printing::print_line;
