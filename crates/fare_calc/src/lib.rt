@@ -5,6 +5,7 @@
 mod flown;
 mod letter;
 mod line;
+mod part_sheet;
 mod plus_up;
 mod priced_part;
 mod printing;

@@ -71,7 +71,7 @@ pub(crate) fn is_back_in(
 }
 
 /// Whether a part is priced back in its unit.
-pub(crate) fn is_back(edition: &Edition, trip: &Trip, parts: &[Part], k: usize) -> bool
+pub fn is_back(edition: &Edition, trip: &Trip, parts: &[Part], k: usize) -> bool
     requires few { length parts.now ≤ 16 }
     requires advances { Advances trip.now parts.now }
     ensures { result ≡ is_back edition.now trip.now parts.now k }
