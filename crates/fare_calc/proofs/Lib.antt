@@ -1,2 +1,4 @@
 pub mod PartLemmas
 mod WorkedAnswers
+pub mod SheetLemmas
+pub mod RangeTexts

@@ -33,7 +33,7 @@ use Rattle.fare_rules.proofs.Trips.{straight_to_rome, stopping_in_paris, changin
 use Rattle.fare_calc.specs.PartSheets.{sheet_with}
 use Rattle.fare_calc.specs.LineOf.{line_of}
 use Rattle.fare_calc.specs.LineText.{parts_text, line_text}
-use Rattle.fare_calc.specs.Worksheet.{part_lines, part_lines_of, unit_line, currency_lines, worksheet_text}
+use Rattle.fare_calc.specs.Worksheet.{miles_text, part_lines, part_lines_of, unit_line, currency_lines, worksheet_text}
 use Rattle.fare_calc.specs.Answer.{answer_text}
 
 -- record 6 is a one way fare from London to Rome
@@ -108,7 +108,7 @@ lines =
 
 -- each has that line
 pub worked_lines : map line_found lines ≡ map expected lines
-unfolding digits greatest_reference backhaul compared_pairs base higher own_sectors circle_reference unit_circle_minimum repeats_city runs_between has_indicator covers_cabins covers_carriers in_season span_surcharge is_applicable fare_amount component_amount own is_back_in indicator_of surcharge sum_of_miles compared_miles mileage reference is_hr closes is_open_jaw stops_hold transfers_hold advance_holds part_amount unit_sum is_round_trip unit_kind unit_minimum unit_sheet price day_number season_holds days_of_months days_since_1970 surcharged tenths converted last_digits decimal_text sheet_with line_of parts_text line_text part_lines unit_line currency_lines worksheet_text answer_text
+unfolding digits greatest_reference backhaul compared_pairs base higher own_sectors circle_reference unit_circle_minimum repeats_city runs_between has_indicator covers_cabins covers_carriers in_season span_surcharge is_applicable fare_amount component_amount own is_back_in indicator_of surcharge sum_of_miles compared_miles mileage reference is_hr closes is_open_jaw stops_hold transfers_hold advance_holds part_amount unit_sum is_round_trip unit_kind unit_minimum unit_sheet price day_number season_holds days_of_months days_since_1970 surcharged tenths converted last_digits decimal_text sheet_with line_of parts_text line_text miles_text part_lines unit_line currency_lines worksheet_text answer_text
 worked_lines = refl
 
 -- constructions with their answers
@@ -127,7 +127,7 @@ answers =
 
 -- each has that answer
 pub worked_answers : map answer_found answers ≡ map expected answers
-unfolding digits greatest_reference backhaul compared_pairs base higher own_sectors circle_reference unit_circle_minimum repeats_city runs_between has_indicator covers_cabins covers_carriers in_season span_surcharge is_applicable fare_amount component_amount own is_back_in indicator_of surcharge sum_of_miles compared_miles mileage reference is_hr closes is_open_jaw stops_hold transfers_hold advance_holds part_amount unit_sum is_round_trip unit_kind unit_minimum unit_sheet price day_number season_holds days_of_months days_since_1970 surcharged tenths converted last_digits decimal_text sheet_with line_of parts_text line_text part_lines unit_line currency_lines worksheet_text answer_text
+unfolding digits greatest_reference backhaul compared_pairs base higher own_sectors circle_reference unit_circle_minimum repeats_city runs_between has_indicator covers_cabins covers_carriers in_season span_surcharge is_applicable fare_amount component_amount own is_back_in indicator_of surcharge sum_of_miles compared_miles mileage reference is_hr closes is_open_jaw stops_hold transfers_hold advance_holds part_amount unit_sum is_round_trip unit_kind unit_minimum unit_sheet price day_number season_holds days_of_months days_since_1970 surcharged tenths converted last_digits decimal_text sheet_with line_of parts_text line_text miles_text part_lines unit_line currency_lines worksheet_text answer_text
 worked_answers = refl
 
 -- a part with an allowance, and one whose allowance is more than its miles
@@ -138,5 +138,5 @@ pub lines_of_allowances :
     ≡ (codes "PART 1 LON-ROM UNIT 1 OUT\nFARE 8 YYYOW 400.00\nMILES TPM 1051 EMA 60 NET 991 MPM 1000 M\nHIP NONE\nAF 400.00\n"
     ∷ codes "PART 1 LON-ROM UNIT 1 OUT\nFARE 8 YYYOW 400.00\nMILES TPM 1051 EMA 2000 NET 0 MPM 1000 M\nHIP NONE\nAF 400.00\n"
     ∷ [])
-unfolding digits greatest_reference backhaul compared_pairs base higher own_sectors circle_reference unit_circle_minimum repeats_city runs_between has_indicator covers_cabins covers_carriers in_season span_surcharge is_applicable fare_amount component_amount own is_back_in indicator_of surcharge sum_of_miles compared_miles mileage reference is_hr closes is_open_jaw stops_hold transfers_hold advance_holds part_amount unit_sum is_round_trip unit_kind unit_minimum unit_sheet price day_number season_holds days_of_months days_since_1970 surcharged tenths converted last_digits decimal_text sheet_with line_of parts_text line_text part_lines unit_line currency_lines worksheet_text answer_text
+unfolding digits greatest_reference backhaul compared_pairs base higher own_sectors circle_reference unit_circle_minimum repeats_city runs_between has_indicator covers_cabins covers_carriers in_season span_surcharge is_applicable fare_amount component_amount own is_back_in indicator_of surcharge sum_of_miles compared_miles mileage reference is_hr closes is_open_jaw stops_hold transfers_hold advance_holds part_amount unit_sum is_round_trip unit_kind unit_minimum unit_sheet price day_number season_holds days_of_months days_since_1970 surcharged tenths converted last_digits decimal_text sheet_with line_of parts_text line_text miles_text part_lines unit_line currency_lines worksheet_text answer_text
 lines_of_allowances = refl

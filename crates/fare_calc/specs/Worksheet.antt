@@ -42,11 +42,15 @@ fare_line number fare =
     codes "FARE " ++ decimal number ++ codes " " ++ tag_text fare.carrier fare.class fare.kind fare.rule ++ codes " "
     ++ nuc_text fare.amount ++ codes "\n"
 
--- miles as the ticketed sum, the allowance, the net, what is permitted, and the letter
-abbrev pub measured_line : Miles → List ℕ → List ℕ
-measured_line miles letter =
+-- miles as the ticketed sum, the allowance, the net and what is permitted
+unfoldable pub miles_text : Miles → List ℕ
+miles_text miles =
     codes "MILES TPM " ++ decimal miles.sum ++ codes " EMA " ++ decimal miles.allowance ++ codes " NET " ++ decimal miles.net
-    ++ codes " MPM " ++ decimal miles.mpm ++ codes " " ++ letter ++ codes "\n"
+    ++ codes " MPM " ++ decimal miles.mpm
+
+-- the line of miles with a letter
+abbrev pub measured_line : Miles → List ℕ → List ℕ
+measured_line miles letter = miles_text miles ++ codes " " ++ letter ++ codes "\n"
 
 -- the line of a mileage: a part of one sector is direct; one that lets no fare be used has no line
 abbrev pub miles_line : Mileage → List ℕ

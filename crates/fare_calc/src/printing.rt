@@ -50,7 +50,7 @@ fn push_sector(text: &mut Vec<u8>, sector: &LineSector) -> Result<(), NoMemory>
 }
 
 /// Appends the letter of a mark.
-fn push_letter(text: &mut Vec<u8>, letter: Letter) -> Result<(), NoMemory>
+pub(crate) fn push_letter(text: &mut Vec<u8>, letter: Letter) -> Result<(), NoMemory>
     ensures { OnOk result (text.new.items ≡ text.old.items ++ letter_text letter) }
 {
     match letter {
@@ -112,7 +112,7 @@ fn push_tag(text: &mut Vec<u8>, part: &LinePart) -> Result<(), NoMemory>
 }
 
 /// Appends the rule of a tag.
-fn push_rule(text: &mut Vec<u8>, rule: Option<RuleId>) -> Result<(), NoMemory>
+pub(crate) fn push_rule(text: &mut Vec<u8>, rule: Option<RuleId>) -> Result<(), NoMemory>
     ensures { OnOk result (text.new.items ≡ text.old.items ++ rule_text rule) }
 {
     match rule {
