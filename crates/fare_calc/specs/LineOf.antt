@@ -1,5 +1,5 @@
 -- The line of a construction.
-use Rattle.std.specs.Prelude.{ℕ, ◌+◌, ◌-◌, Bool, not, List, Option, Some, None, map, filter, filter_map, option_map, ◌==◌, ◌&&◌, nat_lt, if◌then◌else◌}
+use Rattle.std.specs.Prelude.{◌≡◌, ℕ, ◌+◌, ◌-◌, true, not, List, Option, Some, None, filter_map, option_map, ◌==◌, ◌&&◌, nat_lt, if◌then◌else◌}
 use Rattle.fare_codes.specs.declared.city.City.{City}
 use Rattle.fare_codes.specs.declared.nuc.Nuc.{Nuc}
 use Rattle.fare_trip.specs.Itinerary.{Itinerary, count, point, sector}
@@ -19,12 +19,8 @@ use Rattle.fare_calc.specs.declared.flown.LineSector.{LineSector}
 use Rattle.fare_calc.specs.declared.part_sheet.PartSheet.{PartSheet}
 use Rattle.fare_calc.specs.declared.plus_up.PlusUp.{PlusUp}
 use Rattle.fare_calc.specs.declared.priced_part.LinePart.{LinePart}
-use Rattle.fare_calc.specs.Line.{CalculationLine}
+use Rattle.fare_calc.specs.Line.{CalculationLine, is_letter, is_unit}
 use Rattle.fare_calc.specs.PartSheets.{sheet_of_part, home_currency}
-
--- a sector is flown where it is no surface sector
-abbrev pub is_in_air : Itinerary → ℕ → Bool
-is_in_air trip number = not (is_surface trip number)
 
 -- a flown sector is marked where it reaches a transfer that isn't the last point
 abbrev pub flown_sector : Itinerary → ℕ → LineSector
@@ -34,9 +30,13 @@ flown_sector trip number = record {
   to = (sector trip number).to;
 }
 
+-- the sector of a line for a sector of the trip, where that is no surface sector
+abbrev pub flown_of : Itinerary → ℕ → Option LineSector
+flown_of trip number = if is_surface trip number then None else Some (flown_sector trip number)
+
 -- the flown sectors of a trip from a number on
 abbrev pub flown_from : Itinerary → ℕ → List LineSector
-flown_from trip first = map (flown_sector trip) (filter (is_in_air trip) (numbers first (count trip + 1)))
+flown_from trip first = filter_map (flown_of trip) (numbers first (count trip + 1))
 
 -- a part of one sector has no letter, and each other one that of its surcharge
 abbrev pub letter_of : Mileage → Letter
@@ -95,3 +95,10 @@ line_of tariff trip parts = record {
   total = price tariff trip parts;
   roe = rate_of (home_currency tariff trip);
 }
+
+-- what a line asks of the sheet of a part: its letter is that of a surcharge, a part without a letter has no higher
+-- intermediate point, and its unit is one of a line
+pub record FitsLine (sheet : PartSheet) : Type 0 where
+  pub letter : is_letter (letter_of sheet.mileage) ≡ true
+  pub pair : letter_of sheet.mileage ≡ Bare → sheet.higher ≡ None
+  pub unit : is_unit sheet.unit ≡ true

@@ -2,7 +2,10 @@
 //! A contract sees a line as its first city, its flown sectors, its parts and plus-ups, its total and its rate.
 #![tactic(auto)]
 
+mod answers;
+mod composing;
 mod flown;
+mod forms;
 mod letter;
 mod line;
 mod part_sheet;
@@ -17,6 +20,8 @@ mod totals_of;
 mod unit_text;
 mod worksheets;
 
+pub use answers::answer_text;
+pub use composing::line_of;
 pub use flown::LineSector;
 pub use letter::Letter;
 pub use line::Line;

@@ -1,6 +1,6 @@
 //! How a part of a construction is priced.
 
-ghost use Rattle.std.specs.Prelude.{◌≡◌, ◌<◌, ◌≤◌, length, option_map};
+ghost use Rattle.std.specs.Prelude.{◌≡◌, ◌<◌, ◌≤◌, IfSome, length, option_map};
 ghost use Rattle.fare_trip.specs.Itinerary.{count};
 ghost use Rattle.fare_rules.specs.Base.{higher};
 ghost use Rattle.fare_rules.specs.ComponentAmount.{component_amount};
@@ -137,6 +137,7 @@ pub(crate) fn sheet_of_part(
     requires advances { Advances trip.now parts.now }
     requires place { IsPlace parts.now k }
     ensures value { result ≡ sheet_of_part edition.now trip.now parts.now k }
+    ensures bound { IfSome result (λ sheet. sheet.amount ≤ 1_250_000_000) }
 {
     match edition.fare_at(part_at(parts, k).fare) {
         None => None,
