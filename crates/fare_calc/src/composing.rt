@@ -13,6 +13,7 @@ ghost use Rattle.fare_calc.specs.Line.{are_parts, is_flown, is_led, is_plus, is_
 ghost use Rattle.fare_calc.specs.LineOf.{FitsLine, cities_of, flown_from, flown_of, flown_sector, letter_of, line_of, line_part, line_part_of, plus_up_by, plus_up_of, rate_of};
 ghost use Rattle.fare_calc.specs.PartSheets.{sheet_of_part};
 
+use crate::cost::{home_currency, price_of};
 use crate::flown::LineSector;
 use crate::forms::{carrier_has_form, city_has_form, gap_has_form, pair_has_form, rule_has_form};
 use crate::letter::Letter;
@@ -21,7 +22,6 @@ use crate::part_sheet::PartSheet;
 use crate::part_sheets::sheet_of_part;
 use crate::plus_up::PlusUp;
 use crate::priced_part::LinePart;
-use crate::totals_of::{home_currency, price_of};
 use arrayvec::ArrayVec;
 use fare_codes::{City, Nuc};
 use fare_mileage::Mileage;

@@ -1,9 +1,12 @@
 //! The calculation line of a construction: what a line is, the one text of each, and the reader of that text.
 //! A contract sees a line as its first city, its flown sectors, its parts and plus-ups, its total and its rate.
+//!
+//! Of a lawful construction: its line, its worksheet, and the text that answers a quotation with both.
 #![tactic(auto)]
 
 mod answers;
 mod composing;
+mod cost;
 mod flown;
 mod forms;
 mod letter;
@@ -16,7 +19,6 @@ mod priced_part;
 mod printing;
 mod pushing;
 mod total_text;
-mod totals_of;
 mod unit_text;
 mod worksheets;
 

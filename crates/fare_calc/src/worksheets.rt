@@ -8,10 +8,10 @@ ghost use Rattle.fare_units.specs.Advance.{Advances};
 ghost use Rattle.fare_units.specs.Places.{IsPlace};
 ghost use Rattle.fare_calc.specs.Worksheet.{part_lines_of, unit_line_of, worksheet_text};
 
+use crate::cost::{home_currency, price_of};
 use crate::part_sheets::sheet_of_part;
 use crate::part_text::push_part;
 use crate::total_text::push_total;
-use crate::totals_of::{home_currency, price_of};
 use crate::unit_text::push_unit_line;
 use fare_outside::NoMemory;
 use fare_tariff::Edition;
