@@ -65,7 +65,7 @@ struct PartCase {
 }
 
 /// The construction of some parts.
-fn construction(rt: &impl Abort, parts: &[(u8, u8, u32)]) -> Construction {
+pub(super) fn construction(rt: &impl Abort, parts: &[(u8, u8, u32)]) -> Construction {
     let mut made = Construction::new();
     for (end, unit, fare) in parts {
         let part = Part {
