@@ -1,3 +1,2 @@
-pub mod Conditions
+pub mod AmountLemmas
 pub mod Counts
-pub mod SameText

@@ -1,56 +1,18 @@
+//! What a fare costs for a span.
+
 ghost use Rattle.std.specs.Prelude.{◌≡◌, ◌<◌, ◌≤◌, ◌^◌, IfSome, if◌then◌else◌};
 ghost use Rattle.fare_trip.specs.Itinerary.{count};
 ghost use Rattle.fare_rules.specs.Base.{base};
-ghost use Rattle.fare_rules.specs.ComponentAmount.{span_surcharge, amount_from, fare_amount, component_amount};
-ghost use Rattle.fare_rules.specs.Mileage.{surcharge_of};
-ghost use Rattle.fare_rules.specs.Terms.{term_holds, allows_surcharge, terms_of_fare};
-ghost use Rattle.fare_component.specs.Usable.{IsAmount, is_usable};
+ghost use Rattle.fare_rules.specs.ComponentAmount.{is_allowed, amount_from, fare_amount, component_amount};
+ghost use Rattle.fare_component.specs.Usable.{IsAmount};
 
-use crate::fares::is_for_span;
-use crate::terms::{advance_holds, is_allowed, stops_hold, transfers_hold};
+use crate::conditions::{is_allowed, span_surcharge};
+use crate::usable::is_usable;
 use fare_codes::{Nuc, surcharged};
-use fare_mileage::{Mileage, mileage};
-use fare_points::{higher, indicator};
+use fare_points::higher;
 use fare_rules::Amount;
 use fare_tariff::{Edition, FareRec};
 use fare_trip::Trip;
-
-/// Whether a fare may be used for a span, whatever its mileage.
-#[tactic(auto, unfolding(crate::specs::Usable::is_usable))]
-fn is_usable(edition: &Edition, trip: &Trip, a: usize, b: usize, back: bool, fare: &FareRec) -> bool
-    requires rises { a < b }
-    requires ends { b ≤ count trip.now }
-    requires short { b ≤ 16 }
-    ensures { result ≡ is_usable edition.now trip.now a b back fare.now }
-{
-    is_for_span(edition, trip, a, b, back, fare)
-        && stops_hold(edition, trip, a, b, fare)
-        && transfers_hold(edition, trip, a, b, fare)
-        && advance_holds(edition, trip, fare)
-}
-
-/// The surcharge that a mileage asks for, where it lets a fare be used.
-fn surcharge_of(mileage: Mileage) -> Option<u32>
-    ensures { result ≡ surcharge_of mileage }
-{
-    match mileage {
-        Mileage::Direct | Mileage::Within(_) => Some(0),
-        Mileage::Excess(step, _) => Some(step),
-        Mileage::NoTpm(_) | Mileage::NoMpm | Mileage::Over(_) => None,
-    }
-}
-
-/// The surcharge that the mileage of a span asks for, where it lets a fare be used.
-#[tactic(auto, unfolding(fare_rules::specs::ComponentAmount::span_surcharge))]
-fn span_surcharge(edition: &Edition, trip: &Trip, a: usize, b: usize) -> Option<u32>
-    requires rises { a < b }
-    requires ends { b ≤ count trip.now }
-    ensures value { result ≡ span_surcharge edition.now trip.now a b }
-    ensures bound { IfSome result (λ step. step ≤ 25) }
-{
-    let ind = indicator(edition, trip, a, b);
-    surcharge_of(mileage(edition, trip, a, b, ind))
-}
 
 /// The base of a fare for a span: its amount, or that of a higher intermediate point.
 fn base(edition: &Edition, trip: &Trip, a: usize, b: usize, fare: &FareRec, back: bool) -> Nuc
@@ -93,10 +55,10 @@ fn allowed_amount(
     requires rises { a < b }
     requires ends { b ≤ count trip.now }
     requires step { step ≤ 25 }
-    ensures value { result ≡ (if term_holds (allows_surcharge step) (terms_of_fare edition.now fare.now) then Some (amount_from (base edition.now trip.now a b fare.now back) step) else None) }
+    ensures value { result ≡ (if is_allowed edition.now fare.now (Some step) then Some (amount_from (base edition.now trip.now a b fare.now back) step) else None) }
     ensures bound { IfSome result IsAmount }
 {
-    if is_allowed(edition, fare, step) {
+    if is_allowed(edition, fare, Some(step)) {
         let base_amount = base(edition, trip, a, b, fare, back);
         Some(amount_from(base_amount, step))
     } else {
@@ -105,7 +67,7 @@ fn allowed_amount(
 }
 
 /// The amount of a fare for a span, where it may be used.
-#[tactic(auto, using(crate::proofs::Conditions::unusable, crate::proofs::Conditions::no_surcharge))]
+#[tactic(auto, using(crate::proofs::AmountLemmas::unusable, crate::proofs::AmountLemmas::no_surcharge, crate::proofs::AmountLemmas::by_rule))]
 fn fare_amount(
     edition: &Edition,
     trip: &Trip,
@@ -116,7 +78,6 @@ fn fare_amount(
 ) -> Option<Amount>
     requires rises { a < b }
     requires ends { b ≤ count trip.now }
-    requires short { b ≤ 16 }
     ensures value { result ≡ fare_amount edition.now trip.now a b back fare.now }
     ensures bound { IfSome result IsAmount }
 {
@@ -145,8 +106,6 @@ pub fn applicable(
     ensures value { result ≡ component_amount edition.now trip.now a b number back }
     ensures bound { IfSome result IsAmount }
 {
-    let count = trip.count();
-    prove!(b <= count);
     match edition.fare_at(number) {
         None => None,
         Some(fare) => fare_amount(edition, trip, a, b, back, fare),

@@ -1,5 +1,5 @@
 -- Ranges of numbers, one number on.
-use Rattle.std.proofs.Common.{◌≡◌, ℕ, ◌+◌, ◌<◌, ◌≤◌, Bool, true, false, cond, List, ◌∷◌, Option, Some, None, filter, refl, ap, ◌∙◌, arith}
+use Rattle.std.proofs.Common.{◌≡◌, ℕ, ◌+◌, ◌<◌, ◌≤◌, Bool, true, false, cond, List, ◌∷◌, Option, None, filter, refl, ap, ◌∙◌}
 use Rattle.fare_rules.proofs.NumberLemmas.{numbers_next, numbers_none}
 use Rattle.fare_rules.specs.Numbers.{numbers, greater, greatest_of}
 
@@ -17,10 +17,3 @@ greatest_next amount test first past h =
 -- an empty range gives no amount
 pub greatest_none : (amount : ℕ → Option ℕ) (test : ℕ → Bool) (first past : ℕ) → past ≤ first → greatest_of amount (filter test (numbers first past)) ≡ None
 greatest_none amount test first past h = ap (λ l. greatest_of amount (filter test l)) (numbers_none first past h)
-
--- the greater of three amounts, whichever two come first
-pub greater_grouped : (a b c : Option ℕ) → greater (greater a b) c ≡ greater a (greater b c)
-greater_grouped None b c = refl
-greater_grouped (Some a) None c = refl
-greater_grouped (Some a) (Some b) None = refl
-greater_grouped (Some a) (Some b) (Some c) = ap Some (omega arith)

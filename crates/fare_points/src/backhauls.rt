@@ -68,7 +68,7 @@ fn greater_of(a: Nuc, b: Nuc) -> Nuc
 }
 
 /// The greatest reference from the start of a component to an interior stopover.
-#[tactic(auto, using(crate::proofs::Ranges::greatest_next, crate::proofs::Ranges::greatest_none, crate::proofs::Ranges::greater_grouped), unfolding(fare_rules::specs::Backhaul::greatest_reference))]
+#[tactic(auto, using(crate::proofs::Ranges::greatest_next, crate::proofs::Ranges::greatest_none, fare_rules::proofs::NumberLemmas::greater_grouped), unfolding(fare_rules::specs::Backhaul::greatest_reference))]
 fn greatest_reference(
     edition: &Edition,
     trip: &Trip,

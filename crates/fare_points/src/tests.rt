@@ -1,4 +1,5 @@
-//! Each public call on a trip from LON by way of PAR to ROM, where the fare to PAR is above that to ROM.
+//! Each public call on a trip from LON by way of PAR to ROM, where the fare to PAR is above that to ROM, and the indicators
+//! of a trip over both oceans.
 
 use crate::{backhaul, every_carrier, higher, indicator, indicator_of, placed, reference};
 use fare_codes::{
@@ -33,11 +34,11 @@ fn currency(rt: &impl Abort, of: &[u8]) -> Record {
     })
 }
 
-fn town(rt: &impl Abort, code: &[u8], of: &[u8]) -> Record {
+fn town(rt: &impl Abort, code: &[u8], of: &[u8], area: Area) -> Record {
     Record::City(CityRec {
         code: city(rt, code),
         country: country(rt, of),
-        area: Area::Two,
+        area,
     })
 }
 
@@ -62,7 +63,7 @@ fn edition(rt: &(impl AllocGlobal + Abort + Threads + Sync)) -> Result<Edition, 
         records.push(currency(rt, of))?;
     }
     for (code, of) in [(b"LON", b"GB"), (b"PAR", b"FR"), (b"ROM", b"IT")] {
-        records.push(town(rt, code, of))?;
+        records.push(town(rt, code, of, Area::Two))?;
     }
     for (from, to, amount) in [
         (b"LON", b"ROM", 400),
@@ -70,6 +71,23 @@ fn edition(rt: &(impl AllocGlobal + Abort + Threads + Sync)) -> Result<Edition, 
         (b"PAR", b"ROM", 200),
     ] {
         records.push(fare(rt, from, to, amount))?;
+    }
+    let effective = day(rt, b"2025-01-01");
+    Ok(Edition::check(rt, rt.alloc(), 1, effective, records)?)
+}
+
+/// A tariff whose cities lie in all three areas.
+fn oceans(rt: &(impl AllocGlobal + Abort + Threads + Sync)) -> Result<Edition, Fail> {
+    let mut records = Vec::new(rt.alloc());
+    for of in [b"GB", b"JP", b"US"] {
+        records.push(currency(rt, of))?;
+    }
+    for (code, of, area) in [
+        (b"LON", b"GB", Area::Two),
+        (b"TYO", b"JP", Area::Three),
+        (b"LAX", b"US", Area::One),
+    ] {
+        records.push(town(rt, code, of, area))?;
     }
     let effective = day(rt, b"2025-01-01");
     Ok(Edition::check(rt, rt.alloc(), 1, effective, records)?)
@@ -97,6 +115,17 @@ fn trip(rt: &impl Abort, stop: bool) -> Result<Trip, Fail> {
     Ok(Trip::new(sale, city(rt, b"LON"), &sectors)?)
 }
 
+/// London, Tokyo, Los Angeles and London again.
+fn round_both_oceans(rt: &impl Abort) -> Result<Trip, Fail> {
+    let sectors = [
+        sector(rt, b"TYO", b"2025-04-10", true),
+        sector(rt, b"LAX", b"2025-04-20", true),
+        sector(rt, b"LON", b"2025-04-25", true),
+    ];
+    let sale = day(rt, b"2025-03-01");
+    Ok(Trip::new(sale, city(rt, b"LON"), &sectors)?)
+}
+
 #[test]
 fn places_and_indicators(rt: HostRuntime) -> Result<(), Fail> {
     let edition = edition(&rt)?;
@@ -105,6 +134,18 @@ fn places_and_indicators(rt: HostRuntime) -> Result<(), Fail> {
     assert!(rt; placed(&edition, &trip).is_none());
     assert!(rt; indicator(&edition, &trip, 0, 2) == Indicator::EH);
     assert!(rt; indicator_of(&edition, &trip, &[1, 2]) == Indicator::EH);
+    Ok(())
+}
+
+#[test]
+fn indicators_of_sectors_apart(rt: HostRuntime) -> Result<(), Fail> {
+    let edition = oceans(&rt)?;
+    let trip = round_both_oceans(&rt)?;
+    assert!(rt; trip.count() == 3);
+    assert!(rt; indicator_of(&edition, &trip, &[1]) == Indicator::EH);
+    assert!(rt; indicator_of(&edition, &trip, &[1, 2]) == Indicator::PA);
+    assert!(rt; indicator_of(&edition, &trip, &[1, 3]) == Indicator::AT);
+    assert!(rt; indicator_of(&edition, &trip, &[3, 2]) == Indicator::AP);
     Ok(())
 }
 

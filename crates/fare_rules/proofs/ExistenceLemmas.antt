@@ -75,7 +75,7 @@ greatest_more parts (x ∷ xs) y =
     let more : greatest_unit parts (xs ++ y ∷ []) ≤ max (greatest_unit parts xs) (unit_of parts y) = greatest_more parts xs y in
     omega arith
 
-units_numbered : (parts : List Part) → misnumbered parts ≡ None → (k : ℕ) → 1 ≤ k → k ≤ length parts → (1 ≤ unit_of parts k) × (unit_of parts k ≤ greatest_unit parts (numbers 1 k) + 1)
+pub units_numbered : (parts : List Part) → misnumbered parts ≡ None → (k : ℕ) → 1 ≤ k → k ≤ length parts → (1 ≤ unit_of parts k) × (unit_of parts k ≤ greatest_unit parts (numbers 1 k) + 1)
 unfolding misnumbered
 units_numbered parts e k low high =
     let fails = find_none (is_misnumbered parts) 1 (length parts + 1) e k low (omega arith) in
@@ -83,7 +83,7 @@ units_numbered parts e k low high =
     let some : unit_of parts k ≡ 0 → ⊥ = eqb-false (unit_of parts k) 0 both.0 in
     (omega arith, ltb-false (greatest_unit parts (numbers 1 k) + 1) (unit_of parts k) both.1)
 
-greatest_up_to_place : (parts : List Part) → misnumbered parts ≡ None → (n : ℕ) → n ≤ length parts → greatest_unit parts (range_with_len 1 n) ≤ n
+pub greatest_up_to_place : (parts : List Part) → misnumbered parts ≡ None → (n : ℕ) → n ≤ length parts → greatest_unit parts (range_with_len 1 n) ≤ n
 greatest_up_to_place parts e zero high = omega arith
 greatest_up_to_place parts e (suc n) high =
     let before : greatest_unit parts (range_with_len 1 n) ≤ n = greatest_up_to_place parts e n (omega arith) in
@@ -94,7 +94,7 @@ greatest_up_to_place parts e (suc n) high =
     let all : greatest_unit parts (range_with_len 1 (suc n)) ≡ greatest_unit parts (range_with_len 1 n ++ (1 + n) ∷ []) = ap (greatest_unit parts) (range_more 1 n) in
     omega arith
 
-unit_up_to_place : (parts : List Part) → misnumbered parts ≡ None → (k : ℕ) → 1 ≤ k → k ≤ length parts → unit_of parts k ≤ k
+pub unit_up_to_place : (parts : List Part) → misnumbered parts ≡ None → (k : ℕ) → 1 ≤ k → k ≤ length parts → unit_of parts k ≤ k
 unit_up_to_place parts e k low high =
     let numbered : unit_of parts k ≤ greatest_unit parts (numbers 1 k) + 1 = (units_numbered parts e k low high).1 in
     let before : greatest_unit parts (numbers 1 k) ≤ k - 1 = greatest_up_to_place parts e (k - 1) (omega arith) in

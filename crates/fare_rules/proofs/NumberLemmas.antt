@@ -69,6 +69,13 @@ greatest_next amount first past h = ap (greatest_of amount) (numbers_next first 
 pub greatest_done : (amount : ℕ → Option ℕ) (first past : ℕ) → past ≤ first → greatest_of amount (numbers first past) ≡ None
 greatest_done amount first past h = ap (greatest_of amount) (numbers_none first past h)
 
+-- the greater of three amounts, whichever two come first
+pub greater_grouped : (a b c : Option ℕ) → greater (greater a b) c ≡ greater a (greater b c)
+greater_grouped None b c = refl
+greater_grouped (Some a) None c = refl
+greater_grouped (Some a) (Some b) None = refl
+greater_grouped (Some a) (Some b) (Some c) = ap Some (omega arith)
+
 some_none : (k : ℕ) → Some k ≡ None → ⊥
 some_none k e = cc
 

@@ -7,6 +7,7 @@ mod one_sector;
 mod order;
 mod price;
 mod reference;
+mod valid;
 
 pub use component::{first_part_is_a_choice, parts_have_amounts};
 pub use free::{free_rule_asks_nothing, whole_year_holds_each_day};
@@ -15,3 +16,4 @@ pub use one_sector::best_of_one_sector;
 pub use order::{best_is_one, order_is_total};
 pub use price::price_is_bounded;
 pub use reference::{circle_minimum_takes_each_end, no_reference_to_itself};
+pub use valid::edition_is_valid;

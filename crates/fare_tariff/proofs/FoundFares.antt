@@ -1,6 +1,7 @@
 -- What is known of the fares that the look-ups of an edition find.
 use Rattle.std.proofs.Common.{◌≡◌, ℕ, ◌+◌, ◌-◌, ◌<◌, ◌≤◌, Bool, true, false, cond, ◌&&◌, ◌||◌, List, [], ◌∷◌, get_or, take, Option, Some, None, IsSome, IsSomeAnd, option_map, option_and_then, is_none, slice_get, position, count_by, bytes_eq, leb, refl, ap, ◌∙◌, arith, rules, zero, suc}
-use Rattle.std.proofs.lemmas.Bool.{le-leb, leb-true, leb-false}
+use Rattle.std.specs.List.{list_all}
+use Rattle.std.proofs.lemmas.Bool.{le-leb, leb-true, leb-false, ltb-true}
 use Rattle.std.proofs.lemmas.Option.{slice_get_within, slice_get-get_or, get_or_from_slice_get}
 use Rattle.std.proofs.lemmas.List.Quantifiers.{position-Some}
 use Rattle.std.proofs.lemmas.List.Sums.{sum_by-append}
@@ -15,7 +16,7 @@ use Rattle.fare_tariff.specs.declared.fare_key.FareKey.{FareKey}
 use Rattle.fare_tariff.specs.Record.{FareRecord}
 use Rattle.fare_tariff.specs.Tariff.{Tariff}
 use Rattle.fare_tariff.specs.Lookup.{first_some, city_in, fare_at, fare_in, fare_number, is_fare_on, is_fare_between, number_at, numbers_from, nth_fare, same_indicator, has_key, terms, terms_of}
-use Rattle.fare_tariff.specs.Check.{first_fault, is_one_unknown, is_unknown_rule}
+use Rattle.fare_tariff.specs.Check.{IsEdition, is_in_form, first_fault, is_one_unknown, is_unknown_rule}
 use Rattle.fare_tariff.specs.Filed.{IsFiledFare, IsFareOn, IsFareBetween}
 use Rattle.fare_tariff.proofs.Validity.{HasNoKind, no_kind_at, place_in_limit}
 use Rattle.fare_tariff.proofs.Found.{some_there, bytes_eq-true, bytes_eq-false}
@@ -48,11 +49,20 @@ rule_known : (tariff : Tariff) (rule : Option RuleId) → is_unknown_rule tariff
 rule_known tariff None h = search rules
 rule_known tariff (Some id) h = some_mapped terms_of _ (some_there _ h)
 
--- a fare without a kind
-fare_facts : (tariff : Tariff) (earlier : List Record) (fare : FareRecord) → HasNoKind tariff.records earlier (filed.Fare fare) → IsFiledFare tariff fare
-fare_facts tariff earlier fare kinds =
+-- what all of a list pass, one of it passes
+passes_at : (test : Record → Bool) (all : List Record) (place : ℕ) (one : Record) → list_all test all ≡ true → slice_get all place ≡ Some one → test one ≡ true
+passes_at test [] place one h there = cc
+passes_at test (x ∷ xs) zero one h there =
+    let same : x ≡ one = cc in
+    rw same at (and_true (test x) (list_all test xs) h).0
+passes_at test (x ∷ xs) (suc place) one h there = passes_at test xs place one (and_true (test x) (list_all test xs) h).1 there
+
+-- a fare in form without a kind
+fare_facts : (tariff : Tariff) (earlier : List Record) (fare : FareRecord) → is_in_form (filed.Fare fare) ≡ true → HasNoKind tariff.records earlier (filed.Fare fare) → IsFiledFare tariff fare
+fare_facts tariff earlier fare form kinds =
     let known = both_known tariff.records fare.from fare.to kinds.known_city in
     record {
+      in_form = ltb-true fare.amount 1_000_000_000 form;
       points_differ = bytes_eq-false _ _ kinds.points_differ;
       from_known = known.0;
       to_known = known.1;
@@ -77,14 +87,15 @@ fare_at-some tariff number fare h =
     (leb-true 2 number p.0, fare_in-some _ fare p.1)
 
 -- the fare of a record number in an edition
-pub filed_fare : (tariff : Tariff) (number : ℕ) (fare : FareRecord) → is_none (first_fault tariff.records) ≡ true → fare_at tariff number ≡ Some fare → IsFiledFare tariff fare × (number ≤ 400_001)
-filed_fare tariff number fare valid h =
+pub filed_fare : (tariff : Tariff) (number : ℕ) (fare : FareRecord) → IsEdition tariff.number tariff.records → fare_at tariff number ≡ Some fare → IsFiledFare tariff fare × (number ≤ 400_001)
+filed_fare tariff number fare edition h =
+    let valid = edition.no_fault in
     let p = fare_at-some tariff number fare h in
     let within = slice_get_within tariff.records (number - 2) (filed.Fare fare) p.1 in
     let kinds = no_kind_at tariff.records (number - 2) (filed.Fare fare) valid within in
     let same = get_or_from_slice_get tariff.records (number - 2) (filed.Fare fare) (filed.Fare fare) p.1 in
     let limit = place_in_limit tariff.records (number - 2) (filed.Fare fare) valid within in
-    (fare_facts tariff _ fare (rw same at kinds), omega (arith, limit, p.0))
+    (fare_facts tariff _ fare (passes_at is_in_form tariff.records (number - 2) (filed.Fare fare) edition.in_form p.1) (rw same at kinds), omega (arith, limit, p.0))
 
 -- the fare at a place of the list is that of its record number
 fare_at-place : (tariff : Tariff) (place : ℕ) (fare : FareRecord) → slice_get tariff.records place ≡ Some (filed.Fare fare) → fare_at tariff (place + 2) ≡ Some fare

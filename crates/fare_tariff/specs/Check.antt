@@ -1,6 +1,6 @@
 -- What makes a list of records no edition: the check kinds of a record, and the fault of the least record.
-use Rattle.std.specs.Prelude.{ℕ, ◌+◌, ◌<◌, ◌≤◌, ◌≡◌, Bool, true, false, List, [], ◌∷◌, length, take, Option, Some, None, is_some, is_none, option_map, position, count_by, Result, Ok, Err, bytes_eq, ◌&&◌, ◌||◌, ◌==◌, nat_le, nat_lt, if◌then◌else◌}
-use Rattle.std.specs.List.{list_any}
+use Rattle.std.specs.Prelude.{ℕ, ◌+◌, ◌<◌, ◌≤◌, ◌≡◌, ◌^◌, Bool, true, false, List, [], ◌∷◌, length, take, Option, Some, None, is_some, is_none, option_map, position, count_by, Result, Ok, Err, bytes_eq, ◌&&◌, ◌||◌, ◌==◌, nat_le, nat_lt, if◌then◌else◌}
+use Rattle.std.specs.List.{list_any, list_all}
 use Rattle.std.specs.Option.{option_or, option_to_list}
 use Rattle.fare_codes.specs.declared.city.City.{City}
 use Rattle.fare_codes.specs.declared.rule_id.RuleId.{RuleId}
@@ -179,8 +179,14 @@ Gives (Err Memory) answer = Unit {0}
 Gives (Err (At number kind)) answer = Err (At number kind) ≡ answer
 Gives (Ok value) answer = Ok value ≡ answer
 
--- an edition's number is 1 to 99,999, and no record of it has a check kind
+-- a fare that a record files is below 10,000,000.00
+abbrev pub is_in_form : Record → Bool
+is_in_form (filed.Fare r) = nat_lt r.amount (10 ^ 9)
+is_in_form _ = true
+
+-- an edition's number is 1 to 99,999, its fares are in form, and no record of it has a check kind
 pub record IsEdition (number : ℕ) (records : List Record) : Type 0 where
   pub number_above_zero : 0 < number
   pub number_in_range : number ≤ 99_999
+  pub in_form : list_all is_in_form records ≡ true
   pub no_fault : is_none (first_fault records) ≡ true

@@ -1,5 +1,5 @@
 -- What holds of the records that an edition's look-ups find, since no record of an edition has a check kind.
-use Rattle.std.specs.Prelude.{◌≡◌, ◌≢◌, ◌≤◌, true, IsSome}
+use Rattle.std.specs.Prelude.{◌≡◌, ◌≢◌, ◌<◌, ◌≤◌, ◌^◌, true, IsSome}
 use Rattle.fare_codes.specs.declared.city.City.{City}
 use Rattle.fare_codes.specs.declared.indicator.Indicator.{Indicator}
 use Rattle.fare_codes.specs.declared.month_day.MonthDay.{MonthDay}
@@ -16,8 +16,9 @@ pub record IsFiledCity (tariff : Tariff) (city : City) (r : CityRec) : Type 0 wh
   pub code : r.code ≡ city
   pub currency : IsSome (currency_of tariff r.country)
 
--- the two cities of a fare differ and are filed, and so is its rule, where it isn't the free rule
+-- a fare is below 10,000,000.00, its two cities differ and are filed, and so is its rule, where it isn't the free rule
 pub record IsFiledFare (tariff : Tariff) (fare : FareRecord) : Type 0 where
+  pub in_form : fare.amount < 10 ^ 9
   pub points_differ : fare.from ≢ fare.to
   pub from_known : IsSome (city_record tariff fare.from)
   pub to_known : IsSome (city_record tariff fare.to)

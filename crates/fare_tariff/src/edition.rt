@@ -1,7 +1,10 @@
-ghost use Rattle.std.specs.Prelude.{◌≡◌, ◌<◌, ◌≤◌, length};
+ghost use Rattle.std.specs.Prelude.{◌≡◌, ◌<◌, ◌≤◌, ℕ, Some, length};
 ghost use Rattle.fare_tariff.specs.Check.{Gives, IsEdition, check_edition};
+ghost use Rattle.fare_tariff.specs.Filed.{IsFiledFare};
+ghost use Rattle.fare_tariff.specs.Lookup.{fare_at};
+ghost use Rattle.fare_tariff.specs.Record.{FareRecord};
 
-use crate::check::first_fault;
+use crate::check::{first_fault, hold_their_form};
 use crate::check_fault::CheckFault;
 use crate::record::Record;
 use fare_codes::Day;
@@ -41,6 +44,7 @@ impl Edition {
         requires in_range { number ≤ 99_999 }
         ensures { Gives result (check_edition number effective records.items) }
     {
+        hold_their_form(records.as_slice());
         match first_fault(records.as_slice()) {
             Some(fault) => Err(fault),
             None => Ok(Edition {
@@ -65,6 +69,13 @@ impl Edition {
         ensures { result ≡ self.now.effective }
     {
         self.effective
+    }
+
+    /// What holds of each fare of an edition, by its type.
+    pub fn fares_are_filed(&self)
+        ensures { (number : ℕ) (fare : FareRecord) → fare_at self.now number ≡ Some fare → IsFiledFare self.now fare }
+    {
+        let _records = self.records();
     }
 
     /// Its records, of which the first has the record number 2.

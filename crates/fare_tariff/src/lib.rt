@@ -36,6 +36,7 @@ pub use names::{Names, RuleList};
 pub use pair_record::PairRec;
 pub use record::Record;
 pub use rule_record::RuleRec;
+pub use same::{same_carriers, same_cities, same_countries, same_indicators};
 pub use seasons::overlap_is_a_shared_day;
 pub use terms::Terms;
 

@@ -7,7 +7,7 @@ use fare_codes::{Cabin, Carrier, City, Country, Indicator, Kind, MonthDay, RuleI
 
 /// Whether two cities are the same.
 #[tactic(auto, using(crate::proofs::SameTexts::same_text))]
-pub(crate) fn same_cities(a: City, b: City) -> bool
+pub fn same_cities(a: City, b: City) -> bool
     ensures { result ≡ bytes_eq a b }
 {
     a.is(b)
@@ -15,7 +15,7 @@ pub(crate) fn same_cities(a: City, b: City) -> bool
 
 /// Whether two countries are the same.
 #[tactic(auto, using(crate::proofs::SameTexts::same_text))]
-pub(crate) fn same_countries(a: Country, b: Country) -> bool
+pub fn same_countries(a: Country, b: Country) -> bool
     ensures { result ≡ bytes_eq a b }
 {
     a.is(b)
@@ -23,7 +23,7 @@ pub(crate) fn same_countries(a: Country, b: Country) -> bool
 
 /// Whether two carriers are the same.
 #[tactic(auto, using(crate::proofs::SameTexts::same_text))]
-pub(crate) fn same_carriers(a: Carrier, b: Carrier) -> bool
+pub fn same_carriers(a: Carrier, b: Carrier) -> bool
     ensures { result ≡ bytes_eq a b }
 {
     a.is(b)
@@ -49,7 +49,7 @@ pub(crate) fn same_rules(a: &Option<RuleId>, b: &Option<RuleId>) -> bool
 }
 
 /// Whether two indicators are the same.
-pub(crate) fn same_indicators(a: Indicator, b: Indicator) -> bool
+pub fn same_indicators(a: Indicator, b: Indicator) -> bool
     ensures { result ≡ same_indicator a b }
 {
     match (a, b) {

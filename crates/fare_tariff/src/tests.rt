@@ -107,7 +107,6 @@ fn saver(rt: &impl Abort, alloc: Global) -> Result<Record, Fail> {
     let mut units = RuleList::new(alloc);
     units.push(saver_id(rt))?;
     units.push(None)?;
-    assert_eq!(rt; units.names().len(), 2);
     Ok(Record::Rule(RuleRec {
         id: RuleId::read(b"SAVER").expect(rt, "a rule"),
         stops: 1,
@@ -332,6 +331,17 @@ fn reads_terms(rt: HostRuntime) -> Result<(), Fail> {
     let saver = tariff.terms(saver_id(&rt)).ok_or("no terms")?;
     assert_eq!(rt; saver.advance, 14);
     assert!(rt; tariff.terms(RuleId::read(b"OTHER")).is_none());
+    Ok(())
+}
+
+#[test]
+fn names_of_a_list(rt: HostRuntime) -> Result<(), Fail> {
+    let mut list = RuleList::new(rt.alloc());
+    assert!(rt; list.names().is_empty());
+    list.push(saver_id(&rt))?;
+    list.push(None)?;
+    let names = list.names();
+    assert!(rt; names.len() == 2 && names[0] == saver_id(&rt) && names[1].is_none());
     Ok(())
 }
 

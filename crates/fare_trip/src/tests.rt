@@ -62,83 +62,90 @@ fn the_top_of_a_text(rt: HostRuntime) -> Result<(), Fail> {
     Ok(())
 }
 
+/// Rows of sectors, each with what the trip from LON that has them is told.
+static SECTORS: [(&str, &str); 19] = [
+    (r#"[[]]"#, "TRIP Bad sector 1"),
+    (r#"[{}]"#, "TRIP Missing to 1"),
+    (r#"[{"to":"Rom"}]"#, "TRIP Bad to 1"),
+    (r#"[{"to":"ROM"}]"#, "TRIP Missing carrier 1"),
+    (r#"[{"to":"ROM","carrier":["Q1"]}]"#, "TRIP Bad carrier 1"),
+    (r#"[{"to":"ROM","carrier":"Q1"}]"#, "TRIP Missing day 1"),
+    (
+        r#"[{"to":"LON","carrier":"Q1","day":"W"}]"#,
+        "TRIP Bad day 1",
+    ),
+    (
+        r#"[{"to":"ROM","carrier":"Q1","day":"2025-04-10"}]"#,
+        "TRIP Missing cabin 1",
+    ),
+    (
+        r#"[{"to":"ROM","carrier":"Q1","day":"2025-04-10","cabin":"W"}]"#,
+        "TRIP Bad cabin 1",
+    ),
+    (
+        r#"[{"to":"ROM","carrier":"Q1","day":"2025-04-10","cabin":"Y","over":[]}]"#,
+        "TRIP Bad over 1",
+    ),
+    (
+        r#"[{"to":"ROM","carrier":"Q1","day":"2025-04-10","cabin":"Y","over":"PX"}]"#,
+        "TRIP Bad over 1",
+    ),
+    (
+        r#"[{"to":"ROM","carrier":"Q1","day":"2025-04-10","cabin":"Y","stop":null}]"#,
+        "TRIP Bad stop 1",
+    ),
+    (
+        r#"[{"to":"ROM","carrier":"Q1","day":"2025-04-10","cabin":"Y","surface":0}]"#,
+        "TRIP Bad surface 1",
+    ),
+    (
+        r#"[{"to":"LON","carrier":"Q1","day":"2025-02-01","cabin":"Y"},{}]"#,
+        "TRIP SameCity 1",
+    ),
+    (
+        r#"[{"to":"ROM","carrier":"Q1","day":"2025-02-28","cabin":"Y","surface":true}]"#,
+        "TRIP DatesFall 1",
+    ),
+    (
+        r#"[{"to":"ROM","carrier":"Q1","day":"2025-03-01","cabin":"Y","surface":true}]"#,
+        "TRIP SurfacePlace 1",
+    ),
+    (
+        r#"[{"to":"ROM","carrier":"Q1","day":"2025-03-01","cabin":"Y"}]"#,
+        "OK",
+    ),
+    (
+        r#"[{"to":"PAR","to":"LON","carrier":"Q1","day":"2025-03-01","cabin":"Y"}]"#,
+        "TRIP SameCity 1",
+    ),
+    (
+        r#"[{"to":"LON","to":"PAR","carrier":"Q1","day":"2025-03-01","cabin":"Y"}]"#,
+        "OK",
+    ),
+];
+
+/// What a trip from LON with these sectors is told: read whole, and of its value.
+fn told_of_sectors(
+    alloc: Global,
+    sectors: &str,
+) -> Result<(ArrayString<64>, ArrayString<64>), Fail> {
+    let mut text = Vec::new(alloc);
+    for part in [
+        r#"{"sale":"2025-03-01","from":"LON","sectors":"#,
+        sectors,
+        "}",
+    ] {
+        text.extend_from_slice(part.as_bytes())?;
+    }
+    Ok((told(read_trip(alloc, &text)), told_of_value(alloc, &text)))
+}
+
 #[test]
 fn the_sectors_of_a_text(rt: HostRuntime) -> Result<(), Fail> {
-    for (text, want) in [
-        (r#"[[]]"#, "TRIP Bad sector 1"),
-        (r#"[{}]"#, "TRIP Missing to 1"),
-        (r#"[{"to":"Rom"}]"#, "TRIP Bad to 1"),
-        (r#"[{"to":"ROM"}]"#, "TRIP Missing carrier 1"),
-        (r#"[{"to":"ROM","carrier":["Q1"]}]"#, "TRIP Bad carrier 1"),
-        (r#"[{"to":"ROM","carrier":"Q1"}]"#, "TRIP Missing day 1"),
-        (
-            r#"[{"to":"LON","carrier":"Q1","day":"W"}]"#,
-            "TRIP Bad day 1",
-        ),
-        (
-            r#"[{"to":"ROM","carrier":"Q1","day":"2025-04-10"}]"#,
-            "TRIP Missing cabin 1",
-        ),
-        (
-            r#"[{"to":"ROM","carrier":"Q1","day":"2025-04-10","cabin":"W"}]"#,
-            "TRIP Bad cabin 1",
-        ),
-        (
-            r#"[{"to":"ROM","carrier":"Q1","day":"2025-04-10","cabin":"Y","over":[]}]"#,
-            "TRIP Bad over 1",
-        ),
-        (
-            r#"[{"to":"ROM","carrier":"Q1","day":"2025-04-10","cabin":"Y","over":"PX"}]"#,
-            "TRIP Bad over 1",
-        ),
-        (
-            r#"[{"to":"ROM","carrier":"Q1","day":"2025-04-10","cabin":"Y","stop":null}]"#,
-            "TRIP Bad stop 1",
-        ),
-        (
-            r#"[{"to":"ROM","carrier":"Q1","day":"2025-04-10","cabin":"Y","surface":0}]"#,
-            "TRIP Bad surface 1",
-        ),
-        (
-            r#"[{"to":"LON","carrier":"Q1","day":"2025-02-01","cabin":"Y"},{}]"#,
-            "TRIP SameCity 1",
-        ),
-        (
-            r#"[{"to":"ROM","carrier":"Q1","day":"2025-02-28","cabin":"Y","surface":true}]"#,
-            "TRIP DatesFall 1",
-        ),
-        (
-            r#"[{"to":"ROM","carrier":"Q1","day":"2025-03-01","cabin":"Y","surface":true}]"#,
-            "TRIP SurfacePlace 1",
-        ),
-        (
-            r#"[{"to":"ROM","carrier":"Q1","day":"2025-03-01","cabin":"Y"}]"#,
-            "OK",
-        ),
-        (
-            r#"[{"to":"PAR","to":"LON","carrier":"Q1","day":"2025-03-01","cabin":"Y"}]"#,
-            "TRIP SameCity 1",
-        ),
-        (
-            r#"[{"to":"LON","to":"PAR","carrier":"Q1","day":"2025-03-01","cabin":"Y"}]"#,
-            "OK",
-        ),
-    ] {
-        let mut whole = ArrayString::<256>::new();
-        for part in [r#"{"sale":"2025-03-01","from":"LON","sectors":"#, text, "}"] {
-            assert!(rt; whole.try_push_str(part).is_ok());
-        }
-        let bytes = whole.as_str().as_bytes();
-        assert_eq!(rt;
-            told(read_trip(rt.alloc(), bytes)).as_str(),
-            want,
-            "at {text}"
-        );
-        assert_eq!(rt;
-            told_of_value(rt.alloc(), bytes).as_str(),
-            want,
-            "at {text}"
-        );
+    for (sectors, want) in &SECTORS {
+        let (read, of_value) = told_of_sectors(rt.alloc(), sectors)?;
+        assert_eq!(rt; read.as_str(), *want, "at {sectors}");
+        assert_eq!(rt; of_value.as_str(), *want, "at {sectors}");
     }
     Ok(())
 }

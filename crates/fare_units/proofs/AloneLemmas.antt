@@ -1,11 +1,10 @@
 -- One way fares stand alone: a part of a lawful construction shares its unit with no one way fare before it.
-use Rattle.std.proofs.Common.{◌≡◌, ℕ, zero, suc, ◌+◌, ◌-◌, ◌<◌, ◌≤◌, Bool, true, false, ◌&&◌, ◌||◌, eqb, ltb, max, List, [], ◌∷◌, ◌++◌, length, filter, Option, None, refl, ap, subst, sym, ◌∙◌, inl, inr, arith}
+use Rattle.std.proofs.Common.{◌≡◌, ℕ, zero, suc, ◌+◌, ◌-◌, ◌<◌, ◌≤◌, Bool, true, false, ◌&&◌, ◌||◌, max, List, length, filter, None, refl, subst, sym, ◌∙◌, inl, inr, arith}
 use Rattle.std.specs.List.{range_with_len, list_any}
-use Rattle.std.proofs.lemmas.Bool.{cases_Bool, cases_eq, and_cases, and_left, and_right, and_parts, eq-eqb, eqb-true, eqb-false, lt-ltb}
+use Rattle.std.proofs.lemmas.Bool.{cases_Bool, cases_eq, eq-eqb, eqb-true, lt-ltb}
 use Rattle.fare_tariff.specs.Tariff.{Tariff}
 use Rattle.fare_rules.specs.declared.part.Part.{Part}
-use Rattle.fare_rules.specs.Numbers.{numbers}
-use Rattle.fare_rules.specs.Construction.{unit_of, places, is_own, own, units, greatest_unit}
+use Rattle.fare_rules.specs.Construction.{unit_of, places, is_own, own, greatest_unit}
 use Rattle.fare_rules.specs.Shape.{is_same_unit, is_ow, holds_ow, is_mixed, mixed}
 use Rattle.fare_units.specs.Walk.{is_mixed_with, mixes}
 use Rattle.fare_rules.proofs.NumberLemmas.{find_none, any_kept_none}

@@ -1,58 +1,41 @@
 -- The greatest of the references that are looked at, one point or one part on.
-use Rattle.std.proofs.Common.{◌≡◌, ℕ, ◌+◌, ◌-◌, ◌<◌, ◌≤◌, Bool, true, false, cond, max, List, [], ◌∷◌, ◌++◌, length, get_or, drop, filter, Option, Some, None, All, subst, refl, ap, sym, ◌∙◌, arith, add-one, drop-cons}
+use Rattle.std.proofs.Common.{◌≡◌, ℕ, ◌+◌, ◌-◌, ◌<◌, ◌≤◌, true, false, List, [], ◌∷◌, ◌++◌, length, get_or, drop, filter, Option, Some, None, All, subst, refl, sym, arith, add-one, drop-cons}
 use Rattle.std.proofs.Math.ListN.{drop_of_length-le}
-use Rattle.std.proofs.lemmas.Bool.{eq-eqb, ne_eqb}
 use Rattle.std.proofs.lemmas.List.Elements.{All-filter, All-from_get_or}
 use Rattle.std.proofs.lemmas.List.FromFn.{length-range_with_len, get_or-range_with_len}
-use Rattle.fare_codes.specs.declared.nuc.Nuc.{Nuc}
 use Rattle.fare_trip.specs.Itinerary.{Itinerary, sector}
-use Rattle.fare_tariff.specs.Tariff.{Tariff}
 use Rattle.fare_rules.specs.declared.part.Part.{Part}
 use Rattle.fare_rules.specs.Numbers.{numbers, greater, greatest_of}
 use Rattle.fare_rules.specs.Span.{is_stopover}
-use Rattle.fare_rules.specs.Construction.{last_of}
-use Rattle.fare_rules.specs.Circle.{is_own_sector, own_sectors, circle_reference, part_stopovers, greatest_turning, greatest_in_part}
-use Rattle.fare_units.proofs.Ranges.{filter_next, filter_none}
+use Rattle.fare_rules.specs.Circle.{is_own_sector, own_sectors}
+use Rattle.fare_rules.proofs.NumberLemmas.{filter_next, filter_done, greater_grouped}
 
 greater_nothing : (a : Option ℕ) → greater a None ≡ a
 greater_nothing None = refl
 greater_nothing (Some a) = refl
 
-greater_assoc : (a b c : Option ℕ) → greater (greater a b) c ≡ greater a (greater b c)
-greater_assoc None b c = refl
-greater_assoc (Some a) None c = refl
-greater_assoc (Some a) (Some b) None = refl
-greater_assoc (Some a) (Some b) (Some c) = ap Some (omega arith)
-
 -- the greatest that was found and that is left to look for, where the next point is a stopover
 pub stopovers_more : (found : Option ℕ) (amount : ℕ → Option ℕ) (trip : Itinerary) (first past : ℕ) → first < past → (sector trip first).stop ≡ true → greater (greater found (amount first)) (greatest_of amount (filter (is_stopover trip) (numbers (first + 1) past))) ≡ greater found (greatest_of amount (filter (is_stopover trip) (numbers first past)))
 stopovers_more found amount trip first past h stop =
-    rw (filter_next (is_stopover trip) first past h, stop) (greater_assoc found (amount first) (greatest_of amount (filter (is_stopover trip) (numbers (first + 1) past))))
+    rw (filter_next (is_stopover trip) first past h, stop) (greater_grouped found (amount first) (greatest_of amount (filter (is_stopover trip) (numbers (first + 1) past))))
 
 -- and where it is none
 pub stopovers_over : (found : Option ℕ) (amount : ℕ → Option ℕ) (trip : Itinerary) (first past : ℕ) → first < past → (sector trip first).stop ≡ false → greater found (greatest_of amount (filter (is_stopover trip) (numbers (first + 1) past))) ≡ greater found (greatest_of amount (filter (is_stopover trip) (numbers first past)))
 stopovers_over found amount trip first past h stop = rw (filter_next (is_stopover trip) first past h, stop) refl
 
 pub stopovers_all : (found : Option ℕ) (amount : ℕ → Option ℕ) (trip : Itinerary) (first past : ℕ) → past ≤ first → greater found (greatest_of amount (filter (is_stopover trip) (numbers first past))) ≡ found
-stopovers_all found amount trip first past h = rw (filter_none (is_stopover trip) first past h) (greater_nothing found)
+stopovers_all found amount trip first past h = rw (filter_done (is_stopover trip) first past h) (greater_nothing found)
 
 -- the greatest of some points and one more
 pub with_end : (amount : ℕ → Option ℕ) (xs : List ℕ) (x : ℕ) → greatest_of amount (xs ++ x ∷ []) ≡ greater (greatest_of amount xs) (amount x)
 with_end amount [] x = greater_nothing (amount x)
-with_end amount (y ∷ ys) x = rw (with_end amount ys x) (sym (greater_assoc (amount y) (greatest_of amount ys) (amount x)))
-
--- the greatest in a part by whether it is its unit's last
-pub turning_last : (tariff : Tariff) (trip : Itinerary) (parts : List Part) (own : List ℕ) (k : ℕ) → k ≡ last_of own → greatest_turning tariff trip parts own k ≡ greatest_of (circle_reference tariff trip parts own k) (part_stopovers trip parts k)
-turning_last tariff trip parts own k e = rw (eq-eqb k (last_of own) e) refl
-
-pub turning_other : (tariff : Tariff) (trip : Itinerary) (parts : List Part) (own : List ℕ) (k : ℕ) → (k ≡ last_of own → ⊥) → greatest_turning tariff trip parts own k ≡ greatest_in_part tariff trip parts own k
-turning_other tariff trip parts own k e = rw (ne_eqb k (last_of own) e) refl
+with_end amount (y ∷ ys) x = rw (with_end amount ys x) (sym (greater_grouped (amount y) (greatest_of amount ys) (amount x)))
 
 -- the greatest that was found and of the parts that are left
 pub greatest_left : (found : Option ℕ) (amount : ℕ → Option ℕ) (own : List ℕ) (i : ℕ) → i < length own → greater (greater found (amount (get_or own i 0))) (greatest_of amount (drop (i + 1) own)) ≡ greater found (greatest_of amount (drop i own))
 greatest_left found amount own i h =
     let e : drop i own ≡ get_or own i 0 ∷ drop (i + 1) own = rw (add-one, drop-cons own i 0) refl in
-    rw e (greater_assoc found (amount (get_or own i 0)) (greatest_of amount (drop (i + 1) own)))
+    rw e (greater_grouped found (amount (get_or own i 0)) (greatest_of amount (drop (i + 1) own)))
 
 pub greatest_done : (found : Option ℕ) (amount : ℕ → Option ℕ) (own : List ℕ) (i : ℕ) → length own ≤ i → greater found (greatest_of amount (drop i own)) ≡ found
 greatest_done found amount own i h = rw (drop_of_length-le own h) (greater_nothing found)

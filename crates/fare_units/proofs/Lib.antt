@@ -1,7 +1,6 @@
 pub mod Ranges
 pub mod OwnLemmas
 pub mod OrderLemmas
-pub mod SameLemmas
 pub mod ShapeLemmas
 pub mod WalkLemmas
 pub mod AloneLemmas

@@ -1,8 +1,8 @@
 -- What a lawful construction says of the part that comes after its first ones.
-use Rattle.std.proofs.Common.{◌≡◌, ℕ, zero, suc, ◌+◌, ◌-◌, ◌<◌, ◌≤◌, Bool, true, false, not, ◌&&◌, ◌||◌, cond, max, leb, List, [], ◌∷◌, ◌++◌, length, Option, Some, None, refl, ap, subst, sym, ◌∙◌, inl, inr, arith}
+use Rattle.std.proofs.Common.{◌≡◌, ℕ, zero, suc, ◌+◌, ◌-◌, ◌<◌, ◌≤◌, Bool, true, false, not, ◌||◌, cond, leb, List, [], ◌∷◌, ◌++◌, length, Option, Some, is_some, refl, ap, subst, sym, ◌∙◌, arith}
 use Rattle.std.specs.List.{range_with_len, list_any}
-use Rattle.std.proofs.lemmas.List.{append_assoc, append-nil}
-use Rattle.std.proofs.lemmas.Bool.{cases_Bool, eqb-false, ltb-false, or_cases, and_left, and_right}
+use Rattle.std.proofs.lemmas.List.{append_assoc}
+use Rattle.std.proofs.lemmas.Bool.{eqb-false, ltb-false}
 use Rattle.std.proofs.Math.ListN.{get_or-append, length-append}
 use Rattle.std.proofs.Math.Seq.{get_or-append_seam}
 use Rattle.fare_trip.specs.Itinerary.{Itinerary, count}
@@ -11,18 +11,18 @@ use Rattle.fare_tariff.specs.Tariff.{Tariff}
 use Rattle.fare_tariff.specs.Lookup.{fare_at}
 use Rattle.fare_rules.specs.declared.part.Part.{Part}
 use Rattle.fare_rules.specs.Numbers.{numbers}
-use Rattle.fare_rules.specs.ComponentAmount.{runs_between}
-use Rattle.fare_rules.specs.Construction.{part_at, no_part, end_of, unit_of, begin_after, start_of, places, fare_of, greatest_unit, is_misnumbered, misnumbered, uncovered}
+use Rattle.fare_rules.specs.ComponentAmount.{component_amount}
+use Rattle.fare_rules.specs.Construction.{part_at, no_part, end_of, unit_of, begin_after, start_of, places, fare_of, greatest_unit, is_misnumbered, misnumbered}
 use Rattle.fare_rules.specs.Direction.{is_back}
 use Rattle.fare_rules.specs.Shape.{is_one_way, is_ow, is_same_unit, is_begun_before, is_straddled, is_crossed, crossed}
 use Rattle.fare_rules.specs.Best.{IsLawful}
 use Rattle.fare_rules.proofs.NumberLemmas.{find_none}
-use Rattle.fare_rules.proofs.CoverLemmas.{IsCover, cover, both_false, begins_later, cover_is_whole}
+use Rattle.fare_rules.proofs.CoverLemmas.{IsCover, cover, both_false}
 use Rattle.fare_rules.proofs.LawfulLemmas.{IsKept, kept}
-use Rattle.fare_rules.proofs.AmountLemmas.{MayBeUsed, fare_is_filed, part_may_be_used}
+use Rattle.fare_rules.proofs.AmountLemmas.{fare_is_filed, amount_of_lawful}
 use Rattle.fare_units.proofs.AloneLemmas.{unmixed}
 use Rattle.fare_rules.proofs.ReferenceLemmas.{number_of_record}
-use Rattle.fare_units.specs.Walk.{next_start, is_mixed_with, mixes, may_serve, runs_either, is_fruitless}
+use Rattle.fare_units.specs.Walk.{next_start, is_mixed_with, mixes, may_serve, is_fruitless}
 
 -- the parts of a list are not changed by others behind them
 pub front_part : (front rest : List Part) (k : ℕ) → 1 ≤ k → k ≤ length front → part_at (front ++ rest) k ≡ part_at front k
@@ -89,13 +89,14 @@ not_true : (b : Bool) → not b ≡ false → b ≡ true
 not_true true e = refl
 not_true false e = cc
 
-runs_one : (trip : Itinerary) (a b : ℕ) (back : Bool) (fare : FareRecord) → runs_between trip a b back fare ≡ true → runs_either trip a b (Some fare) ≡ true
-runs_one trip a b true fare h = rw h (or_true (runs_between trip a b false fare))
+-- what is defined in one direction is in one of the two
+in_one_direction : {A : Type 0} (amount : Bool → Option A) (back : Bool) (found : A) → amount back ≡ Some found → (is_some (amount false) || is_some (amount true)) ≡ true
+in_one_direction amount true found h = rw h (or_true (is_some (amount false)))
   where
     or_true : (x : Bool) → (x || true) ≡ true
     or_true true = refl
     or_true false = refl
-runs_one trip a b false fare h = rw h refl
+in_one_direction amount false found h = rw h refl
 
 module _ (tariff : Tariff) (trip : Itinerary) (front : List Part) (next : Part) (rest : List Part) (price : ℕ) (lawful : IsLawful tariff trip (front ++ next ∷ rest) price) where
   all : List Part
@@ -161,12 +162,12 @@ module _ (tariff : Tariff) (trip : Itinerary) (front : List Part) (next : Part) 
   pub next_served : may_serve tariff trip front next.end next.fare ≡ true
   unfolding may_serve here
   next_served =
-      let used = part_may_be_used tariff trip (front ++ next ∷ rest) holds (length front + 1) (omega arith) in_all filed.0 filed.1 in
-      let is : fare_at tariff next.fare ≡ Some filed.0 = sym of_next ∙ filed.1 in
-      let P : ℕ → Type 0 = λ n. runs_between trip (next_start trip front) n (is_back tariff trip (front ++ next ∷ rest) (length front + 1)) filed.0 ≡ true in
-      let Q : ℕ → Type 0 = λ n. runs_between trip n (end_of (front ++ next ∷ rest) (length front + 1)) (is_back tariff trip (front ++ next ∷ rest) (length front + 1)) filed.0 ≡ true in
-      let runs = subst P (ap (λ (p : Part). p.end) (next_part front next rest)) (subst Q (start_by trip front next rest) used.pair) in
-      rw is (runs_one trip (next_start trip front) next.end (is_back tariff trip (front ++ next ∷ rest) (length front + 1)) filed.0 runs)
+      let found = amount_of_lawful tariff trip (front ++ next ∷ rest) price (length front + 1) lawful (omega arith) in_all in
+      let back : Bool = is_back tariff trip (front ++ next ∷ rest) (length front + 1) in
+      let P : Part → Type 0 = λ p. component_amount tariff trip (next_start trip front) p.end p.fare back ≡ Some found.0 in
+      let Q : ℕ → Type 0 = λ n. component_amount tariff trip n (end_of (front ++ next ∷ rest) (length front + 1)) (part_at (front ++ next ∷ rest) (length front + 1)).fare back ≡ Some found.0 in
+      let here_served = subst P (next_part front next rest) (subst Q (start_by trip front next rest) found.1) in
+      in_one_direction (component_amount tariff trip (next_start trip front) next.end next.fare) back found.0 here_served
 
   next_uncrossed : is_crossed (front ++ next ∷ []) (length front + 1) ≡ false
   unfolding crossed here

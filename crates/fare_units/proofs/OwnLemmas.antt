@@ -1,7 +1,6 @@
 -- The places of a unit: how they are gathered, and by their index.
-use Rattle.std.proofs.Common.{◌≡◌, ℕ, ◌+◌, ◌-◌, ◌<◌, ◌≤◌, List, [], ◌∷◌, ◌++◌, length, get_or, filter, All, Bool, true, false, refl, ap, subst, ◌∙◌, sym, arith, zero, suc}
+use Rattle.std.proofs.Common.{◌≡◌, ℕ, ◌+◌, ◌-◌, ◌<◌, ◌≤◌, List, [], ◌∷◌, ◌++◌, length, get_or, filter, All, refl, ap, subst, ◌∙◌, sym, arith, suc}
 use Rattle.std.proofs.lemmas.List.{append-nil}
-use Rattle.std.specs.List.{range_with_len}
 use Rattle.std.proofs.lemmas.Bool.{eq-eqb, ne_eqb}
 use Rattle.std.proofs.lemmas.List.Elements.{All-filter, All-from_get_or}
 use Rattle.std.proofs.lemmas.List.FromFn.{length-range_with_len, get_or-range_with_len}
@@ -9,7 +8,8 @@ use Rattle.fare_rules.specs.declared.part.Part.{Part}
 use Rattle.fare_rules.specs.Numbers.{numbers}
 use Rattle.fare_rules.specs.Construction.{own, places, first_of, last_of, is_own, unit_of}
 use Rattle.fare_units.specs.Places.{IsPlace, ArePlaces}
-use Rattle.fare_units.proofs.Ranges.{filter_more, filter_over, filter_none}
+use Rattle.fare_rules.proofs.NumberLemmas.{filter_done}
+use Rattle.fare_units.proofs.Ranges.{filter_more, filter_over}
 
 -- a place that belongs to the unit is put to those that were gathered
 pub own_more : (kept : List ℕ) (parts : List Part) (unit first past : ℕ) → first < past → unit_of parts first ≡ unit → (kept ++ first ∷ []) ++ filter (is_own parts unit) (numbers (first + 1) past) ≡ kept ++ filter (is_own parts unit) (numbers first past)
@@ -21,7 +21,7 @@ own_over kept parts unit first past h other = filter_over kept (is_own parts uni
 
 -- at the end none is left
 pub own_all : (kept : List ℕ) (parts : List Part) (unit first past : ℕ) → past ≤ first → kept ++ filter (is_own parts unit) (numbers first past) ≡ kept
-own_all kept parts unit first past h = ap (λ more. kept ++ more) (filter_none (is_own parts unit) first past h) ∙ append-nil kept
+own_all kept parts unit first past h = ap (λ more. kept ++ more) (filter_done (is_own parts unit) first past h) ∙ append-nil kept
 
 -- the last of some places stands at the end
 pub last_at : (own : List ℕ) → last_of own ≡ get_or own (length own - 1) 0

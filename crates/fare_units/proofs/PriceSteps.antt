@@ -1,5 +1,5 @@
 -- Sums of costs, one part on, and two equal costs.
-use Rattle.std.proofs.Common.{◌≡◌, ℕ, ◌+◌, ◌<◌, ◌≤◌, Bool, true, false, eqb, List, [], ◌∷◌, length, get_or, drop, sum_by, refl, ap, sym, ◌∙◌, arith, add-one, drop-cons, slice_index}
+use Rattle.std.proofs.Common.{◌≡◌, ℕ, ◌+◌, ◌<◌, ◌≤◌, false, eqb, List, [], ◌∷◌, length, get_or, drop, sum_by, refl, arith, add-one, drop-cons, slice_index}
 use Rattle.std.proofs.Math.ListN.{drop_of_length-le}
 use Rattle.std.proofs.lemmas.List.Sums.{sum_by-cons}
 use Rattle.fare_rules.specs.UnitPrice.{are_two_equal}

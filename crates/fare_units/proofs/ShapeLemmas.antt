@@ -1,12 +1,12 @@
 -- Shapes of units, one place on.
-use Rattle.std.proofs.Common.{◌≡◌, ℕ, ◌+◌, ◌-◌, ◌<◌, ◌≤◌, Bool, true, false, List, [], ◌∷◌, length, get_or, drop, refl, ap, ◌∙◌, sym, arith, zero, suc, ◌&&◌, ◌||◌, slice_index, add-one, drop-cons}
+use Rattle.std.proofs.Common.{◌≡◌, ℕ, ◌+◌, ◌-◌, ◌<◌, ◌≤◌, Bool, true, false, List, [], ◌∷◌, length, get_or, drop, refl, ap, ◌∙◌, arith, ◌&&◌, ◌||◌, slice_index, add-one, drop-cons}
 use Rattle.std.specs.List.{list_any}
 use Rattle.std.proofs.lemmas.List.{length-drop}
 use Rattle.fare_trip.specs.Itinerary.{Itinerary}
 use Rattle.fare_tariff.specs.Tariff.{Tariff}
 use Rattle.fare_rules.specs.declared.part.Part.{Part}
-use Rattle.fare_rules.specs.Construction.{but_last, start_city, end_city}
-use Rattle.fare_rules.specs.Shape.{is_chained, follows, is_jaw, is_only_gap}
+use Rattle.fare_rules.specs.Construction.{but_last}
+use Rattle.fare_rules.specs.Shape.{is_chained, follows, is_jaw}
 
 -- what is left of a list begins with the element at the place
 one_left : (own : List ℕ) (i : ℕ) → i < length own → drop i own ≡ get_or own i 0 ∷ drop (i + 1) own

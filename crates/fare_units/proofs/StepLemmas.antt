@@ -1,23 +1,17 @@
 -- The steps of a walk over constructions: over ends, fares and units, and from some parts to those that follow.
-use Rattle.std.proofs.Common.{◌≡◌, ℕ, zero, suc, ◌+◌, ◌-◌, ◌<◌, ◌≤◌, Bool, true, false, cond, leb, max, ◌⊎◌, List, [], ◌∷◌, ◌++◌, length, Option, Some, None, refl, ap, subst, sym, ◌∙◌, inl, inr, arith}
-use Rattle.std.specs.List.{range_with_len}
+use Rattle.std.proofs.Common.{◌≡◌, ℕ, ◌+◌, ◌-◌, ◌<◌, ◌≤◌, true, false, ◌⊎◌, List, [], ◌∷◌, ◌++◌, length, Option, Some, None, refl, ap, subst, sym, ◌∙◌, inl, inr, arith}
 use Rattle.std.proofs.lemmas.List.{append_assoc, append-nil}
 use Rattle.std.proofs.lemmas.Bool.{lt-leb, cases_lt}
-use Rattle.std.proofs.Math.ListN.{length-append}
 use Rattle.fare_trip.specs.Itinerary.{Itinerary, count}
 use Rattle.fare_tariff.specs.Tariff.{Tariff}
 use Rattle.fare_rules.specs.declared.part.Part.{Part}
-use Rattle.fare_rules.specs.Numbers.{numbers}
-use Rattle.fare_rules.specs.Construction.{end_of, start_of, unit_of, begin_after, greatest_unit, places, part_at}
-use Rattle.fare_rules.specs.Best.{IsLawful, IsBest, IsBestAnswer}
-use Rattle.fare_rules.specs.Lawful.{lawful_price}
-use Rattle.fare_rules.proofs.CoverLemmas.{IsCover, cover, begins_later}
+use Rattle.fare_rules.specs.Construction.{end_of, greatest_unit, places}
+use Rattle.fare_rules.specs.Best.{IsLawful, IsBestAnswer}
+use Rattle.fare_rules.proofs.CoverLemmas.{cover, begins_later}
 use Rattle.fare_rules.proofs.LawfulLemmas.{kept}
-use Rattle.fare_rules.proofs.NumberLemmas.{numbers_more}
-use Rattle.fare_units.specs.Advance.{Advances}
-use Rattle.fare_units.specs.Walk.{IsBound, IsFound, Walks, Completes, GoesOn, AnyPart, EndsBefore, EndsAt, HasFareBefore, HasFare, HasUnitBefore, IsPart, IsFront, IsList, next_start, may_serve, is_fruitless}
+use Rattle.fare_units.specs.Walk.{Walks, Completes, GoesOn, AnyPart, EndsBefore, EndsAt, HasFareBefore, HasFare, HasUnitBefore, IsPart, IsFront, IsList, next_start, may_serve, is_fruitless}
 use Rattle.fare_units.proofs.WalkLemmas.{walk_nothing, walk_then, walk_within}
-use Rattle.fare_units.proofs.NextLemmas.{front_part, greatest_same, next_part, start_by, next_rises, next_within, next_numbered, next_filed, next_served, next_fruitful}
+use Rattle.fare_units.proofs.NextLemmas.{next_rises, next_within, next_numbered, next_filed, next_served, next_fruitful}
 
 abbrev Found : Type 0
 Found = Option (List Part × ℕ)

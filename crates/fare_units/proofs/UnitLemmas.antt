@@ -1,5 +1,5 @@
 -- Units that are numbered in order each have a part, and parts that cover a trip go on within it.
-use Rattle.std.proofs.Common.{◌≡◌, ℕ, zero, suc, ◌+◌, ◌-◌, ◌<◌, ◌≤◌, Bool, true, false, max, List, [], ◌∷◌, ◌++◌, length, get_or, filter, Option, None, refl, ap, subst, sym, ◌∙◌, inl, inr, arith}
+use Rattle.std.proofs.Common.{◌≡◌, ℕ, zero, suc, ◌+◌, ◌-◌, ◌<◌, ◌≤◌, Bool, true, false, max, List, [], ◌∷◌, length, get_or, filter, None, refl, ap, subst, sym, ◌∙◌, inl, inr, arith}
 use Rattle.std.specs.List.{list_any}
 use Rattle.std.proofs.lemmas.Bool.{cases_lt, ltb-false, eq-eqb}
 use Rattle.std.proofs.lemmas.List.{get_or_past}
@@ -7,7 +7,7 @@ use Rattle.fare_trip.specs.Itinerary.{Itinerary, count}
 use Rattle.fare_tariff.specs.Tariff.{Tariff}
 use Rattle.fare_rules.specs.declared.part.Part.{Part}
 use Rattle.fare_rules.specs.Numbers.{numbers}
-use Rattle.fare_rules.specs.Construction.{no_part, end_of, unit_of, greatest_unit, places, is_own, own, misnumbered, is_misnumbered, uncovered}
+use Rattle.fare_rules.specs.Construction.{no_part, unit_of, greatest_unit, places, is_own, own, misnumbered, is_misnumbered, uncovered}
 use Rattle.fare_rules.specs.Lawful.{first_broken}
 use Rattle.fare_rules.proofs.NumberLemmas.{numbers_more, find_none, any_kept_none}
 use Rattle.fare_rules.proofs.CoverLemmas.{IsCover, cover, both_false}

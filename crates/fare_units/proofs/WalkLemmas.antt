@@ -1,15 +1,13 @@
 -- Walks over constructions: how they are put together, and what they come to.
-use Rattle.std.proofs.Common.{◌≡◌, ℕ, ◌+◌, ◌<◌, ◌≤◌, Bool, true, false, ◌⊎◌, List, [], ◌∷◌, ◌++◌, length, Option, Some, None, Ok, Err, refl, ap, subst, sym, ◌∙◌, inl, inr, arith}
-use Rattle.std.proofs.lemmas.List.{append_assoc}
+use Rattle.std.proofs.Common.{◌≡◌, ℕ, true, false, ◌⊎◌, List, Option, Some, None, Ok, Err, refl, sym, ◌∙◌, inl, inr}
 use Rattle.std.proofs.lemmas.Bool.{cases_Bool}
-use Rattle.fare_trip.specs.Itinerary.{Itinerary, count}
+use Rattle.fare_trip.specs.Itinerary.{Itinerary}
 use Rattle.fare_tariff.specs.Tariff.{Tariff}
 use Rattle.fare_rules.specs.declared.part.Part.{Part}
-use Rattle.fare_rules.specs.Best.{IsLawful, IsBest, IsBestAnswer}
+use Rattle.fare_rules.specs.Best.{IsLawful}
 use Rattle.fare_rules.specs.Order.{is_before}
 use Rattle.fare_rules.proofs.OrderLemmas.{before_tells, before_says, before_trans, before_itself}
-use Rattle.fare_units.specs.Advance.{Advances}
-use Rattle.fare_units.specs.Walk.{IsBound, IsFound, Walks, Completes, GoesOn, AnyPart, EndsBefore, EndsAt, HasFareBefore, HasFare, HasUnitBefore, IsPart, IsFront, IsList, TakesBetter}
+use Rattle.fare_units.specs.Walk.{Walks, TakesBetter}
 
 abbrev Found : Type 0
 Found = Option (List Part × ℕ)

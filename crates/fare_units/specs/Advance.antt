@@ -1,5 +1,5 @@
 -- Lists of parts that go on from part to part within a trip.
-use Rattle.std.specs.Prelude.{ℕ, ◌<◌, ◌≤◌, ◌+◌, List, length}
+use Rattle.std.specs.Prelude.{ℕ, ◌<◌, ◌≤◌, List, length}
 use Rattle.fare_trip.specs.Itinerary.{Itinerary, count}
 use Rattle.fare_rules.specs.declared.part.Part.{Part}
 use Rattle.fare_rules.specs.Construction.{start_of, end_of}

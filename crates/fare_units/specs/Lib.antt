@@ -9,4 +9,5 @@ pub mod Advance
 pub mod Places
 pub mod Tests
 pub mod Breaks
+pub mod Turning
 pub mod Walk

@@ -1,14 +1,12 @@
 -- What a walk over constructions has seen, and what its best is worth.
-use Rattle.std.specs.Prelude.{◌≡◌, ℕ, ◌+◌, ◌<◌, ◌≤◌, Bool, true, false, ◌⊎◌, List, [], ◌∷◌, ◌++◌, length, Option, Some, None, ◌&&◌, ◌||◌}
+use Rattle.std.specs.Prelude.{◌≡◌, ℕ, ◌+◌, ◌<◌, ◌≤◌, Bool, true, false, ◌⊎◌, List, ◌∷◌, ◌++◌, length, Option, Some, None, is_some, ◌&&◌, ◌||◌}
 use Rattle.std.specs.List.{list_any}
 use Rattle.fare_rules.specs.Numbers.{numbers}
-use Rattle.fare_trip.specs.Itinerary.{Itinerary, count}
-use Rattle.fare_tariff.specs.Record.{FareRecord}
+use Rattle.fare_trip.specs.Itinerary.{Itinerary}
 use Rattle.fare_tariff.specs.Tariff.{Tariff}
-use Rattle.fare_tariff.specs.Lookup.{fare_at}
 use Rattle.fare_rules.specs.declared.part.Part.{Part}
 use Rattle.fare_rules.specs.Best.{IsLawful}
-use Rattle.fare_rules.specs.ComponentAmount.{runs_between}
+use Rattle.fare_rules.specs.ComponentAmount.{component_amount}
 use Rattle.fare_rules.specs.Construction.{start_of, end_of, greatest_unit, places}
 use Rattle.fare_rules.specs.Order.{is_before}
 use Rattle.fare_rules.specs.Shape.{is_same_unit, is_ow, is_crossed}
@@ -79,14 +77,12 @@ pub record IsFront (trip : Itinerary) (front : List Part) : Type 0 where
   pub few : length front ≤ end_of front (length front)
   pub ordered : greatest_unit front (places front) ≤ length front
 
--- a fare, where there is one, runs between the ends of a span in one of the two directions
-abbrev pub runs_either : Itinerary → ℕ → ℕ → Option FareRecord → Bool
-runs_either trip a b None = false
-runs_either trip a b (Some fare) = runs_between trip a b false fare || runs_between trip a b true fare
-
--- the fare of a number may serve a part that comes after some and ends at a point
+-- the fare of a number may serve a part that comes after some and ends at a point: in one of the two directions it has a
+-- component amount there
 unfoldable pub may_serve : Tariff → Itinerary → List Part → ℕ → ℕ → Bool
-may_serve tariff trip front end number = runs_either trip (next_start trip front) end (fare_at tariff number)
+may_serve tariff trip front end number =
+    is_some (component_amount tariff trip (next_start trip front) end number false)
+    || is_some (component_amount tariff trip (next_start trip front) end number true)
 
 -- two parts share a unit, and the fare of one is one way
 abbrev pub is_mixed_with : Tariff → List Part → ℕ → ℕ → Bool

@@ -2,11 +2,10 @@
 //! can go on to one.
 
 ghost use Rattle.std.specs.Prelude.{◌≡◌, ◌+◌, ◌<◌, ◌≤◌, length, None};
-ghost use Rattle.std.specs.Option.{option_copied};
 ghost use Rattle.fare_rules.specs.Best.{IsBestAnswer};
 ghost use Rattle.fare_trip.specs.Itinerary.{count};
 ghost use Rattle.fare_rules.specs.Construction.{greatest_unit, places};
-ghost use Rattle.fare_units.specs.Walk.{Walks, Completes, GoesOn, AnyPart, EndsAt, HasFare, IsPart, IsList, IsFront, TakesBetter, next_start, runs_either, may_serve, is_mixed_with, mixes, is_fruitless};
+ghost use Rattle.fare_units.specs.Walk.{Walks, Completes, GoesOn, AnyPart, EndsAt, HasFare, IsPart, IsList, IsFront, TakesBetter, next_start, may_serve, is_mixed_with, mixes, is_fruitless};
 
 use crate::construction::Construction;
 use crate::cover::greatest_below;
@@ -15,9 +14,9 @@ use crate::fares::is_ow;
 use crate::lawful::lawful_price;
 use crate::order::earlier;
 use crate::places::{end_of, start_of};
-use crate::spans::runs_between;
+use fare_component::applicable;
 use fare_rules::Part;
-use fare_tariff::{Edition, FareRec};
+use fare_tariff::Edition;
 use fare_trip::Trip;
 
 /// The best construction that was found, with its price.
@@ -57,26 +56,17 @@ fn take(edition: &Edition, trip: &Trip, front: &Construction, best: Found) -> Fo
     }
 }
 
-/// Whether a fare, where there is one, runs between the ends of a span in one of the two directions.
-fn runs_either(trip: &Trip, a: usize, b: usize, fare: Option<&FareRec>) -> bool
-    requires rises { a < b }
-    requires within { b ≤ count trip.now }
-    ensures { result ≡ runs_either trip.now a b (option_copied fare.entry) }
-{
-    match fare {
-        None => false,
-        Some(fare) => runs_between(trip, a, b, false, fare) || runs_between(trip, a, b, true, fare),
-    }
-}
-
-/// Whether the fare of a number may serve a part that comes after some and ends at a point.
+/// Whether the fare of a number may serve a part that comes after some and ends at a point: in one of the two directions it
+/// has a component amount there.
 #[tactic(auto, unfolding(crate::specs::Walk::may_serve))]
 fn may_serve(edition: &Edition, trip: &Trip, front: &Construction, end: usize, number: u32) -> bool
     requires rises { next_start trip.now front.now < end }
     requires within { end ≤ count trip.now }
     ensures { result ≡ may_serve edition.now trip.now front.now end number }
 {
-    runs_either(trip, next_start(trip, front), end, edition.fare_at(number))
+    let start = next_start(trip, front);
+    applicable(edition, trip, start, end, number, false).is_some()
+        || applicable(edition, trip, start, end, number, true).is_some()
 }
 
 /// Where a part that comes after some starts.
@@ -97,7 +87,7 @@ fn is_fruitless(edition: &Edition, parts: &[Part]) -> bool
 }
 
 /// Whether a part shares its unit with an earlier one, and the fare of one of the two is one way.
-#[tactic(auto, using(crate::proofs::Ranges::any_next, crate::proofs::Ranges::any_none))]
+#[tactic(auto, using(fare_rules::proofs::NumberLemmas::any_next, fare_rules::proofs::NumberLemmas::any_done))]
 fn mixes(edition: &Edition, parts: &[Part], k: usize) -> bool
     ensures { result ≡ mixes edition.now parts.now k }
 {

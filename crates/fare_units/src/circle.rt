@@ -6,9 +6,10 @@ ghost use Rattle.fare_trip.specs.Itinerary.{count};
 ghost use Rattle.fare_rules.specs.Numbers.{greater, greatest_of};
 ghost use Rattle.fare_rules.specs.Span.{stopovers};
 ghost use Rattle.fare_rules.specs.Construction.{own};
-ghost use Rattle.fare_rules.specs.Circle.{holds_sector, is_own_sector, own_sectors, reference_from_origin, circle_reference, part_stopovers, greatest_turning, greatest_in_part, unit_circle_minimum, circle_minimum, twice};
+ghost use Rattle.fare_rules.specs.Circle.{holds_sector, is_own_sector, own_sectors, reference_from_origin, circle_reference, unit_circle_minimum, circle_minimum, twice};
 ghost use Rattle.fare_units.specs.Advance.{Advances};
 ghost use Rattle.fare_units.specs.Places.{IsPlace, ArePlaces};
+ghost use Rattle.fare_units.specs.Turning.{is_left_out, greatest_without};
 
 use crate::fares::fare_of;
 use crate::own::{last_of, own};
@@ -175,79 +176,61 @@ fn greatest_in_span(
     greater(inside, circle_reference(edition, trip, parts, own, k, b))
 }
 
-/// The greatest reference to an interior stopover or the end of a part.
-fn greatest_in_part(
+/// Whether a part is the one whose end is left out, where there is one.
+fn is_left_out(left_out: Option<usize>, k: usize) -> bool
+    ensures { result ≡ is_left_out left_out k }
+{
+    match left_out {
+        None => false,
+        Some(one) => k == one,
+    }
+}
+
+/// The greatest reference to an interior stopover of a part, or to its end but where that is left out.
+fn greatest_without(
     edition: &Edition,
     trip: &Trip,
     parts: &[Part],
     own: &[usize],
+    left_out: Option<usize>,
     k: usize,
 ) -> Option<Nuc>
     requires advances { Advances trip.now parts.now }
     requires place { IsPlace parts.now k }
-    ensures value { result ≡ greatest_in_part edition.now trip.now parts.now own.now k }
+    ensures value { result ≡ greatest_without edition.now trip.now parts.now own.now left_out k }
     ensures bound { IfSome result (λ amount. amount < 10 ^ 9) }
 {
     let a = start_of(trip, parts, k);
     let b = end_of(parts, k);
+    if is_left_out(left_out, k) {
+        return greatest_stopover(edition, trip, parts, own, k, a, b);
+    }
     greatest_in_span(edition, trip, parts, own, k, a, b)
 }
 
-/// The greatest reference to an interior stopover of a part.
-fn greatest_inside_part(
-    edition: &Edition,
-    trip: &Trip,
-    parts: &[Part],
-    own: &[usize],
-    k: usize,
-) -> Option<Nuc>
-    requires advances { Advances trip.now parts.now }
-    requires place { IsPlace parts.now k }
-    ensures value { result ≡ greatest_of (circle_reference edition.now trip.now parts.now own.now k) (part_stopovers trip.now parts.now k) }
-    ensures bound { IfSome result (λ amount. amount < 10 ^ 9) }
-{
-    let a = start_of(trip, parts, k);
-    let b = end_of(parts, k);
-    greatest_stopover(edition, trip, parts, own, k, a, b)
-}
-
-/// The greatest reference to a stopover point of a circle trip in a part: an interior stopover, or the end but where it is
-/// the unit's last part.
-#[tactic(auto, using(crate::proofs::CircleSteps::turning_last, crate::proofs::CircleSteps::turning_other))]
-fn greatest_turning(
-    edition: &Edition,
-    trip: &Trip,
-    parts: &[Part],
-    own: &[usize],
-    k: usize,
-) -> Option<Nuc>
-    requires advances { Advances trip.now parts.now }
-    requires place { IsPlace parts.now k }
-    ensures value { result ≡ greatest_turning edition.now trip.now parts.now own.now k }
-    ensures bound { IfSome result (λ amount. amount < 10 ^ 9) }
-{
-    if k == last_of(own) {
-        return greatest_inside_part(edition, trip, parts, own, k);
-    }
-    greatest_in_part(edition, trip, parts, own, k)
-}
-
-/// The greatest reference to a stopover point of a unit.
+/// The greatest reference of the parts of some places, of which the end of one may be left out.
 #[tactic(auto, using(crate::proofs::CircleSteps::greatest_left, crate::proofs::CircleSteps::greatest_done, crate::proofs::OwnLemmas::place_at))]
-fn greatest_of_unit(edition: &Edition, trip: &Trip, parts: &[Part], own: &[usize]) -> Option<Nuc>
+fn greatest_in_all(
+    edition: &Edition,
+    trip: &Trip,
+    parts: &[Part],
+    own: &[usize],
+    left_out: Option<usize>,
+) -> Option<Nuc>
     requires advances { Advances trip.now parts.now }
     requires places { ArePlaces parts.now own.now }
-    ensures value { result ≡ greatest_of (greatest_turning edition.now trip.now parts.now own.now) own.now }
+    ensures value { result ≡ greatest_of (greatest_without edition.now trip.now parts.now own.now left_out) own.now }
     ensures bound { IfSome result (λ amount. amount < 10 ^ 9) }
 {
     let mut found = None;
     for i in 0..own.len() {
-        found = greater(found, greatest_turning(edition, trip, parts, own, own[i]));
+        let here = greatest_without(edition, trip, parts, own, left_out, own[i]);
+        found = greater(found, here);
     }
     found
 }
 
-/// The circle minimum of a unit.
+/// The circle minimum of a unit, whose last part ends at home: that end is no stopover point.
 #[tactic(auto, unfolding(fare_rules::specs::Circle::unit_circle_minimum))]
 pub(crate) fn unit_circle_minimum(
     edition: &Edition,
@@ -260,32 +243,18 @@ pub(crate) fn unit_circle_minimum(
     ensures value { result ≡ unit_circle_minimum edition.now trip.now parts.now own.now }
     ensures bound { IfSome result (λ amount. amount < 2 * 10 ^ 9) }
 {
-    twice(greatest_of_unit(edition, trip, parts, own))
+    let home = Some(last_of(own));
+    twice(greatest_in_all(edition, trip, parts, own, home))
 }
 
-/// The greatest reference to an interior stopover or the end of a part of some places.
-#[tactic(auto, using(crate::proofs::CircleSteps::greatest_left, crate::proofs::CircleSteps::greatest_done, crate::proofs::OwnLemmas::place_at))]
-fn greatest_in_all(edition: &Edition, trip: &Trip, parts: &[Part], own: &[usize]) -> Option<Nuc>
-    requires advances { Advances trip.now parts.now }
-    requires places { ArePlaces parts.now own.now }
-    ensures value { result ≡ greatest_of (greatest_in_part edition.now trip.now parts.now own.now) own.now }
-    ensures bound { IfSome result (λ amount. amount < 10 ^ 9) }
-{
-    let mut found = None;
-    for i in 0..own.len() {
-        found = greater(found, greatest_in_part(edition, trip, parts, own, own[i]));
-    }
-    found
-}
-
-/// Twice the greatest reference of some places.
+/// The circle minimum over the parts of some places.
 #[tactic(auto, unfolding(fare_rules::specs::Circle::circle_minimum))]
 fn minimum_in_all(edition: &Edition, trip: &Trip, parts: &[Part], own: &[usize]) -> Option<Nuc>
     requires advances { Advances trip.now parts.now }
     requires places { ArePlaces parts.now own.now }
     ensures { result ≡ circle_minimum edition.now trip.now parts.now own.now }
 {
-    twice(greatest_in_all(edition, trip, parts, own))
+    twice(greatest_in_all(edition, trip, parts, own, None))
 }
 
 /// The circle minimum over the parts that are given of a unit: twice the greatest reference from the unit's origin to an

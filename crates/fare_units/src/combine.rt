@@ -37,7 +37,7 @@ fn is_misfit(edition: &Edition, parts: &[Part], k: usize, j: usize) -> bool
 }
 
 /// Whether a part has an earlier part of its unit with which it is not combinable.
-#[tactic(auto, using(crate::proofs::Ranges::any_next, crate::proofs::Ranges::any_none))]
+#[tactic(auto, using(fare_rules::proofs::NumberLemmas::any_next, fare_rules::proofs::NumberLemmas::any_done))]
 fn has_misfit(edition: &Edition, parts: &[Part], k: usize) -> bool
     ensures { result ≡ has_misfit edition.now parts.now k }
 {
@@ -64,7 +64,7 @@ fn is_clash(edition: &Edition, parts: &[Part], k: usize, j: usize) -> bool
 }
 
 /// Whether a part has an earlier part of another unit with which it is not combinable end on end.
-#[tactic(auto, using(crate::proofs::Ranges::any_next, crate::proofs::Ranges::any_none))]
+#[tactic(auto, using(fare_rules::proofs::NumberLemmas::any_next, fare_rules::proofs::NumberLemmas::any_done))]
 fn clashes(edition: &Edition, parts: &[Part], k: usize) -> bool
     ensures { result ≡ clashes edition.now parts.now k }
 {
@@ -77,7 +77,7 @@ fn clashes(edition: &Edition, parts: &[Part], k: usize) -> bool
 }
 
 /// The first part that is not combinable end on end with an earlier part of another unit.
-#[tactic(auto, using(crate::proofs::Ranges::find_next, crate::proofs::Ranges::find_none), unfolding(fare_rules::specs::UnitRules::clashed))]
+#[tactic(auto, using(fare_rules::proofs::NumberLemmas::find_next, fare_rules::proofs::NumberLemmas::find_done), unfolding(fare_rules::specs::UnitRules::clashed))]
 pub(crate) fn clashed(edition: &Edition, parts: &[Part]) -> Option<u8>
     requires { length parts.now ≤ 16 }
     ensures { result ≡ clashed edition.now parts.now }

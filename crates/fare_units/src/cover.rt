@@ -16,7 +16,7 @@ pub(crate) fn is_misended(trip: &Trip, parts: &[Part], k: usize) -> bool
 }
 
 /// Where the parts do not cover the trip.
-#[tactic(auto, using(crate::proofs::Ranges::find_next, crate::proofs::Ranges::find_none), unfolding(fare_rules::specs::Construction::uncovered))]
+#[tactic(auto, using(fare_rules::proofs::NumberLemmas::find_next, fare_rules::proofs::NumberLemmas::find_done), unfolding(fare_rules::specs::Construction::uncovered))]
 pub(crate) fn uncovered(trip: &Trip, parts: &[Part]) -> Option<u8>
     requires { length parts.now ≤ 16 }
     ensures { result ≡ uncovered trip.now parts.now }
@@ -54,7 +54,7 @@ pub(crate) fn is_misnumbered(parts: &[Part], k: usize) -> bool
 }
 
 /// The first part whose unit number is out of order.
-#[tactic(auto, using(crate::proofs::Ranges::find_next, crate::proofs::Ranges::find_none), unfolding(fare_rules::specs::Construction::misnumbered))]
+#[tactic(auto, using(fare_rules::proofs::NumberLemmas::find_next, fare_rules::proofs::NumberLemmas::find_done), unfolding(fare_rules::specs::Construction::misnumbered))]
 pub(crate) fn misnumbered(parts: &[Part]) -> Option<u8>
     requires { length parts.now ≤ 16 }
     ensures { result ≡ misnumbered parts.now }

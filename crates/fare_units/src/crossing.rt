@@ -14,7 +14,7 @@ pub(crate) fn is_same_unit(parts: &[Part], a: usize, b: usize) -> bool
 }
 
 /// Whether a part `c` belongs to another unit than `b`, and some part before `b` belongs to the unit of `c`.
-#[tactic(auto, using(crate::proofs::Ranges::any_next, crate::proofs::Ranges::any_none))]
+#[tactic(auto, using(fare_rules::proofs::NumberLemmas::any_next, fare_rules::proofs::NumberLemmas::any_done))]
 fn is_begun_before(parts: &[Part], b: usize, c: usize) -> bool
     ensures { result ≡ is_begun_before parts.now b c }
 {
@@ -30,7 +30,7 @@ fn is_begun_before(parts: &[Part], b: usize, c: usize) -> bool
 }
 
 /// Whether a part `b` belongs to the unit of `d`, and between them stands one of another unit that began before `b`.
-#[tactic(auto, using(crate::proofs::Ranges::any_next, crate::proofs::Ranges::any_none))]
+#[tactic(auto, using(fare_rules::proofs::NumberLemmas::any_next, fare_rules::proofs::NumberLemmas::any_done))]
 fn is_straddled(parts: &[Part], d: usize, b: usize) -> bool
     requires { b < d }
     ensures { result ≡ is_straddled parts.now d b }
@@ -47,7 +47,7 @@ fn is_straddled(parts: &[Part], d: usize, b: usize) -> bool
 }
 
 /// Whether a part crosses another unit.
-#[tactic(auto, using(crate::proofs::Ranges::any_next, crate::proofs::Ranges::any_none))]
+#[tactic(auto, using(fare_rules::proofs::NumberLemmas::any_next, fare_rules::proofs::NumberLemmas::any_done))]
 pub(crate) fn is_crossed(parts: &[Part], d: usize) -> bool
     ensures { result ≡ is_crossed parts.now d }
 {
@@ -60,7 +60,7 @@ pub(crate) fn is_crossed(parts: &[Part], d: usize) -> bool
 }
 
 /// The first part that crosses another unit.
-#[tactic(auto, using(crate::proofs::Ranges::find_next, crate::proofs::Ranges::find_none), unfolding(fare_rules::specs::Shape::crossed))]
+#[tactic(auto, using(fare_rules::proofs::NumberLemmas::find_next, fare_rules::proofs::NumberLemmas::find_done), unfolding(fare_rules::specs::Shape::crossed))]
 pub(crate) fn crossed(parts: &[Part]) -> Option<u8>
     requires { length parts.now ≤ 16 }
     ensures { result ≡ crossed parts.now }

@@ -5,10 +5,10 @@ ghost use Rattle.fare_rules.specs.Direction.{heads_home, goes_back, priced_back,
 ghost use Rattle.fare_rules.specs.Shape.{lie_together};
 ghost use Rattle.fare_units.specs.Advance.{Advances};
 
+use crate::countries::lie_together;
 use crate::fares::is_hr;
 use crate::own::{last_of, own};
 use crate::places::{end_city, start_city, unit_of};
-use crate::same::lie_together;
 use crate::shape::origin;
 use fare_codes::City;
 use fare_rules::Part;
@@ -71,7 +71,7 @@ pub(crate) fn is_back_in(
 }
 
 /// Whether a part is priced back in its unit.
-pub(crate) fn is_back(edition: &Edition, trip: &Trip, parts: &[Part], k: usize) -> bool
+pub fn is_back(edition: &Edition, trip: &Trip, parts: &[Part], k: usize) -> bool
     requires few { length parts.now ≤ 16 }
     requires advances { Advances trip.now parts.now }
     ensures { result ≡ is_back edition.now trip.now parts.now k }

@@ -29,7 +29,7 @@ fn is_unfiled(edition: &Edition, parts: &[Part], k: usize) -> bool
 }
 
 /// The first part whose fare is not filed.
-#[tactic(auto, using(crate::proofs::Ranges::find_next, crate::proofs::Ranges::find_none), unfolding(fare_rules::specs::Construction::unfiled))]
+#[tactic(auto, using(fare_rules::proofs::NumberLemmas::find_next, fare_rules::proofs::NumberLemmas::find_done), unfolding(fare_rules::specs::Construction::unfiled))]
 pub(crate) fn unfiled(edition: &Edition, parts: &[Part]) -> Option<u8>
     requires { length parts.now ≤ 16 }
     ensures { result ≡ unfiled edition.now parts.now }

@@ -3,7 +3,7 @@
 ghost use Rattle.std.specs.Prelude.{◌≡◌, ◌≤◌, length};
 ghost use Rattle.fare_rules.specs.Numbers.{first_given};
 ghost use Rattle.fare_units.specs.Advance.{Advances};
-ghost use Rattle.fare_units.specs.Breaks.{breaks_from_distinct, breaks_from_mileage};
+ghost use Rattle.fare_units.specs.Breaks.{breaks_from};
 ghost use Rattle.fare_rules.specs.Lawful.{broken_at, first_broken, lawful_price};
 
 use crate::combine::clashed;
@@ -29,11 +29,11 @@ fn broken_at(rule: u8, place: u8) -> Broken
 }
 
 /// The first broken one of the rules from Mileage on.
-#[tactic(auto, unfolding(crate::specs::Breaks::breaks_from_mileage, fare_rules::specs::UnitRules::mistimed, fare_rules::specs::UnitRules::misfitted))]
+#[tactic(auto, unfolding(fare_rules::specs::Lawful::breaks, fare_rules::specs::UnitRules::mistimed, fare_rules::specs::UnitRules::misfitted))]
 fn first_from_mileage(edition: &Edition, trip: &Trip, parts: &[Part]) -> Option<Broken>
     requires few { length parts.now ≤ 16 }
     requires advances { Advances trip.now parts.now }
-    ensures { result ≡ first_given (breaks_from_mileage edition.now trip.now parts.now) }
+    ensures { result ≡ first_given (breaks_from 16 edition.now trip.now parts.now) }
 {
     if let Some(k) = first_part(edition, trip, parts, PartRule::Mileage) {
         return Some(broken_at(16, k));
@@ -60,11 +60,11 @@ fn first_from_mileage(edition: &Edition, trip: &Trip, parts: &[Part]) -> Option<
 }
 
 /// The first broken one of the rules from Distinct on.
-#[tactic(auto, unfolding(crate::specs::Breaks::breaks_from_distinct))]
+#[tactic(auto, unfolding(fare_rules::specs::Lawful::breaks))]
 fn first_from_distinct(edition: &Edition, trip: &Trip, parts: &[Part]) -> Option<Broken>
     requires few { length parts.now ≤ 16 }
     requires advances { Advances trip.now parts.now }
-    ensures { result ≡ first_given (breaks_from_distinct edition.now trip.now parts.now) }
+    ensures { result ≡ first_given (breaks_from 8 edition.now trip.now parts.now) }
 {
     if let Some(k) = first_part(edition, trip, parts, PartRule::Distinct) {
         return Some(broken_at(8, k));
@@ -94,7 +94,7 @@ fn first_from_distinct(edition: &Edition, trip: &Trip, parts: &[Part]) -> Option
 }
 
 /// The first rule that a list of parts breaks, at its least place.
-#[tactic(auto, using(crate::proofs::UnitLemmas::advances_of_cover), unfolding(fare_rules::specs::Lawful::first_broken, fare_rules::specs::Lawful::breaks, crate::specs::Breaks::breaks_from_distinct, crate::specs::Breaks::breaks_from_mileage, fare_rules::specs::Shape::mixed, fare_rules::specs::Shape::unchained, fare_rules::specs::Shape::unclosed))]
+#[tactic(auto, using(crate::proofs::UnitLemmas::advances_of_cover), unfolding(fare_rules::specs::Lawful::first_broken, fare_rules::specs::Lawful::breaks, fare_rules::specs::Shape::mixed, fare_rules::specs::Shape::unchained, fare_rules::specs::Shape::unclosed))]
 fn first_broken(edition: &Edition, trip: &Trip, parts: &[Part]) -> Option<Broken>
     requires { length parts.now ≤ 16 }
     ensures { result ≡ first_broken edition.now trip.now parts.now }

@@ -14,7 +14,7 @@ ghost use Rattle.fare_units.specs.Tests.{fare_passes, span_breaks, part_breaks};
 use crate::direction::is_back;
 use crate::fares::fare_of;
 use crate::places::{end_of, start_of};
-use crate::spans::{
+use fare_component::conditions::{
     advance_holds, covers_cabins, covers_carriers, excess_holds, has_indicator, holds_surface,
     in_season, mileage_holds, repeats_city, runs_between, stops_hold, transfers_hold,
 };
@@ -146,7 +146,7 @@ fn part_breaks(edition: &Edition, trip: &Trip, parts: &[Part], rule: PartRule, k
 }
 
 /// The first part that breaks a rule.
-#[tactic(auto, using(crate::proofs::Ranges::find_next, crate::proofs::Ranges::find_none))]
+#[tactic(auto, using(fare_rules::proofs::NumberLemmas::find_next, fare_rules::proofs::NumberLemmas::find_done))]
 pub(crate) fn first_part(
     edition: &Edition,
     trip: &Trip,
@@ -200,7 +200,7 @@ fn is_mispaired(edition: &Edition, trip: &Trip, parts: &[Part], k: usize) -> boo
 }
 
 /// The first part whose fare does not run between its ends in the part's direction.
-#[tactic(auto, using(crate::proofs::Ranges::find_next, crate::proofs::Ranges::find_none))]
+#[tactic(auto, using(fare_rules::proofs::NumberLemmas::find_next, fare_rules::proofs::NumberLemmas::find_done))]
 pub(crate) fn mispaired(edition: &Edition, trip: &Trip, parts: &[Part]) -> Option<u8>
     requires few { length parts.now ≤ 16 }
     requires advances { Advances trip.now parts.now }

@@ -10,7 +10,7 @@ use fare_rules::Part;
 use fare_trip::Trip;
 
 /// The part at a place; one of zeros where no part has the place.
-pub(crate) fn part_at(parts: &[Part], k: usize) -> Part
+pub fn part_at(parts: &[Part], k: usize) -> Part
     ensures { result ≡ part_at parts.now k }
 {
     match parts.get(k.saturating_sub(1)) {
@@ -54,7 +54,7 @@ pub(crate) fn begin_after(trip: &Trip, e: usize) -> usize
 }
 
 /// The point where a part starts.
-pub(crate) fn start_of(trip: &Trip, parts: &[Part], k: usize) -> usize
+pub fn start_of(trip: &Trip, parts: &[Part], k: usize) -> usize
     ensures value { result ≡ start_of trip.now parts.now k }
     ensures small { result ≤ 256 }
 {

@@ -5,13 +5,13 @@ ghost use Rattle.fare_rules.specs.Construction.{origin};
 ghost use Rattle.fare_rules.specs.Shape.{follows, is_chained, ends_in, comes_home, comes_home_early, ends_at_home, closes, is_only_gap, is_jaw, is_open_jaw, must_close, holds_ow};
 ghost use Rattle.fare_units.specs.Advance.{Advances};
 
+use crate::countries::lie_together;
 use crate::fares::{holds_ow, is_hr};
 use crate::own::{first_of, last_of};
 use crate::places::{end_city, start_city};
-use crate::same::{lie_together, same_cities};
 use fare_codes::City;
 use fare_rules::Part;
-use fare_tariff::Edition;
+use fare_tariff::{Edition, same_cities};
 use fare_trip::Trip;
 
 /// The origin of a unit: the city where its first part begins.

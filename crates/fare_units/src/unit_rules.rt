@@ -47,7 +47,7 @@ fn unit_breaks(edition: &Edition, trip: &Trip, parts: &[Part], rule: UnitRule, u
 }
 
 /// The first unit that breaks a rule.
-#[tactic(auto, using(crate::proofs::Ranges::find_next, crate::proofs::Ranges::find_none))]
+#[tactic(auto, using(fare_rules::proofs::NumberLemmas::find_next, fare_rules::proofs::NumberLemmas::find_done))]
 pub(crate) fn first_unit(
     edition: &Edition,
     trip: &Trip,

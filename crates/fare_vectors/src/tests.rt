@@ -1,3 +1,4 @@
+mod answers;
 mod parts;
 mod spans;
 mod texts;

@@ -4,4 +4,5 @@ pub mod Words
 pub mod Input
 pub mod Quotation
 pub mod Outcome
+pub mod Steps
 pub mod Run

@@ -1,7 +1,6 @@
--- What a run ends in, where its source tells its bytes.
-use Rattle.std.specs.Prelude.{◌≡◌, ◌⊎◌, ℕ, List, [], Option, option_map, Vec, Result, Ok, Err, MatchResult, MatchOption, MatchBool, nat_lt, length, ⊤}
-use Rattle.std.specs.Io.KnownBytes.{Appends}
-use Rattle.fare_outside.specs.Sink.{AppendsPrefix}
+-- What a run answers to its words and the bytes of its source. Each definition looks at one thing, in the order in which the
+-- refusals come: the words, the length of the source, its tariff, its itinerary, the sale day, the places, and the constructions.
+use Rattle.std.specs.Prelude.{◌≡◌, ℕ, List, Option, option_map, Result, Ok, Err, MatchResult, MatchOption, MatchBool, nat_lt, length}
 use Rattle.fare_codes.specs.Day.{day_number}
 use Rattle.fare_trip.specs.Itinerary.{Itinerary}
 use Rattle.fare_trip.specs.declared.fault.TripFault.{TripFault}
@@ -20,53 +19,54 @@ use Rattle.fares.specs.Quotation.{quotation}
 abbrev pub Answer : Type 0
 Answer = Result (List ℕ) Exit
 
--- the price of a construction that has one
+-- the price of a construction that stands with its price
 abbrev pub price_of : List Part × ℕ → ℕ
-price_of best = best.1
+price_of priced = priced.1
 
--- a total is the price of the best construction of a trip in an edition, or nothing where none is lawful
+-- a total is the price of the best construction of a trip in an edition, and there is none exactly where none is lawful
 abbrev pub IsBestTotal : Tariff → Itinerary → Option ℕ → Type 0
 IsBestTotal tariff trip total =
     (best : Option (List Part × ℕ)) × IsBestAnswer tariff trip best × (total ≡ option_map price_of best)
 
--- the answer to a trip whose places an edition knows: the quotation of the best total
-abbrev pub IsBestQuoted : Tariff → Itinerary → Answer → Type 0
-IsBestQuoted tariff trip answer =
+-- the answer to a trip all of whose places the edition knows: the quotation of the best total
+abbrev pub AnswersPlacedTrip : Tariff → Itinerary → Answer → Type 0
+AnswersPlacedTrip tariff trip answer =
     (total : Option ℕ) × IsBestTotal tariff trip total × (answer ≡ Ok (quotation tariff total))
 
--- the answer to a trip in an edition that its sale day selects: the first of its points that isn't known, or the quotation
-abbrev pub IsPlacedQuoted : Tariff → Itinerary → Answer → Type 0
-IsPlacedQuoted tariff trip answer =
-    MatchOption (placed tariff trip) (IsBestQuoted tariff trip answer) (λ city. answer ≡ Err (ended.UnknownPlace city))
+-- the answer to a trip whose sale day selects the edition: `UnknownPlace` of the first point that the edition doesn't know,
+-- if there is one
+abbrev pub AnswersSelectedTrip : Tariff → Itinerary → Answer → Type 0
+AnswersSelectedTrip tariff trip answer =
+    MatchOption (placed tariff trip) (AnswersPlacedTrip tariff trip answer) (λ city. answer ≡ Err (ended.UnknownPlace city))
 
--- the answer to a trip in one edition: no edition is selected where it isn't effective by the sale day
-unfoldable pub IsQuoted : Tariff → Itinerary → Answer → Type 0
-IsQuoted tariff trip answer =
+-- the answer to a trip: `NoEdition` where the edition isn't effective by the sale day
+unfoldable pub AnswersTrip : Tariff → Itinerary → Answer → Type 0
+AnswersTrip tariff trip answer =
     MatchBool (nat_lt (day_number trip.sale) (day_number tariff.effective))
-    (answer ≡ Err (ended.NoEdition trip.sale)) (IsPlacedQuoted tariff trip answer)
+    (answer ≡ Err (ended.NoEdition trip.sale)) (AnswersSelectedTrip tariff trip answer)
 
--- the answer to an itinerary in one edition
-abbrev pub IsTripQuoted : Result Itinerary TripFault → Tariff → Answer → Type 0
-IsTripQuoted itinerary tariff answer =
-    MatchResult itinerary (λ trip. IsQuoted tariff trip answer) (λ fault. answer ≡ Err (ended.BadTrip fault))
+-- the answer to an itinerary: `BadTrip` of its first fault, if it has one
+abbrev pub AnswersItinerary : Tariff → Result Itinerary TripFault → Answer → Type 0
+AnswersItinerary tariff itinerary answer =
+    MatchResult itinerary (λ trip. AnswersTrip tariff trip answer) (λ fault. answer ≡ Err (ended.BadTrip fault))
 
--- the answer to a source of `price`: its tariff is looked at before its itinerary
-unfoldable pub IsPriced : List ℕ → Answer → Type 0
-IsPriced source answer =
+-- the answer to a source that isn't too long: `BadTariff` of the first fault of its tariff text, if that has one
+unfoldable pub AnswersSource : List ℕ → Answer → Type 0
+AnswersSource source answer =
     MatchResult (edition_of (tariff_text source))
-    (λ tariff. IsTripQuoted (itinerary_of (itinerary_text source)) tariff answer)
+    (λ tariff. AnswersItinerary tariff (itinerary_of (itinerary_text source)) answer)
     (λ fault. answer ≡ Err (ended.BadTariff fault))
 
 -- the most bytes that the source of `price` may hold
 abbrev pub price_limit : ℕ
 price_limit = 16_842_752
 
--- the answer to a source of `price` of any length
-abbrev pub IsPricedWithin : List ℕ → Answer → Type 0
-IsPricedWithin source answer =
-    MatchBool (nat_lt price_limit (length source)) (answer ≡ Err ended.Limit) (IsPriced source answer)
+-- the answer to the source of `price`: `Limit` where it holds more bytes than that
+abbrev pub AnswersPrice : List ℕ → Answer → Type 0
+AnswersPrice source answer =
+    MatchBool (nat_lt price_limit (length source)) (answer ≡ Err ended.Limit) (AnswersSource source answer)
 
--- the answer to words and a source
+-- the answer to words and a source: `NotYet` where the words aren't taken
 abbrev pub IsOutcome : List (List ℕ) → List ℕ → Answer → Type 0
 IsOutcome words source answer =
-    MatchBool (is_price words) (IsPricedWithin source answer) (answer ≡ Err ended.NotYet)
+    MatchBool (is_price words) (AnswersPrice source answer) (answer ≡ Err ended.NotYet)

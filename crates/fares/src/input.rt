@@ -4,7 +4,7 @@ ghost use Rattle.std.specs.Prelude.{◌≡◌, ◌+◌, ◌≤◌, length, drop}
 ghost use Rattle.std.specs.List.{position_or_len};
 ghost use Rattle.fares.specs.declared.exit.Exit.TheVariants.{BadTariff, BadTrip};
 ghost use Rattle.fares.specs.Input.{is_line_feed, itinerary_text, tariff_text, itinerary_of};
-ghost use Rattle.fares.specs.Run.{Reads};
+ghost use Rattle.fares.specs.Steps.{HandsOn};
 ghost use Rattle.fare_csv.specs.TariffText.{edition_of};
 
 use crate::exit::Exit;
@@ -52,7 +52,7 @@ fn behind(text: &[u8], place: usize) -> &[u8]
 /// The edition of a tariff text.
 #[tactic(auto, unfolding(fare_csv::specs::Fields::Gives, fare_csv::specs::Fields::GivesFault))]
 pub fn edition_in<R: Threads + Sync>(rt: &R, alloc: Global, text: &[u8]) -> Result<Edition, Exit>
-    ensures { Reads BadTariff (edition_of text.now) result }
+    ensures { HandsOn BadTariff (edition_of text.now) result }
 {
     match read_edition(rt, alloc, text) {
         Ok(edition) => Ok(edition),
@@ -64,7 +64,7 @@ pub fn edition_in<R: Threads + Sync>(rt: &R, alloc: Global, text: &[u8]) -> Resu
 /// The trip of an itinerary text, a short line or JSON.
 #[tactic(auto, unfolding(crate::specs::Input::itinerary_of))]
 pub fn trip_in(alloc: Global, text: &[u8]) -> Result<Trip, Exit>
-    ensures { Reads BadTrip (itinerary_of text.now) result }
+    ensures { HandsOn BadTrip (itinerary_of text.now) result }
 {
     let reading = if text.starts_with(b"TRIP,") {
         read_short(text)

@@ -1,6 +1,6 @@
-ghost use Rattle.std.specs.Prelude.{IfOk};
-ghost use Rattle.fares.specs.Outcome.{IsBestTotal, IsQuoted};
-ghost use Rattle.fares.specs.Run.{Answers};
+ghost use Rattle.std.specs.Prelude.{IfErr, IfOk};
+ghost use Rattle.fares.specs.Outcome.{AnswersTrip, IsBestTotal};
+ghost use Rattle.fares.specs.Steps.{Answers, IsEndOnceRead};
 
 use crate::exit::Exit;
 use crate::quotation::quotation;
@@ -15,14 +15,15 @@ use std::thread::Threads;
 /// Quotes a trip in an edition: the total of its first least-priced lawful construction, or `NO FARE` exactly where
 /// none is lawful. `NoEdition` comes exactly where the edition isn't effective by the sale day, and then `UnknownPlace`
 /// exactly where the edition doesn't know a point, with the first such.
-#[tactic(auto, unfolding(crate::specs::Outcome::IsQuoted))]
+#[tactic(auto, unfolding(crate::specs::Outcome::AnswersTrip))]
 pub fn quote<R: Threads + Sync>(
     rt: &R,
     alloc: Global,
     edition: &Edition,
     trip: &Trip,
 ) -> Result<Vec<u8>, Exit>
-    ensures { Answers (IsQuoted edition.now trip.now) result }
+    ensures answer { Answers (AnswersTrip edition.now trip.now) result }
+    ensures ends { IfErr result IsEndOnceRead }
 {
     let sale = trip.sale();
     if sale.number() < edition.effective().number() {

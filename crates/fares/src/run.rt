@@ -1,11 +1,12 @@
-ghost use Rattle.std.specs.Prelude.{◌≡◌, ◌⊎◌, map, string_bytes, IfSome};
-ghost use Rattle.std.specs.Bool.{OnFalse};
+ghost use Rattle.std.specs.Prelude.{◌≡◌, ◌⊎◌, ◌+◌, ◌≤◌, map, string_bytes, IfSome};
+ghost use Rattle.std.specs.Bool.{OnTrue, OnFalse};
 ghost use Rattle.std.specs.Io.KnownBytes.{Appends};
 ghost use Rattle.fare_outside.specs.Cause.{Rose};
+ghost use Rattle.fare_outside.specs.Source.{TakesUpTo, TakesJust};
 ghost use Rattle.fare_outside.specs.Sink.{AppendsPrefix};
 ghost use Rattle.fares.specs.Words.{is_price};
-ghost use Rattle.fares.specs.Outcome.{IsOutcome};
-ghost use Rattle.fares.specs.Run.{EndsIn, IsSilent, WritesNothing};
+ghost use Rattle.fares.specs.Outcome.{price_limit, IsOutcome};
+ghost use Rattle.fares.specs.Run.{EndsIn, IsSilent, IsEndOfPrice};
 
 use crate::exit::Exit;
 use crate::price::{PRICE_LIMIT, price};
@@ -16,9 +17,10 @@ use std::thread::Threads;
 
 /// The whole program, over any source, sink, store, door and gate: does what the words ask, and says how it ended.
 ///
-/// `ReadFault` and `WriteFault` come only where the source's and the sink's count rose in this call. Where the source
-/// tells its bytes, every other answer but want of memory is the one that the words and those bytes define. All text is
-/// built before the first write, so nothing is written on any answer but `Done` and, a prefix, `WriteFault`.
+/// Where the source tells its bytes, the run ends in the answer that the words and those bytes define, or in want of
+/// memory, `ReadFault` or `WriteFault`; the last two come only where the source's and the sink's count rose in this
+/// call. All text is built before the first write, so the sink is left alone on every end but `Done` and `WriteFault`.
+/// Words that aren't taken end in `NotYet`, with the source left alone too.
 pub fn run<R: Threads + Sync, S: Source, K: Sink, P: Keeper, D: Door, G: Gate>(
     rt: &R,
     alloc: Global,
@@ -30,11 +32,20 @@ pub fn run<R: Threads + Sync, S: Source, K: Sink, P: Keeper, D: Door, G: Gate>(
     gate: &G,
 ) -> Exit
     ensures answer { IfSome (S.left src.old) (λ source. EndsIn (IsOutcome (map string_bytes words.now) source) result (K.taken out.old) (K.taken out.new)) }
-    ensures not_taken { OnFalse (is_price (map string_bytes words.now)) (result ≡ Exit.NotYet) }
 
+    // Which ends there are, and why each comes, whether the source tells its bytes or not.
+    ensures not_taken { OnFalse (is_price (map string_bytes words.now)) (result ≡ Exit.NotYet) }
+    ensures taken { OnTrue (is_price (map string_bytes words.now)) (IsEndOfPrice result) }
+    ensures limit { result ≡ Exit.Limit → TakesJust (price_limit + 1) (S.left src.old) (S.left src.new) }
     ensures read_fault { result ≡ Exit.ReadFault → Rose (S.faults src.old) (S.faults src.new) }
     ensures write_fault { result ≡ Exit.WriteFault → Rose (K.faults out.old) (K.faults out.new) }
-    ensures silent { IsSilent result → WritesNothing (K.taken out.old) (K.taken out.new) }
+
+    // What is left alone.
+    ensures untouched { OnFalse (is_price (map string_bytes words.now)) (src.new ≡ src.old) }
+    ensures source { TakesUpTo (price_limit + 1) (S.left src.old) (S.left src.new) }
+    ensures source_count { S.faults src.old ≤ S.faults src.new }
+    ensures silent { IsSilent result → out.new ≡ out.old }
+    ensures sink_count { K.faults out.old ≤ K.faults out.new }
     ensures store { store.new ≡ store.old }
     ensures door { door.new ≡ door.old }
 {
@@ -59,6 +70,7 @@ fn written<K: Sink>(out: &mut K, text: &[u8]) -> Exit
     ensures whole { result ≡ Exit.Done → Appends (K.taken out.old) (K.taken out.new) text.now }
     ensures prefix { result ≡ Exit.WriteFault → AppendsPrefix (K.taken out.old) (K.taken out.new) text.now }
     ensures cause { result ≡ Exit.WriteFault → Rose (K.faults out.old) (K.faults out.new) }
+    ensures never_falls { K.faults out.old ≤ K.faults out.new }
 {
     match write_all(out, text) {
         Ok(()) => Exit::Done,

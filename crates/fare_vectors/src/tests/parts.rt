@@ -5,6 +5,7 @@ ghost use Rattle.fare_rules.specs.Lawful.{lawful_price};
 
 mod first;
 mod fourth;
+mod rows;
 mod second;
 mod third;
 
@@ -18,6 +19,7 @@ use fare_units::{
 };
 use first::FIRST;
 use fourth::FOURTH;
+use rows::ROWS;
 use second::SECOND;
 use std::alloc::Global;
 use std::process::Abort;
@@ -63,7 +65,7 @@ struct PartCase {
 }
 
 /// The construction of some parts.
-fn construction(rt: &impl Abort, parts: &[(u8, u8, u32)]) -> Construction {
+pub(super) fn construction(rt: &impl Abort, parts: &[(u8, u8, u32)]) -> Construction {
     let mut made = Construction::new();
     for (end, unit, fare) in parts {
         let part = Part {
@@ -194,6 +196,11 @@ fn compare_cases<R: Threads + Sync + Abort>(
         }
     }
     Ok(())
+}
+
+#[test]
+fn the_parts_of_the_worked_tariffs_come_to_what_they_should(rt: HostRuntime) -> Result<(), Fail> {
+    compare_cases(&rt, rt.alloc(), ROWS.as_slice())
 }
 
 #[test]

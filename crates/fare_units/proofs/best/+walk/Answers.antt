@@ -1,8 +1,8 @@
-use Rattle.std.proofs.Common.{◌≡◌, ℕ, ◌+◌, ◌-◌, ◌*◌, ◌<◌, ◌≤◌, List, [], ◌∷◌, ◌++◌, length, ap, sym, subst, ◌∙◌, arith}
+use Rattle.std.proofs.Common.{◌≡◌, ◌+◌, ◌-◌, ◌*◌, ◌<◌, List, length, ap, sym, subst, ◌∙◌, arith}
 use Rattle.fare_trip.specs.Itinerary.{count}
 use Rattle.fare_rules.specs.declared.part.Part.{Part}
 use Rattle.fare_rules.specs.Construction.{end_of, greatest_unit, places}
-use Rattle.fare_units.specs.Walk.{Walks, Completes, GoesOn, EndsBefore, IsFront, may_serve, is_fruitless}
+use Rattle.fare_units.specs.Walk.{Walks, Completes, IsFront, is_fruitless}
 use Rattle.fare_units.proofs.StepLemmas.{walk_whole, walk_further, ends_none, ends_more, ends_all, fares_none, fares_more, fares_over, fares_all, units_none, units_more, units_all, part_none, part_walked}
 use Rattle.fare_units.proofs.FrontLemmas.{front_more, front_short, front_falls}
 use Rattle.fare_units.proofs.best.+walk.Goals as goal

@@ -1,4 +1,4 @@
-use Rattle.std.proofs.Common.{List, [], None, subst}
+use Rattle.std.proofs.Common.{List, None, subst}
 use Rattle.fare_rules.specs.declared.part.Part.{Part}
 use Rattle.fare_units.specs.Walk.{Walks, Completes}
 use Rattle.fare_units.proofs.StepLemmas.{best_of_walk}

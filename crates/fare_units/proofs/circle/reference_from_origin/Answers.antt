@@ -1,4 +1,4 @@
-use Rattle.std.proofs.Common.{◌≡◌, ℕ, ◌≤◌, ◌∙◌, slice_index, arith}
+use Rattle.std.proofs.Common.{◌≤◌, ◌∙◌, slice_index, arith}
 use Rattle.fare_units.proofs.CircleSteps.{own_sectors_up_to}
 use Rattle.fare_units.proofs.circle.reference_from_origin.Goals as goal
 

@@ -1,5 +1,5 @@
-use Rattle.std.proofs.Common.{◌≡◌, ◌+◌, ◌∙◌, length, filter, sym, arith}
-use Rattle.fare_rules.specs.Construction.{own, is_own, places}
+use Rattle.std.proofs.Common.{◌+◌, ◌∙◌, length, sym, arith}
+use Rattle.fare_rules.specs.Construction.{own}
 use Rattle.fare_units.proofs.OwnLemmas.{own_all, they_are_places}
 use Rattle.fare_units.proofs.own.own.Goals as goal
 

@@ -10,12 +10,12 @@ pub returns-clause-filed : goal.returns-clause-filed
 returns-clause-filed c =
     of_copied c.fare_record.result (IsFiledFare c.args.self.now) (λ fare h.
     let found : fare_at c.args.self.now c.args.number ≡ Some fare = cc in
-    let facts = filed_fare c.args.self.now c.args.number fare c.records.ensures.valid.no_fault found in
+    let facts = filed_fare c.args.self.now c.args.number fare c.records.ensures.valid found in
     facts.0)
 
 pub returns-clause-in_limit : goal.returns-clause-in_limit
 returns-clause-in_limit c =
     of_reference c.fare_record.result (c.args.number ≤ 400_001) (λ fare h.
     let found : fare_at c.args.self.now c.args.number ≡ Some fare = cc in
-    let facts = filed_fare c.args.self.now c.args.number fare c.records.ensures.valid.no_fault found in
+    let facts = filed_fare c.args.self.now c.args.number fare c.records.ensures.valid found in
     facts.1)

@@ -1,0 +1,11 @@
+pub use Rattle.fare_trip.specs.Itinerary
+pub use Rattle.fare_tariff.specs.Record
+pub use Rattle.fare_tariff.specs.Tariff
+pub use Rattle.fare_rules.specs.Construction
+pub use Rattle.fare_rules.specs.Lawful
+pub mod Line
+pub mod LineText
+pub mod PartSheets
+pub mod LineOf
+pub mod Worksheet
+pub mod Answer

@@ -1,0 +1,33 @@
+//! The calculation line of a construction: what a line is, the one text of each, and the reader of that text.
+//! A contract sees a line as its first city, its flown sectors, its parts and plus-ups, its total and its rate.
+//!
+//! Of a lawful construction: its line, its worksheet, and the text that answers a quotation with both.
+#![tactic(auto)]
+
+mod answers;
+mod composing;
+mod cost;
+mod flown;
+mod forms;
+mod letter;
+mod line;
+mod part_sheet;
+mod part_sheets;
+mod part_text;
+mod plus_up;
+mod priced_part;
+mod printing;
+mod pushing;
+mod total_text;
+mod unit_text;
+mod worksheets;
+
+pub use answers::answer_text;
+pub use composing::line_of;
+pub use flown::LineSector;
+pub use letter::Letter;
+pub use line::Line;
+pub use plus_up::PlusUp;
+pub use priced_part::LinePart;
+pub use printing::print_line;
+pub use worksheets::worksheet_text;

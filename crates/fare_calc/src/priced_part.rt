@@ -1,0 +1,45 @@
+use crate::letter::Letter;
+use fare_codes::{Cabin, Carrier, City, Kind, RuleId};
+
+/// A part of a line: a fare component with its amount, its fare and its unit.
+#[derive(Clone, Copy, Debug)]
+pub struct LinePart {
+    /// How many sectors of the line end with the part, gaps counted.
+    pub end: u8,
+    /// How the amount was found from the mileage.
+    pub letter: Letter,
+    /// The cities of the higher intermediate point, in fare direction; only behind a letter.
+    pub pair: Option<(City, City)>,
+    /// The amount in hundredths of a NUC, at most nine digits before the point.
+    pub amount: u64,
+    /// The fare's carrier.
+    pub carrier: Carrier,
+    /// The fare's class.
+    pub class: Cabin,
+    /// The fare's kind.
+    pub kind: Kind,
+    /// The fare's rule; nothing is the free rule.
+    pub rule: Option<RuleId>,
+    /// The unit, 1 to 16.
+    pub unit: u8,
+    /// The city to which the surface sector before the part leads, where there is one.
+    pub gap: Option<City>,
+}
+
+/// A part that stands in room that is not yet used.
+impl Default for LinePart {
+    fn default() -> LinePart {
+        LinePart {
+            end: 0,
+            letter: Letter::Bare,
+            pair: None,
+            amount: 0,
+            carrier: Carrier::default(),
+            class: Cabin::Y,
+            kind: Kind::OW,
+            rule: None,
+            unit: 1,
+            gap: None,
+        }
+    }
+}

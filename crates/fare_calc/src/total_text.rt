@@ -1,0 +1,98 @@
+//! The lines of a total.
+
+ghost use Rattle.std.specs.Prelude.{◌≡◌, ◌++◌, ◌<◌, ◌≤◌, IfSome, OnOk, decimal};
+ghost use Rattle.std.specs.Option.{option_copied};
+ghost use Rattle.fare_codes.specs.Numbers.{decimal_text};
+ghost use Rattle.fare_tariff.specs.Record.{IsCurrency};
+ghost use Rattle.fare_calc.specs.Worksheet.{currency_lines, local_text, total_lines};
+
+use crate::pushing::{push_code, push_hundredths};
+use fare_codes::{convert, rate_text};
+use fare_outside::NoMemory;
+use fare_tariff::CurRec;
+use itoa::Buffer;
+
+/// Appends the lines of a total.
+pub(crate) fn push_total(
+    text: &mut Vec<u8>,
+    price: u64,
+    currency: Option<&CurRec>,
+) -> Result<(), NoMemory>
+    requires price { price < 40_000_000_000 }
+    requires currency { IfSome currency (λ r. IsCurrency r.now.roe r.now.decimals r.now.unit) }
+    ensures { OnOk result (text.new.items ≡ text.old.items ++ total_lines price (option_copied currency.entry)) }
+{
+    text.extend_from_slice(b"TOTAL NUC ")?;
+    push_hundredths(text, price)?;
+    text.push(b'\n')?;
+    match currency {
+        None => Ok(()),
+        Some(currency) => push_currency(text, price, currency),
+    }
+}
+
+/// Appends the rate of exchange of a currency, and a price converted to it.
+#[tactic(auto, unfolding(crate::specs::Worksheet::currency_lines))]
+fn push_currency(text: &mut Vec<u8>, price: u64, currency: &CurRec) -> Result<(), NoMemory>
+    requires price { price < 40_000_000_000 }
+    requires currency { IsCurrency currency.now.roe currency.now.decimals currency.now.unit }
+    ensures { OnOk result (text.new.items ≡ text.old.items ++ currency_lines price currency.now) }
+{
+    let local = convert(
+        price,
+        currency.roe,
+        currency.decimals,
+        currency.unit,
+        currency.mode,
+    );
+    text.extend_from_slice(b"ROE ")?;
+    push_code(text, &rate_text(currency.roe))?;
+    text.extend_from_slice(b"\nLOCAL ")?;
+    push_code(text, &currency.currency.text())?;
+    text.push(b' ')?;
+    push_local(text, currency.decimals, local)?;
+    Ok(text.push(b'\n')?)
+}
+
+/// Appends a local amount with its decimals; without decimals it has no point.
+fn push_local(text: &mut Vec<u8>, decimals: u8, amount: u128) -> Result<(), NoMemory>
+    requires { decimals ≤ 2 }
+    ensures { OnOk result (text.new.items ≡ text.old.items ++ local_text decimals amount) }
+{
+    match decimals {
+        0 => push_whole(text, amount),
+        1 => push_tenths(text, amount),
+        _ => push_cents(text, amount),
+    }
+}
+
+/// Appends a whole number.
+fn push_whole(text: &mut Vec<u8>, amount: u128) -> Result<(), NoMemory>
+    ensures { OnOk result (text.new.items ≡ text.old.items ++ decimal amount) }
+{
+    let mut buffer = Buffer::new();
+    Ok(text.extend_from_slice(buffer.format(amount).as_bytes())?)
+}
+
+/// Appends a number of tenths with one digit behind the point.
+#[tactic(auto, unfolding(fare_codes::specs::Numbers::decimal_text, fare_codes::specs::Numbers::last_digits))]
+fn push_tenths(text: &mut Vec<u8>, amount: u128) -> Result<(), NoMemory>
+    ensures { OnOk result (text.new.items ≡ text.old.items ++ decimal_text 1 amount) }
+{
+    push_whole(text, amount / 10)?;
+    Ok(text.extend_from_slice(&[b'.', b'0' + (amount % 10) as u8])?)
+}
+
+/// Appends a number of hundredths with two digits behind the point.
+#[tactic(auto, unfolding(fare_codes::specs::Numbers::decimal_text, fare_codes::specs::Numbers::last_digits))]
+fn push_cents(text: &mut Vec<u8>, amount: u128) -> Result<(), NoMemory>
+    ensures { OnOk result (text.new.items ≡ text.old.items ++ decimal_text 2 amount) }
+{
+    push_whole(text, amount / 100)?;
+    let places = [
+        b'.',
+        b'0' + (amount / 10 % 10) as u8,
+        b'0' + (amount % 10) as u8,
+    ];
+    Ok(text.extend_from_slice(&places)?)
+}

@@ -1,0 +1,16 @@
+//! The conditions under which a fare may be used for a span of a trip, each as its own test. A span begins at point `a` and
+//! ends at point `b`; a fare is priced back where it is paid from the end of a span to its start.
+
+mod fares;
+mod spans;
+mod surcharges;
+mod terms;
+
+pub use fares::{
+    covers_cabins, covers_carriers, has_indicator, in_season, may_be_priced, runs_between,
+};
+pub use spans::{holds_surface, repeats_city};
+pub(crate) use surcharges::span_surcharge;
+pub use surcharges::{excess_holds, mileage_holds};
+pub(crate) use terms::is_allowed;
+pub use terms::{advance_holds, stops_hold, transfers_hold};

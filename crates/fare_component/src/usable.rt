@@ -1,0 +1,66 @@
+//! Whether a fare may be used for a span, whatever its mileage.
+
+ghost use Rattle.std.specs.Prelude.{◌≡◌, ◌<◌, ◌≤◌, ◌&&◌, not};
+ghost use Rattle.fare_trip.specs.Itinerary.{count};
+ghost use Rattle.fare_rules.specs.Span.{holds_surface};
+ghost use Rattle.fare_rules.specs.ComponentAmount.{repeats_city};
+ghost use Rattle.fare_component.specs.Usable.{is_for_span, is_usable};
+
+use crate::conditions::{
+    advance_holds, covers_cabins, covers_carriers, has_indicator, holds_surface, in_season,
+    may_be_priced, repeats_city, runs_between, stops_hold, transfers_hold,
+};
+use fare_tariff::{Edition, FareRec};
+use fare_trip::Trip;
+
+/// Whether a span can be a component: it holds no surface sector and no city twice.
+fn is_plain(trip: &Trip, a: usize, b: usize) -> bool
+    requires { b ≤ count trip.now }
+    ensures { result ≡ (not (holds_surface trip.now a b) && not (repeats_city trip.now a b)) }
+{
+    !holds_surface(trip, a, b) && !repeats_city(trip, a, b)
+}
+
+/// Whether a fare is for a span: the span can be a component, and the fare runs between its ends, has its indicator and
+/// covers its cabins, its carriers and its day.
+#[tactic(auto, unfolding(crate::specs::Usable::is_for_span))]
+fn is_for_span(
+    edition: &Edition,
+    trip: &Trip,
+    a: usize,
+    b: usize,
+    back: bool,
+    fare: &FareRec,
+) -> bool
+    requires rises { a < b }
+    requires ends { b ≤ count trip.now }
+    ensures { result ≡ is_for_span edition.now trip.now a b back fare.now }
+{
+    is_plain(trip, a, b)
+        && runs_between(trip, a, b, back, fare)
+        && may_be_priced(back, fare)
+        && has_indicator(edition, trip, a, b, fare)
+        && covers_cabins(trip, a, b, fare)
+        && covers_carriers(trip, a, b, fare)
+        && in_season(trip, a, fare)
+}
+
+/// Whether a fare may be used for a span, whatever its mileage.
+#[tactic(auto, unfolding(crate::specs::Usable::is_usable))]
+pub(crate) fn is_usable(
+    edition: &Edition,
+    trip: &Trip,
+    a: usize,
+    b: usize,
+    back: bool,
+    fare: &FareRec,
+) -> bool
+    requires rises { a < b }
+    requires ends { b ≤ count trip.now }
+    ensures { result ≡ is_usable edition.now trip.now a b back fare.now }
+{
+    is_for_span(edition, trip, a, b, back, fare)
+        && stops_hold(edition, trip, a, b, fare)
+        && transfers_hold(edition, trip, a, b, fare)
+        && advance_holds(edition, trip, fare)
+}
