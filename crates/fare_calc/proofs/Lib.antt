@@ -5,3 +5,4 @@ pub mod RangeTexts
 pub mod RangeLists
 pub mod LetterLemmas
 pub mod LineParts
+pub mod HomeLemmas

@@ -237,3 +237,6 @@ lawful_parts_are_led tariff trip parts lawful short some = parts_are_led tariff 
 
 pub lawful_few_units : (tariff : Tariff) (trip : Itinerary) (parts : List Part) → first_broken tariff trip parts ≡ None → count trip ≤ 16 → greatest_unit parts (places parts) ≤ 16
 lawful_few_units tariff trip parts lawful short = few_units tariff trip parts (kept_from_unbroken tariff trip parts lawful) short
+
+pub lawful_some_parts : (tariff : Tariff) (trip : Itinerary) (parts : List Part) → first_broken tariff trip parts ≡ None → count trip ≤ 16 → 1 ≤ count trip → 1 ≤ length parts
+lawful_some_parts tariff trip parts lawful short some = some_parts tariff trip parts (kept_from_unbroken tariff trip parts lawful) short some

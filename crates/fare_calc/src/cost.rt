@@ -1,6 +1,6 @@
 //! What a lawful construction costs, and in which currency.
 
-ghost use Rattle.std.specs.Prelude.{◌≡◌, ◌<◌, IfSome, None};
+ghost use Rattle.std.specs.Prelude.{◌≡◌, ◌<◌, IfSome, IsSome, None};
 ghost use Rattle.std.specs.Option.{option_copied};
 ghost use Rattle.fare_tariff.specs.Record.{IsCurrency};
 ghost use Rattle.fare_rules.specs.Lawful.{first_broken};
@@ -37,5 +37,23 @@ pub(crate) fn home_currency<'a>(edition: &'a Edition, trip: &Trip) -> Option<&'a
     match edition.city(trip.point(0)) {
         None => None,
         Some(filed) => edition.currency_of(filed.country),
+    }
+}
+
+/// A law: the country where a lawful construction begins has a currency, so its worksheet has the rate of exchange and the
+/// local amount.
+#[tactic(auto, using(crate::proofs::HomeLemmas::home_is_filed))]
+pub fn home_has_a_currency(edition: &Edition, trip: &Trip, c: &Construction)
+    requires { first_broken edition.now trip.now c.now ≡ None }
+    ensures { IsSome (home_currency edition.now trip.now) }
+{
+    let _sectors = trip.count();
+    edition.fares_are_filed();
+    let home = trip.point(0);
+    match edition.city(home) {
+        None => (),
+        Some(filed) => {
+            let _currency = edition.currency_of(filed.country);
+        }
     }
 }

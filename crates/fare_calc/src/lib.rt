@@ -24,6 +24,7 @@ mod worksheets;
 
 pub use answers::answer_text;
 pub use composing::line_of;
+pub use cost::home_has_a_currency;
 pub use flown::LineSector;
 pub use letter::Letter;
 pub use line::Line;
