@@ -1,2 +1,4 @@
 pub mod Line
 pub mod LineText
+pub mod Pieces
+pub mod Reading

@@ -2,12 +2,18 @@
 //! A contract sees a line as its first city, its flown sectors, its parts and plus-ups, its total and its rate.
 #![tactic(auto)]
 
+mod byte_kind;
+mod cursor;
 mod flown;
 mod letter;
 mod line;
+mod mark;
+mod numbers_at;
 mod plus_up;
 mod priced_part;
 mod printing;
+mod tag;
+mod totals;
 
 pub use flown::LineSector;
 pub use letter::Letter;
