@@ -38,10 +38,14 @@ sector_at bytes = do
   space ← byte_at (This 32) carrier.1
   either (transfer_to carrier.0 space.1) (sector_to carrier.0 false space.1)
 
+-- the letters behind `M`
+abbrev pub later_letters : List (List ℕ)
+later_letters = codes "5M" ∷ codes "10M" ∷ codes "15M" ∷ codes "20M" ∷ codes "25M" ∷ []
+
 -- a letter that isn't empty
 unfoldable pub letter_at : List ℕ → Result (Letter × List ℕ) ℕ
 letter_at bytes = do
-  step ← one_of (codes "M") (codes "5M" ∷ codes "10M" ∷ codes "15M" ∷ codes "20M" ∷ codes "25M" ∷ []) bytes
+  step ← one_of (codes "M") later_letters bytes
   Ok (Mileage (5 * step.0), step.1)
 
 -- the amount behind a letter, without a pair
@@ -68,6 +72,10 @@ lettered_at bytes = do
 unfoldable pub mark_at : List ℕ → Result (Mark × List ℕ) ℕ
 mark_at bytes = either (lettered_at bytes) (unpaired_at Bare bytes)
 
+-- the classes behind `F`
+abbrev pub later_classes : List (List ℕ)
+later_classes = codes "C" ∷ codes "Y" ∷ []
+
 -- the cabin of an index
 abbrev pub cabin_of : ℕ → Cabin
 cabin_of zero = F
@@ -77,8 +85,12 @@ cabin_of (suc (suc n)) = Y
 -- a class
 unfoldable pub class_at : List ℕ → Result (Cabin × List ℕ) ℕ
 class_at bytes = do
-  found ← one_of (codes "F") (codes "C" ∷ codes "Y" ∷ []) bytes
+  found ← one_of (codes "F") later_classes bytes
   Ok (cabin_of found.0, found.1)
+
+-- the kinds behind `OW`
+abbrev pub later_kinds : List (List ℕ)
+later_kinds = codes "HR" ∷ []
 
 -- the kind of fare of an index
 abbrev pub kind_of : ℕ → Kind
@@ -88,7 +100,7 @@ kind_of (suc n) = HR
 -- a kind of fare
 unfoldable pub kind_at : List ℕ → Result (Kind × List ℕ) ℕ
 kind_at bytes = do
-  found ← one_of (codes "OW") (codes "HR" ∷ []) bytes
+  found ← one_of (codes "OW") later_kinds bytes
   Ok (kind_of found.0, found.1)
 
 -- a character more of a rule's id
