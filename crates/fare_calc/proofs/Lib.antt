@@ -1,3 +1,5 @@
 pub mod PartLemmas
 pub mod Readers
 pub mod Words
+pub mod Numerals
+pub mod Amounts

@@ -20,22 +20,22 @@ pub record Reads {A : Type 0} (L : A → List ℕ → Type 0) (r : List ℕ → 
   pub found : (bytes rest : List ℕ) (a : A) → r bytes ≡ Ok (a, rest) → (text : List ℕ) × L a text × (bytes ≡ text ++ rest)
   pub stops : (bytes : List ℕ) (left : ℕ) → r bytes ≡ Err left → Stops L bytes left
 
-abbrev done : {A : Type 0} → A × List ℕ → Result (A × List ℕ) ℕ
+abbrev pub done : {A : Type 0} → A × List ℕ → Result (A × List ℕ) ℕ
 done x = Ok x
 
 -- what a reading holds
-done_is : {A : Type 0} (a b : A) (x y : List ℕ) → done (a, x) ≡ done (b, y) → (a ≡ b) × (x ≡ y)
+pub done_is : {A : Type 0} (a b : A) (x y : List ℕ) → done (a, x) ≡ done (b, y) → (a ≡ b) × (x ≡ y)
 done_is {A} a b x y e =
     let both : (a, x) ≡ (b, y) = cc in
     (ap (λ (p : A × List ℕ). p.0) both, ap (λ (p : A × List ℕ). p.1) both)
 
-abbrev stopped : {A : Type 0} → ℕ → Result A ℕ
+abbrev pub stopped : {A : Type 0} → ℕ → Result A ℕ
 stopped left = Err left
 
-stopped_is : {A : Type 0} (l m : ℕ) → stopped {A = A} l ≡ stopped m → l ≡ m
+pub stopped_is : {A : Type 0} (l m : ℕ) → stopped {A = A} l ≡ stopped m → l ≡ m
 stopped_is l m e = cc
 
-ok_is_not_err : {A : Type 0} (x : A) (l : ℕ) → Ok x ≡ stopped l → ⊥
+pub ok_is_not_err : {A : Type 0} (x : A) (l : ℕ) → Ok x ≡ stopped l → ⊥
 ok_is_not_err x l e = cc
 
 -- a reading was found, or it stopped
