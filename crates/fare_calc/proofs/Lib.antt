@@ -3,3 +3,4 @@ pub mod Readers
 pub mod Words
 pub mod Numerals
 pub mod Amounts
+pub mod Chains
