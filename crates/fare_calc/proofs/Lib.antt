@@ -4,3 +4,5 @@ pub mod Words
 pub mod Numerals
 pub mod Amounts
 pub mod Chains
+pub mod CodeLaws
+pub mod RuleLaws
