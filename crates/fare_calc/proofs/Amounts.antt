@@ -19,7 +19,7 @@ pub record IsText {A : Type 0} (test : A → Bool) (text_of : A → List ℕ) (a
   pub spelled : text ≡ text_of a
 
 -- an amount in its pieces
-nuc_is : (n w x : ℕ) → n ≡ 100 * w + x → x < 100 → (decimal w ++ 46 ∷ []) ++ ((48 + x / 10) ∷ (48 + x % 10) ∷ []) ≡ nuc_text n
+pub nuc_is : (n w x : ℕ) → n ≡ 100 * w + x → x < 100 → (decimal w ++ 46 ∷ []) ++ ((48 + x / 10) ∷ (48 + x % 10) ∷ []) ≡ nuc_text n
 unfolding decimal_text last_digits
 nuc_is n w x value below =
     let whole : n / 100 ≡ w = omega arith in

@@ -114,7 +114,7 @@ is_marked Bare = false
 is_marked (Mileage s) = is_surcharge s
 
 -- the surcharge of an index
-steps_of : (i : ℕ) → nat_le i 5 ≡ true → (is_surcharge (5 * i) ≡ true) × (get_or (codes "M" ∷ later_letters) i [] ≡ letter_text (Mileage (5 * i)))
+pub steps_of : (i : ℕ) → nat_le i 5 ≡ true → (is_surcharge (5 * i) ≡ true) × (get_or (codes "M" ∷ later_letters) i [] ≡ letter_text (Mileage (5 * i)))
 unfolding digits
 steps_of zero h = (refl, refl)
 steps_of (suc zero) h = (refl, refl)
@@ -129,7 +129,7 @@ one_test true b h = inl refl
 one_test false b h = inr h
 
 -- the index of a surcharge
-index_of : (s : ℕ) → is_surcharge s ≡ true → (i : ℕ) × (nat_le i 5 ≡ true) × (s ≡ 5 * i)
+pub index_of : (s : ℕ) → is_surcharge s ≡ true → (i : ℕ) × (nat_le i 5 ≡ true) × (s ≡ 5 * i)
 index_of s h = elim (one_test ((s == 0) || (s == 5) || (s == 10) || (s == 15) || (s == 20)) (s == 25) h) [
     | inr e ↦ (5, refl, eqb-true s 25 e)
     | inl h4 ↦ elim (one_test ((s == 0) || (s == 5) || (s == 10) || (s == 15)) (s == 20) h4) [

@@ -6,3 +6,4 @@ pub mod Amounts
 pub mod Chains
 pub mod CodeLaws
 pub mod RuleLaws
+pub mod MarkLaws

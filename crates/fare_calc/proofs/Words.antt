@@ -253,3 +253,7 @@ reads_scanned {A} step last end value = record {
   found = λ bytes rest a e. scan_found step last bytes value a rest e;
   stops = λ bytes left e. scan_stops step last bytes value left e;
 }
+
+-- what passes a test throughout passes it at each index
+pub all_at_least : (p : ℕ → Bool) (xs : List ℕ) (i : ℕ) → i < length xs → list_all p xs ≡ true → p (get_or xs i 0) ≡ true
+all_at_least p xs i below all = grind (arith, common_steps, list_all_at p xs i 0)
