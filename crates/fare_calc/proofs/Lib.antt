@@ -7,3 +7,4 @@ pub mod Chains
 pub mod CodeLaws
 pub mod RuleLaws
 pub mod MarkLaws
+pub mod PieceLaws
