@@ -8,3 +8,4 @@ pub mod CodeLaws
 pub mod RuleLaws
 pub mod MarkLaws
 pub mod PieceLaws
+pub mod DraftLaws

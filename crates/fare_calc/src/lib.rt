@@ -4,16 +4,19 @@
 
 mod byte_kind;
 mod cursor;
+mod draft;
 mod flown;
 mod letter;
 mod line;
 mod mark;
 mod marks_at;
 mod numbers_at;
+mod piece;
 mod pieces_at;
 mod plus_up;
 mod priced_part;
 mod printing;
+mod reading;
 mod tag;
 mod totals;
 
