@@ -124,7 +124,7 @@ steps_of (suc (suc (suc (suc zero)))) h = (refl, refl)
 steps_of (suc (suc (suc (suc (suc zero))))) h = (refl, refl)
 steps_of (suc (suc (suc (suc (suc (suc i)))))) h = absurd (omega (arith, leb-true (suc (suc (suc (suc (suc (suc i)))))) 5 h))
 
-one_test : (a b : Bool) → (a || b) ≡ true → (a ≡ true) ⊎ (b ≡ true)
+pub one_test : (a b : Bool) → (a || b) ≡ true → (a ≡ true) ⊎ (b ≡ true)
 one_test true b h = inl refl
 one_test false b h = inr h
 

@@ -9,3 +9,5 @@ pub mod RuleLaws
 pub mod MarkLaws
 pub mod PieceLaws
 pub mod DraftLaws
+pub mod NextLaws
+pub mod PieceAt

@@ -34,7 +34,7 @@ use Rattle.fare_calc.proofs.RuleLaws.{is_tag, reads_tag, slashed_tag}
 -- ---- the bytes of an amount
 
 -- a digit or a point
-abbrev is_plain : ℕ → Bool
+abbrev pub is_plain : ℕ → Bool
 is_plain c = is_ascii_digit c || (c == 46)
 
 digits_are_plain : (ds : List ℕ) → list_all is_ascii_digit ds ≡ true → list_all is_plain ds ≡ true
@@ -43,7 +43,7 @@ digits_are_plain (d ∷ ds) h =
     let tests = both_tests (is_ascii_digit d) (list_all is_ascii_digit ds) h in
     rw (tests.0, digits_are_plain ds tests.1) refl
 
-nuc_plain : (n : ℕ) → n < 10 ^ 11 → (list_all is_plain (nuc_text n) ≡ true) × (4 ≤ length (nuc_text n)) × (is_ascii_digit (get_or (nuc_text n) 0 0) ≡ true)
+pub nuc_plain : (n : ℕ) → n < 10 ^ 11 → (list_all is_plain (nuc_text n) ≡ true) × (4 ≤ length (nuc_text n)) × (is_ascii_digit (get_or (nuc_text n) 0 0) ≡ true)
 nuc_plain n below =
     let whole : n / 100 < 2 ^ 64 = omega arith in
     let pieces = nuc_is n (n / 100) (n % 100) (omega arith) (omega arith) in
@@ -240,7 +240,7 @@ pub record IsPart (end : ℕ) (gap : Option City) (part : LinePart) (text : List
   pub valid : is_priced part ≡ true
   pub spelled : text ≡ price_text part
 
-seven_tests : (a b c d e f g : Bool) → (a && b && c && d && e && f && g) ≡ true → (a ≡ true) × (b ≡ true) × (c ≡ true) × (d ≡ true) × (e ≡ true) × (f ≡ true) × (g ≡ true)
+pub seven_tests : (a b c d e f g : Bool) → (a && b && c && d && e && f && g) ≡ true → (a ≡ true) × (b ≡ true) × (c ≡ true) × (d ≡ true) × (e ≡ true) × (f ≡ true) × (g ≡ true)
 seven_tests a b c d e f g h = (grind arith, grind arith, grind arith, grind arith, grind arith, grind arith, grind arith)
 
 priced : (end : ℕ) (gap : Option City) (mark : Mark) (tag : Tag) (unit : ℕ) → is_gap gap ≡ true → is_mark mark ≡ true → is_tag tag ≡ true → is_unit unit ≡ true → is_priced (part_of end gap mark tag unit) ≡ true
