@@ -11,3 +11,5 @@ pub mod PieceLaws
 pub mod DraftLaws
 pub mod NextLaws
 pub mod PieceAt
+pub mod RunLaws
+pub mod WayTexts

@@ -271,7 +271,7 @@ between_reads d between none = elim (cases_lt (count d) 15) [
 -- ---- the piece that stands next
 
 -- behind a sector no plus-up stands
-no_plus : (d : DraftLine) → IsDraft d → 0 < length d.pending → length d.plus ≡ 0
+pub no_plus : (d : DraftLine) → IsDraft d → 0 < length d.pending → length d.plus ≡ 0
 no_plus d draft some = elim (cases_lt 0 (length d.plus)) [
     | inl more ↦ absurd (omega (arith, (draft.plus_behind more).none_pending))
     | inr none ↦ omega arith
@@ -292,7 +292,7 @@ positive zero f = absurd (wrong f)
 positive (suc n) f = omega arith
 
 -- where a sector must come no plus-up stands, and there is room for one
-begun_room : (d : DraftLine) → IsDraft d → length d.pending ≡ 0 → (is_some d.gap || (length d.parts == 0)) ≡ true → (count d < 16) × (length d.plus ≡ 0)
+pub begun_room : (d : DraftLine) → IsDraft d → length d.pending ≡ 0 → (is_some d.gap || (length d.parts == 0)) ≡ true → (count d < 16) × (length d.plus ≡ 0)
 begun_room d draft none h = go d.gap refl
   where
     no_more : (0 < length d.plus → ⊥) → length d.plus ≡ 0
@@ -309,7 +309,7 @@ begun_room d draft none h = go d.gap refl
         (omega arith, no_more (λ more. some_is_not_none city (sym e ∙ (draft.plus_behind more).no_gap)))
 
 -- else a part is read, and nothing of the next
-is_between : (d : DraftLine) → length d.pending ≡ 0 → (is_some d.gap || (length d.parts == 0)) ≡ false → IsBetween d
+pub is_between : (d : DraftLine) → length d.pending ≡ 0 → (is_some d.gap || (length d.parts == 0)) ≡ false → IsBetween d
 is_between d none h = go d.gap refl
   where
     go : (gap : Option City) → d.gap ≡ gap → IsBetween d
