@@ -13,3 +13,5 @@ pub mod NextLaws
 pub mod PieceAt
 pub mod RunLaws
 pub mod WayTexts
+pub mod LineWays
+pub mod LineLaws

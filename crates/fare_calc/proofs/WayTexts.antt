@@ -19,7 +19,7 @@ use Rattle.fare_calc.proofs.PieceAt.{no_plus, piece_text}
 use Rattle.fare_calc.proofs.RunLaws.{Way}
 
 -- the text of a draft
-pub so_far : DraftLine → List ℕ
+unfoldable pub so_far : DraftLine → List ℕ
 so_far d = spaced d.from ++ (parts_text 0 d.closed d.parts ++ ((gap_text d.gap ++ flat_map sector_text d.pending) ++ flat_map plus_text d.plus))
 
 flat_more : {X : Type 0} (f : X → List ℕ) (xs : List X) (x : X) → flat_map f (xs ++ x ∷ []) ≡ flat_map f xs ++ f x
