@@ -15,3 +15,4 @@ pub mod RunLaws
 pub mod WayTexts
 pub mod LineWays
 pub mod LineLaws
+pub mod LineSteps

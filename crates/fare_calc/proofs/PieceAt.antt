@@ -361,3 +361,7 @@ reads_piece d draft = elim (cases_lt 0 (length d.pending)) [
           | inr few ↦ (let empty : length d.plus ≡ 0 = omega arith in
             same_reader (IsNext d) (between_at d) (piece_at d) (between_reads d between empty) (λ bytes. rw (test, h, le-ltb 0 (length d.plus) few) refl))
         ]
+
+-- a piece that is read may come next
+pub piece_allowed : (d : DraftLine) (bytes rest : List ℕ) (piece : Piece) → IsDraft d → piece_at d bytes ≡ Ok (piece, rest) → Allowed d piece
+piece_allowed d bytes rest piece draft e = ((reads_piece d draft).found bytes rest piece e).1.allowed

@@ -8,6 +8,7 @@ use fare_codes::{Carrier, City};
 
 /// What is left of a text. Each call reads what it names from the front of it, or answers how many bytes are left where
 /// no text goes on.
+#[derive(Drop)]
 pub(crate) struct Cursor<'a> {
     pub(crate) rest: &'a [u8],
 }

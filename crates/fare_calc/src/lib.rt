@@ -16,6 +16,7 @@ mod pieces_at;
 mod plus_up;
 mod priced_part;
 mod printing;
+mod read_line;
 mod reading;
 mod tag;
 mod totals;

@@ -144,7 +144,7 @@ impl Cursor<'_> {
 
     /// The piece that stands next.
     #[tactic(auto, unfolding(crate::specs::Draft::piece_at))]
-    fn piece(&mut self, draft: &Draft) -> Result<Piece, usize>
+    pub(crate) fn piece(&mut self, draft: &Draft) -> Result<Piece, usize>
         ensures { Gives result self.new.rest.now (piece_at draft.now self.old.rest.now) }
     {
         if draft.has_sector() {
