@@ -35,27 +35,27 @@ unfolding amount_at
 reads_amount =
     same (Joined (IsWhole 100_000_000) (λ (w : ℕ). Mapped IsHundredths (λ (x : ℕ). 100 * w + x))) (IsText is_amount nuc_text) amount_at
     (joined (IsWhole 100_000_000) (λ (w : ℕ). Mapped IsHundredths (λ (x : ℕ). 100 * w + x)) (whole_at 100_000_000) (λ (w : ℕ) (rest : List ℕ). hundredths_at rest >>= λ x. Ok (100 * w + x.0, x.1))
-     (reads_whole 100_000_000 (lit≤ tt) (lit≤ tt)) (λ w text h. mapped IsHundredths (λ (x : ℕ). 100 * w + x) hundredths_at reads_hundredths)
-     (λ w text h. (100 * w + 0, 48 ∷ 48 ∷ [], record { origin = 0; is = record { below = omega arith; spelled = refl }; value = refl })))
+    (reads_whole 100_000_000 (lit≤ tt) (lit≤ tt)) (λ w text h. mapped IsHundredths (λ (x : ℕ). 100 * w + x) hundredths_at reads_hundredths)
+    (λ w text h. (100 * w + 0, 48 ∷ 48 ∷ [], record { origin = 0; is = record { below = omega arith; spelled = refl }; value = refl })))
     (λ n text j.
-      let whole = j.front_is.below in
-      let places = j.behind_is.is.below in
-      let value = j.behind_is.value in
-      record {
-        valid = lt-ltb n (10 ^ 11) (omega arith);
-        spelled = j.whole ∙ ap (λ (t : List ℕ). t ++ j.behind) j.front_is.spelled ∙ ap (λ (t : List ℕ). (decimal j.first ++ 46 ∷ []) ++ t) j.behind_is.is.spelled
-            ∙ nuc_is n j.first j.behind_is.origin value places;
-      })
+    let whole = j.front_is.below in
+    let places = j.behind_is.is.below in
+    let value = j.behind_is.value in
+    record {
+      valid = lt-ltb n (10 ^ 11) (omega arith);
+      spelled = j.whole ∙ ap (λ (t : List ℕ). t ++ j.behind) j.front_is.spelled ∙ ap (λ (t : List ℕ). (decimal j.first ++ 46 ∷ []) ++ t) j.behind_is.is.spelled
+          ∙ nuc_is n j.first j.behind_is.origin value places;
+    })
     (λ n text h.
-      let below : n < 10 ^ 11 = ltb-true n (10 ^ 11) h.valid in
-      record {
-        first = n / 100;
-        front = decimal (n / 100) ++ 46 ∷ [];
-        behind = (48 + n % 100 / 10) ∷ (48 + n % 100 % 10) ∷ [];
-        front_is = record { below = omega arith; spelled = refl };
-        behind_is = record { origin = n % 100; is = record { below = omega arith; spelled = refl }; value = omega arith };
-        whole = h.spelled ∙ sym (nuc_is n (n / 100) (n % 100) (omega arith) (omega arith));
-      })
+    let below : n < 10 ^ 11 = ltb-true n (10 ^ 11) h.valid in
+    record {
+      first = n / 100;
+      front = decimal (n / 100) ++ 46 ∷ [];
+      behind = (48 + n % 100 / 10) ∷ (48 + n % 100 % 10) ∷ [];
+      front_is = record { below = omega arith; spelled = refl };
+      behind_is = record { origin = n % 100; is = record { below = omega arith; spelled = refl }; value = omega arith };
+      whole = h.spelled ∙ sym (nuc_is n (n / 100) (n % 100) (omega arith) (omega arith));
+    })
 
 -- a rate in its pieces
 record Places (n w a b c : ℕ) : Type 0 where
@@ -102,7 +102,7 @@ unit_word (suc (suc (suc (suc (suc (suc (suc (suc (suc (suc (suc (suc (suc (suc 
 unit_word (suc (suc (suc (suc (suc (suc (suc (suc (suc (suc (suc (suc (suc (suc (suc zero))))))))))))))) h = refl
 unit_word (suc (suc (suc (suc (suc (suc (suc (suc (suc (suc (suc (suc (suc (suc (suc (suc n)))))))))))))))) h = absurd (omega arith)
 
-unit_range : (u : ℕ) → is_unit u ≡ true → (1 ≤ u) × (u ≤ 16)
+pub unit_range : (u : ℕ) → is_unit u ≡ true → (1 ≤ u) × (u ≤ 16)
 unit_range u h = (grind (arith, nat_tests), grind (arith, nat_tests))
 
 unit_from : (u : ℕ) → 1 ≤ u → u ≤ 16 → is_unit u ≡ true
@@ -118,15 +118,15 @@ reads_unit =
       spelled = m.is.word_is ∙ unit_word m.origin index ∙ ap (λ (k : ℕ). spaced (decimal k)) (sym m.value);
     })
     (λ u text h.
-      let range = unit_range u h.valid in
-      let back : u - 1 + 1 ≡ u = omega (arith, range.0) in
-      record {
-        origin = u - 1;
-        is = record { index = omega (arith, range.1); word_is = h.spelled ∙ ap (λ (k : ℕ). spaced (decimal k)) (sym back) ∙ sym (unit_word (u - 1) (omega (arith, range.1))) };
-        value = sym back;
-      })
+    let range = unit_range u h.valid in
+    let back : u - 1 + 1 ≡ u = omega (arith, range.0) in
+    record {
+      origin = u - 1;
+      is = record { index = omega (arith, range.1); word_is = h.spelled ∙ ap (λ (k : ℕ). spaced (decimal k)) (sym back) ∙ sym (unit_word (u - 1) (omega (arith, range.1))) };
+      value = sym back;
+    })
 
-rate_is : (n w a b c : ℕ) → n ≡ 1_000_000 * w + 10_000 * a + 100 * b + c → a < 100 → b < 100 → c < 100
+pub rate_is : (n w a b c : ℕ) → n ≡ 1_000_000 * w + 10_000 * a + 100 * b + c → a < 100 → b < 100 → c < 100
     → (decimal w ++ 46 ∷ []) ++ (((48 + a / 10) ∷ (48 + a % 10) ∷ []) ++ (((48 + b / 10) ∷ (48 + b % 10) ∷ []) ++ ((48 + c / 10) ∷ (48 + c % 10) ∷ []))) ≡ rate_text n
 unfolding decimal_text last_digits
 rate_is n w a b c value x y z =
@@ -160,19 +160,38 @@ reads_first : (w : ℕ) → Reads (Joined IsHundredths (λ (a : ℕ). Joined IsH
 reads_first w =
     joined IsHundredths (λ (a : ℕ). Joined IsHundredths (λ (b : ℕ). Mapped IsHundredths (λ (c : ℕ). 1_000_000 * w + 10_000 * a + 100 * b + c))) hundredths_at
     (λ (a : ℕ) (rest : List ℕ). hundredths_at rest >>= λ x. (hundredths_at x.1 >>= λ y. Ok (1_000_000 * w + 10_000 * a + 100 * x.0 + y.0, y.1))) reads_hundredths (λ a text h. reads_second w a)
-    (λ a text h. (1_000_000 * w + 10_000 * a + 100 * 0 + 0, 48 ∷ 48 ∷ 48 ∷ 48 ∷ [], record {
-      first = 0; front = 48 ∷ 48 ∷ []; behind = 48 ∷ 48 ∷ []; front_is = nil_places; behind_is = record { origin = 0; is = nil_places; value = refl }; whole = refl }))
+    (λ a text h. (
+      1_000_000 * w + 10_000 * a + 100 * 0 + 0,
+      48 ∷ 48 ∷ 48 ∷ 48 ∷ [],
+      record {
+        first = 0;
+        front = 48 ∷ 48 ∷ [];
+        behind = 48 ∷ 48 ∷ [];
+        front_is = nil_places;
+        behind_is = record { origin = 0; is = nil_places; value = refl };
+        whole = refl;
+      },
+    ))
 
 pub reads_rate : Reads (IsText is_rate rate_text) rate_at
 unfolding rate_at
 reads_rate =
     same Rate (IsText is_rate rate_text) rate_at
     (joined (IsWhole 1_000_000) (λ (w : ℕ). Joined IsHundredths (λ (a : ℕ). Joined IsHundredths (λ (b : ℕ). Mapped IsHundredths (λ (c : ℕ). 1_000_000 * w + 10_000 * a + 100 * b + c)))) (whole_at 1_000_000)
-     (λ (w : ℕ) (rest : List ℕ). hundredths_at rest >>= λ z. (hundredths_at z.1 >>= λ x. (hundredths_at x.1 >>= λ y. Ok (1_000_000 * w + 10_000 * z.0 + 100 * x.0 + y.0, y.1))))
-     (reads_whole 1_000_000 (lit≤ tt) (lit≤ tt)) (λ w text h. reads_first w)
-     (λ w text h. (1_000_000 * w + 10_000 * 0 + 100 * 0 + 0, 48 ∷ 48 ∷ 48 ∷ 48 ∷ 48 ∷ 48 ∷ [], record {
-       first = 0; front = 48 ∷ 48 ∷ []; behind = 48 ∷ 48 ∷ 48 ∷ 48 ∷ []; front_is = nil_places; whole = refl;
-       behind_is = record { first = 0; front = 48 ∷ 48 ∷ []; behind = 48 ∷ 48 ∷ []; front_is = nil_places; whole = refl; behind_is = record { origin = 0; is = nil_places; value = refl } } })))
+    (λ (w : ℕ) (rest : List ℕ). hundredths_at rest >>= λ z. (hundredths_at z.1 >>= λ x. (hundredths_at x.1 >>= λ y. Ok (1_000_000 * w + 10_000 * z.0 + 100 * x.0 + y.0, y.1))))
+    (reads_whole 1_000_000 (lit≤ tt) (lit≤ tt)) (λ w text h. reads_first w)
+    (λ w text h. (
+      1_000_000 * w + 10_000 * 0 + 100 * 0 + 0,
+      48 ∷ 48 ∷ 48 ∷ 48 ∷ 48 ∷ 48 ∷ [],
+      record {
+        first = 0;
+        front = 48 ∷ 48 ∷ [];
+        behind = 48 ∷ 48 ∷ 48 ∷ 48 ∷ [];
+        front_is = nil_places;
+        whole = refl;
+        behind_is = record { first = 0; front = 48 ∷ 48 ∷ []; behind = 48 ∷ 48 ∷ []; front_is = nil_places; whole = refl; behind_is = record { origin = 0; is = nil_places; value = refl } };
+      },
+    )))
     (λ n text j. rate_to n text j)
     (λ n text h. rate_from n text h)
   where
@@ -190,6 +209,7 @@ reads_rate =
           valid = lt-ltb n (10 ^ 13) (omega arith);
           spelled = j.whole ∙ rw (j.front_is.spelled, k.whole, k.front_is.spelled, m.whole, m.front_is.spelled, l.is.spelled) (rate_is n j.first k.first m.first l.origin value a b c);
         }
+
     rate_from : (n : ℕ) (text : List ℕ) → IsText is_rate rate_text n text → Rate n text
     rate_from n text h =
         let below : n < 10 ^ 13 = ltb-true n (10 ^ 13) h.valid in
@@ -198,13 +218,19 @@ reads_rate =
         let b : ℕ = n / 100 % 100 in
         let c : ℕ = n % 100 in
         record {
-          first = n / 1_000_000; front = decimal (n / 1_000_000) ++ 46 ∷ []; front_is = record { below = omega arith; spelled = refl };
+          first = n / 1_000_000;
+          front = decimal (n / 1_000_000) ++ 46 ∷ [];
+          front_is = record { below = omega arith; spelled = refl };
           behind = _;
           behind_is = record {
-            first = n / 10_000 % 100; front = _; front_is = record { below = omega arith; spelled = refl };
+            first = n / 10_000 % 100;
+            front = _;
+            front_is = record { below = omega arith; spelled = refl };
             behind = _;
             behind_is = record {
-              first = n / 100 % 100; front = _; front_is = record { below = omega arith; spelled = refl };
+              first = n / 100 % 100;
+              front = _;
+              front_is = record { below = omega arith; spelled = refl };
               behind = _;
               behind_is = record { origin = n % 100; is = record { below = omega arith; spelled = refl }; value = omega arith };
               whole = refl;

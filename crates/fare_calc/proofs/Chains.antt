@@ -66,12 +66,17 @@ pub chain2 : {A B D : Type 0} (v : A → Bool) (t : A → List ℕ) (w : B → B
 chain2 {A} {B} {D} v t w u f L r s reads others b some to from =
     same (Joined (IsText v t) (λ (a : A). Mapped (IsText w u) (f a))) L (λ bytes. r bytes >>= λ x. (s x.1 >>= λ y. Ok (f x.0 y.0, y.1)))
     (joined (IsText v t) (λ (a : A). Mapped (IsText w u) (f a)) r (λ (a : A) (rest : List ℕ). s rest >>= λ y. Ok (f a y.0, y.1)) reads
-     (λ a text h. mapped (IsText w u) (f a) s others)
-     (λ a text h. (f a b, u b, record { origin = b; is = record { valid = some; spelled = refl }; value = refl })))
+    (λ a text h. mapped (IsText w u) (f a) s others)
+    (λ a text h. (f a b, u b, record { origin = b; is = record { valid = some; spelled = refl }; value = refl })))
     (λ e text j. moved L (f j.first j.behind_is.origin) e (t j.first ++ u j.behind_is.origin) text j.behind_is.value (j.whole ∙ rw (j.front_is.spelled, j.behind_is.is.spelled) refl) (to j.first j.behind_is.origin j.front_is.valid j.behind_is.is.valid))
     (λ e text h. let p = from e text h in record {
-      first = p.a; front = t p.a; behind = u p.b; front_is = record { valid = p.a_is; spelled = refl };
-      behind_is = record { origin = p.b; is = record { valid = p.b_is; spelled = refl }; value = p.value }; whole = p.whole })
+      first = p.a;
+      front = t p.a;
+      behind = u p.b;
+      front_is = record { valid = p.a_is; spelled = refl };
+      behind_is = record { origin = p.b; is = record { valid = p.b_is; spelled = refl }; value = p.value };
+      whole = p.whole;
+    })
 
 -- three texts
 pub record Split3 {A B C D : Type 0} (v1 : A → Bool) (t1 : A → List ℕ) (v2 : B → Bool) (t2 : B → List ℕ) (v3 : C → Bool) (t3 : C → List ℕ) (f : A → B → C → D) (e : D) (text : List ℕ) : Type 0 where
@@ -94,21 +99,40 @@ chain3 {A} {B} {C} {D} v1 t1 v2 t2 v3 t3 f L r1 r2 r3 one two three b some_b c s
     same (Joined (IsText v1 t1) (λ (a : A). Joined (IsText v2 t2) (λ (b : B). Mapped (IsText v3 t3) (f a b)))) L
     (λ bytes. r1 bytes >>= λ x. (r2 x.1 >>= λ y. (r3 y.1 >>= λ z. Ok (f x.0 y.0 z.0, z.1))))
     (joined (IsText v1 t1) (λ (a : A). Joined (IsText v2 t2) (λ (b : B). Mapped (IsText v3 t3) (f a b))) r1
-     (λ (a : A) (rest : List ℕ). r2 rest >>= λ y. (r3 y.1 >>= λ z. Ok (f a y.0 z.0, z.1))) one
-     (λ a text h. joined (IsText v2 t2) (λ (b : B). Mapped (IsText v3 t3) (f a b)) r2 (λ (b : B) (rest : List ℕ). r3 rest >>= λ z. Ok (f a b z.0, z.1)) two
-      (λ b text h. mapped (IsText v3 t3) (f a b) r3 three)
-      (λ b text h. (f a b c, t3 c, record { origin = c; is = record { valid = some_c; spelled = refl }; value = refl })))
-     (λ a text h. (f a b c, t2 b ++ t3 c, record {
-       first = b; front = t2 b; behind = t3 c; front_is = record { valid = some_b; spelled = refl }; whole = refl;
-       behind_is = record { origin = c; is = record { valid = some_c; spelled = refl }; value = refl } })))
+    (λ (a : A) (rest : List ℕ). r2 rest >>= λ y. (r3 y.1 >>= λ z. Ok (f a y.0 z.0, z.1))) one
+    (λ a text h. joined (IsText v2 t2) (λ (b : B). Mapped (IsText v3 t3) (f a b)) r2 (λ (b : B) (rest : List ℕ). r3 rest >>= λ z. Ok (f a b z.0, z.1)) two
+    (λ b text h. mapped (IsText v3 t3) (f a b) r3 three)
+    (λ b text h. (f a b c, t3 c, record { origin = c; is = record { valid = some_c; spelled = refl }; value = refl })))
+    (λ a text h. (
+      f a b c,
+      t2 b ++ t3 c,
+      record {
+        first = b;
+        front = t2 b;
+        behind = t3 c;
+        front_is = record { valid = some_b; spelled = refl };
+        whole = refl;
+        behind_is = record { origin = c; is = record { valid = some_c; spelled = refl }; value = refl };
+      },
+    )))
     (λ e text j. let k = j.behind_is in let m = k.behind_is in
-      moved L (f j.first k.first m.origin) e (t1 j.first ++ (t2 k.first ++ t3 m.origin)) text m.value
-      (j.whole ∙ rw (j.front_is.spelled, k.whole, k.front_is.spelled, m.is.spelled) refl) (to j.first k.first m.origin j.front_is.valid k.front_is.valid m.is.valid))
+    moved L (f j.first k.first m.origin) e (t1 j.first ++ (t2 k.first ++ t3 m.origin)) text m.value
+    (j.whole ∙ rw (j.front_is.spelled, k.whole, k.front_is.spelled, m.is.spelled) refl) (to j.first k.first m.origin j.front_is.valid k.front_is.valid m.is.valid))
     (λ e text h. let p = from e text h in record {
-      first = p.a; front = t1 p.a; behind = t2 p.b ++ t3 p.c; front_is = record { valid = p.a_is; spelled = refl }; whole = p.whole;
+      first = p.a;
+      front = t1 p.a;
+      behind = t2 p.b ++ t3 p.c;
+      front_is = record { valid = p.a_is; spelled = refl };
+      whole = p.whole;
       behind_is = record {
-        first = p.b; front = t2 p.b; behind = t3 p.c; front_is = record { valid = p.b_is; spelled = refl }; whole = refl;
-        behind_is = record { origin = p.c; is = record { valid = p.c_is; spelled = refl }; value = p.value } } })
+        first = p.b;
+        front = t2 p.b;
+        behind = t3 p.c;
+        front_is = record { valid = p.b_is; spelled = refl };
+        whole = refl;
+        behind_is = record { origin = p.c; is = record { valid = p.c_is; spelled = refl }; value = p.value };
+      };
+    })
 
 -- four texts
 pub record Split4 {A B C D E : Type 0} (v1 : A → Bool) (t1 : A → List ℕ) (v2 : B → Bool) (t2 : B → List ℕ) (v3 : C → Bool) (t3 : C → List ℕ) (v4 : D → Bool) (t4 : D → List ℕ) (f : A → B → C → D → E) (e : E) (text : List ℕ) : Type 0 where
@@ -134,28 +158,66 @@ chain4 {A} {B} {C} {D} {E} v1 t1 v2 t2 v3 t3 v4 t4 f L r1 r2 r3 r4 one two three
     same (Joined (IsText v1 t1) (λ (a : A). Joined (IsText v2 t2) (λ (b : B). Joined (IsText v3 t3) (λ (c : C). Mapped (IsText v4 t4) (f a b c))))) L
     (λ bytes. r1 bytes >>= λ x. (r2 x.1 >>= λ y. (r3 y.1 >>= λ z. (r4 z.1 >>= λ w. Ok (f x.0 y.0 z.0 w.0, w.1)))))
     (joined (IsText v1 t1) (λ (a : A). Joined (IsText v2 t2) (λ (b : B). Joined (IsText v3 t3) (λ (c : C). Mapped (IsText v4 t4) (f a b c)))) r1
-     (λ (a : A) (rest : List ℕ). r2 rest >>= λ y. (r3 y.1 >>= λ z. (r4 z.1 >>= λ w. Ok (f a y.0 z.0 w.0, w.1)))) one
-     (λ a text h. joined (IsText v2 t2) (λ (b : B). Joined (IsText v3 t3) (λ (c : C). Mapped (IsText v4 t4) (f a b c))) r2
-      (λ (b : B) (rest : List ℕ). r3 rest >>= λ z. (r4 z.1 >>= λ w. Ok (f a b z.0 w.0, w.1))) two
-      (λ b text h. joined (IsText v3 t3) (λ (c : C). Mapped (IsText v4 t4) (f a b c)) r3 (λ (c : C) (rest : List ℕ). r4 rest >>= λ w. Ok (f a b c w.0, w.1)) three
-       (λ c text h. mapped (IsText v4 t4) (f a b c) r4 four)
-       (λ c text h. (f a b c d, t4 d, record { origin = d; is = record { valid = some_d; spelled = refl }; value = refl })))
-      (λ b text h. (f a b c d, t3 c ++ t4 d, record {
-        first = c; front = t3 c; behind = t4 d; front_is = record { valid = some_c; spelled = refl }; whole = refl;
-        behind_is = record { origin = d; is = record { valid = some_d; spelled = refl }; value = refl } })))
-     (λ a text h. (f a b c d, t2 b ++ (t3 c ++ t4 d), record {
-       first = b; front = t2 b; behind = t3 c ++ t4 d; front_is = record { valid = some_b; spelled = refl }; whole = refl;
-       behind_is = record {
-         first = c; front = t3 c; behind = t4 d; front_is = record { valid = some_c; spelled = refl }; whole = refl;
-         behind_is = record { origin = d; is = record { valid = some_d; spelled = refl }; value = refl } } })))
-    (λ e text j. let k = j.behind_is in let m = k.behind_is in let n = m.behind_is in
-      moved L (f j.first k.first m.first n.origin) e (t1 j.first ++ (t2 k.first ++ (t3 m.first ++ t4 n.origin))) text n.value
-      (j.whole ∙ rw (j.front_is.spelled, k.whole, k.front_is.spelled, m.whole, m.front_is.spelled, n.is.spelled) refl)
-      (to j.first k.first m.first n.origin j.front_is.valid k.front_is.valid m.front_is.valid n.is.valid))
-    (λ e text h. let p = from e text h in record {
-      first = p.a; front = t1 p.a; behind = t2 p.b ++ (t3 p.c ++ t4 p.d); front_is = record { valid = p.a_is; spelled = refl }; whole = p.whole;
-      behind_is = record {
-        first = p.b; front = t2 p.b; behind = t3 p.c ++ t4 p.d; front_is = record { valid = p.b_is; spelled = refl }; whole = refl;
+    (λ (a : A) (rest : List ℕ). r2 rest >>= λ y. (r3 y.1 >>= λ z. (r4 z.1 >>= λ w. Ok (f a y.0 z.0 w.0, w.1)))) one
+    (λ a text h. joined (IsText v2 t2) (λ (b : B). Joined (IsText v3 t3) (λ (c : C). Mapped (IsText v4 t4) (f a b c))) r2
+    (λ (b : B) (rest : List ℕ). r3 rest >>= λ z. (r4 z.1 >>= λ w. Ok (f a b z.0 w.0, w.1))) two
+    (λ b text h. joined (IsText v3 t3) (λ (c : C). Mapped (IsText v4 t4) (f a b c)) r3 (λ (c : C) (rest : List ℕ). r4 rest >>= λ w. Ok (f a b c w.0, w.1)) three
+    (λ c text h. mapped (IsText v4 t4) (f a b c) r4 four)
+    (λ c text h. (f a b c d, t4 d, record { origin = d; is = record { valid = some_d; spelled = refl }; value = refl })))
+    (λ b text h. (
+      f a b c d,
+      t3 c ++ t4 d,
+      record {
+        first = c;
+        front = t3 c;
+        behind = t4 d;
+        front_is = record { valid = some_c; spelled = refl };
+        whole = refl;
+        behind_is = record { origin = d; is = record { valid = some_d; spelled = refl }; value = refl };
+      },
+    )))
+    (λ a text h. (
+      f a b c d,
+      t2 b ++ (t3 c ++ t4 d),
+      record {
+        first = b;
+        front = t2 b;
+        behind = t3 c ++ t4 d;
+        front_is = record { valid = some_b; spelled = refl };
+        whole = refl;
         behind_is = record {
-          first = p.c; front = t3 p.c; behind = t4 p.d; front_is = record { valid = p.c_is; spelled = refl }; whole = refl;
-          behind_is = record { origin = p.d; is = record { valid = p.d_is; spelled = refl }; value = p.value } } } })
+          first = c;
+          front = t3 c;
+          behind = t4 d;
+          front_is = record { valid = some_c; spelled = refl };
+          whole = refl;
+          behind_is = record { origin = d; is = record { valid = some_d; spelled = refl }; value = refl };
+        };
+      },
+    )))
+    (λ e text j. let k = j.behind_is in let m = k.behind_is in let n = m.behind_is in
+    moved L (f j.first k.first m.first n.origin) e (t1 j.first ++ (t2 k.first ++ (t3 m.first ++ t4 n.origin))) text n.value
+    (j.whole ∙ rw (j.front_is.spelled, k.whole, k.front_is.spelled, m.whole, m.front_is.spelled, n.is.spelled) refl)
+    (to j.first k.first m.first n.origin j.front_is.valid k.front_is.valid m.front_is.valid n.is.valid))
+    (λ e text h. let p = from e text h in record {
+      first = p.a;
+      front = t1 p.a;
+      behind = t2 p.b ++ (t3 p.c ++ t4 p.d);
+      front_is = record { valid = p.a_is; spelled = refl };
+      whole = p.whole;
+      behind_is = record {
+        first = p.b;
+        front = t2 p.b;
+        behind = t3 p.c ++ t4 p.d;
+        front_is = record { valid = p.b_is; spelled = refl };
+        whole = refl;
+        behind_is = record {
+          first = p.c;
+          front = t3 p.c;
+          behind = t4 p.d;
+          front_is = record { valid = p.c_is; spelled = refl };
+          whole = refl;
+          behind_is = record { origin = p.d; is = record { valid = p.d_is; spelled = refl }; value = p.value };
+        };
+      };
+    })

@@ -59,7 +59,15 @@ reads_city =
     (byte_at Uppercase) (byte_at Uppercase) (byte_at Uppercase) (reads_one Uppercase 65 refl) (reads_one Uppercase 65 refl) (reads_one Uppercase 65 refl) 65 refl 65 refl
     (λ a b c x y z. record { valid = rw (x, y, z) refl; spelled = refl })
     (λ city text h. let cells = city_cells city h.valid in record {
-      a = cells.a; b = cells.b; c = cells.c; a_is = cells.a_is; b_is = cells.b_is; c_is = cells.c_is; value = cells.whole; whole = h.spelled ∙ cells.whole })
+      a = cells.a;
+      b = cells.b;
+      c = cells.c;
+      a_is = cells.a_is;
+      b_is = cells.b_is;
+      c_is = cells.c_is;
+      value = cells.whole;
+      whole = h.spelled ∙ cells.whole;
+    })
 
 pub record Cells2 (test : ℕ → Bool) (bytes : List ℕ) : Type 0 where
   pub a : ℕ
@@ -89,7 +97,13 @@ reads_carrier =
     (byte_at CodeCharacter) (byte_at CodeCharacter) (reads_one CodeCharacter 65 refl) (reads_one CodeCharacter 65 refl) 65 refl
     (λ a b x y. record { valid = rw (x, y) refl; spelled = refl })
     (λ carrier text h. let cells = carrier_cells carrier h.valid in record {
-      a = cells.a; b = cells.b; a_is = cells.a_is; b_is = cells.b_is; value = cells.whole; whole = h.spelled ∙ cells.whole })
+      a = cells.a;
+      b = cells.b;
+      a_is = cells.a_is;
+      b_is = cells.b_is;
+      value = cells.whole;
+      whole = h.spelled ∙ cells.whole;
+    })
 
 pub reads_spaced_city : Reads (IsText is_city spaced) spaced_city_at
 unfolding spaced_city_at
@@ -131,21 +145,21 @@ one_test false b h = inr h
 -- the index of a surcharge
 pub index_of : (s : ℕ) → is_surcharge s ≡ true → (i : ℕ) × (nat_le i 5 ≡ true) × (s ≡ 5 * i)
 index_of s h = elim (one_test ((s == 0) || (s == 5) || (s == 10) || (s == 15) || (s == 20)) (s == 25) h) [
-    | inr e ↦ (5, refl, eqb-true s 25 e)
-    | inl h4 ↦ elim (one_test ((s == 0) || (s == 5) || (s == 10) || (s == 15)) (s == 20) h4) [
-      | inr e ↦ (4, refl, eqb-true s 20 e)
-      | inl h3 ↦ elim (one_test ((s == 0) || (s == 5) || (s == 10)) (s == 15) h3) [
-        | inr e ↦ (3, refl, eqb-true s 15 e)
-        | inl h2 ↦ elim (one_test ((s == 0) || (s == 5)) (s == 10) h2) [
-          | inr e ↦ (2, refl, eqb-true s 10 e)
-          | inl h1 ↦ elim (one_test (s == 0) (s == 5) h1) [
-            | inr e ↦ (1, refl, eqb-true s 5 e)
-            | inl e ↦ (0, refl, eqb-true s 0 e)
-          ]
+  | inr e ↦ (5, refl, eqb-true s 25 e)
+  | inl h4 ↦ elim (one_test ((s == 0) || (s == 5) || (s == 10) || (s == 15)) (s == 20) h4) [
+    | inr e ↦ (4, refl, eqb-true s 20 e)
+    | inl h3 ↦ elim (one_test ((s == 0) || (s == 5) || (s == 10)) (s == 15) h3) [
+      | inr e ↦ (3, refl, eqb-true s 15 e)
+      | inl h2 ↦ elim (one_test ((s == 0) || (s == 5)) (s == 10) h2) [
+        | inr e ↦ (2, refl, eqb-true s 10 e)
+        | inl h1 ↦ elim (one_test (s == 0) (s == 5) h1) [
+          | inr e ↦ (1, refl, eqb-true s 5 e)
+          | inl e ↦ (0, refl, eqb-true s 0 e)
         ]
       ]
     ]
   ]
+]
 
 pub reads_letter : Reads (IsText is_marked letter_text) letter_at
 unfolding letter_at
@@ -173,6 +187,7 @@ reads_class =
     to (suc zero) x = record { valid = refl; spelled = refl }
     to (suc (suc zero)) x = record { valid = refl; spelled = refl }
     to (suc (suc (suc i))) x = absurd (omega (arith, leb-true (suc (suc (suc i))) 2 x))
+
     from : (c : Cabin) (text : List ℕ) → IsText (λ (c : Cabin). true) cabin_text c text → Split1 (λ (i : ℕ). nat_le i 2) (λ (i : ℕ). get_or (codes "F" ∷ later_classes) i []) cabin_of c text
     from F text h = record { a = 0; a_is = refl; value = refl; whole = h.spelled }
     from C text h = record { a = 1; a_is = refl; value = refl; whole = h.spelled }
@@ -189,6 +204,7 @@ reads_kind =
     to zero x = record { valid = refl; spelled = refl }
     to (suc zero) x = record { valid = refl; spelled = refl }
     to (suc (suc i)) x = absurd (omega (arith, leb-true (suc (suc i)) 1 x))
+
     from : (k : Kind) (text : List ℕ) → IsText (λ (k : Kind). true) kind_text k text → Split1 (λ (i : ℕ). nat_le i 1) (λ (i : ℕ). get_or (codes "OW" ∷ later_kinds) i []) kind_of k text
     from OW text h = record { a = 0; a_is = refl; value = refl; whole = h.spelled }
     from HR text h = record { a = 1; a_is = refl; value = refl; whole = h.spelled }

@@ -16,3 +16,4 @@ pub mod WayTexts
 pub mod LineWays
 pub mod LineLaws
 pub mod LineSteps
+pub mod LineLengths

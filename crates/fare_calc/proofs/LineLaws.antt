@@ -26,15 +26,20 @@ reads_line : Reads (IsText is_line line_text) line_at
 reads_line =
     same FromCity (IsText is_line line_text) line_at reads_from_city
     (λ line text j.
-      let l = j.behind_is in
-      let sound = way_is_text l.pieces (start j.first) line (draft_start j.first j.front_is.valid) l.way in
-      record {
-        valid = sound.0;
-        spelled = j.whole ∙ ap (λ (t : List ℕ). t ++ j.behind) (j.front_is.spelled ∙ sym (start_text j.first)) ∙ ap (λ (t : List ℕ). so_far (start j.first) ++ t) l.whole ∙ sym sound.1;
-      })
+    let l = j.behind_is in
+    let sound = way_is_text l.pieces (start j.first) line (draft_start j.first j.front_is.valid) l.way in
+    record {
+      valid = sound.0;
+      spelled = j.whole ∙ ap (λ (t : List ℕ). t ++ j.behind) (j.front_is.spelled ∙ sym (start_text j.first)) ∙ ap (λ (t : List ℕ). so_far (start j.first) ++ t) l.whole ∙ sym sound.1;
+    })
     (λ line text h. record {
-      first = line.from; front = spaced line.from; behind = flat_map piece_text (pieces_of line); front_is = record { valid = (line_parts line h.valid).from; spelled = refl };
-      behind_is = record { pieces = pieces_of line; way = line_way line h.valid; whole = refl }; whole = h.spelled ∙ sym (pieces_are_text line) })
+      first = line.from;
+      front = spaced line.from;
+      behind = flat_map piece_text (pieces_of line);
+      front_is = record { valid = (line_parts line h.valid).from; spelled = refl };
+      behind_is = record { pieces = pieces_of line; way = line_way line h.valid; whole = refl };
+      whole = h.spelled ∙ sym (pieces_are_text line);
+    })
 
 -- ---- a text as a whole
 
@@ -75,9 +80,9 @@ line_is a b e = cc
 pub whole_found : (bytes : List ℕ) (line : CalculationLine) → whole_line bytes ≡ Ok line → (is_line line ≡ true) × (line_text line ≡ bytes)
 unfolding line_ok
 whole_found bytes line e = elim (cases (line_at bytes)) [
-    | inl f ↦ go f.0.0 f.0.1 f.1
-    | inr f ↦ absurd (ok_is_not_err line f.0 (sym e ∙ whole_none bytes f.0 f.1))
-  ]
+  | inl f ↦ go f.0.0 f.0.1 f.1
+  | inr f ↦ absurd (ok_is_not_err line f.0 (sym e ∙ whole_none bytes f.0 f.1))
+]
   where
     go : (a : CalculationLine) (rest : List ℕ) → line_at bytes ≡ Ok (a, rest) → (is_line line ≡ true) × (line_text line ≡ bytes)
     go a [] f =
@@ -111,15 +116,17 @@ longest_front : (bytes front back : List ℕ) → bytes ≡ front ++ back → Be
 longest_front bytes front back whole begins refuses =
     let sizes : length bytes ≡ length front + length back = ap length whole ∙ length-append front back in
     let size : length bytes - length back ≡ length front = omega arith in
-    let first : take (length bytes - length back) bytes ≡ front = ap (λ (n : ℕ). take n bytes) size ∙ ap (take (length front)) whole ∙ take_at front back (length front) refl in
-    (omega arith, record {
-      within = omega arith;
-      begins = subst BeginsLine (sym first) begins;
-      longest = λ more above within b.
-        (let n : ℕ = more - length front in
-         let is : more ≡ length front + (more - length front) = omega arith in
-         no_longer bytes front back whole refuses back refl (more - length front) (omega arith) (omega arith) (subst (λ (k : ℕ). BeginsLine (take k bytes)) is b));
-    })
+    let first : take (length bytes - length back) bytes ≡ front = ap (λ (n : ℕ). take n bytes) size ∙ ap (take (length front)) whole ∙ take_at front back (length front) refl in (
+      omega arith,
+      record {
+        within = omega arith;
+        begins = subst BeginsLine (sym first) begins;
+        longest = λ more above within b.
+            (let n : ℕ = more - length front in
+            let is : more ≡ length front + (more - length front) = omega arith in
+            no_longer bytes front back whole refuses back refl (more - length front) (omega arith) (omega arith) (subst (λ (k : ℕ). BeginsLine (take k bytes)) is b));
+      },
+    )
 
 -- a text that stops
 front_of : (bytes : List ℕ) (left : ℕ) → line_at bytes ≡ Err left → (left ≤ length bytes) × IsLongestFront bytes (length bytes - left)
@@ -139,17 +146,32 @@ front_of_line bytes rest line f =
     let got = reads_line.found bytes rest line f in
     longest_front bytes got.0 rest got.2 (line, [], got.1.valid, sym got.1.spelled ∙ sym (append-nil got.0))
     (λ next others more a e valid is.
-      nothing_behind next more (one_reading (IsText is_line line_text) line_at reads_line a line (line_text a) got.0 [] (next ∷ more) (record { valid = valid; spelled = refl }) got.1 (append-nil (line_text a) ∙ is)).1)
+    nothing_behind next more (one_reading (IsText is_line line_text) line_at reads_line a line (line_text a) got.0 [] (next ∷ more) (record { valid = valid; spelled = refl }) got.1 (append-nil (line_text a) ∙ is)).1)
 
 -- what is no line
 pub whole_stops : (bytes : List ℕ) (left : ℕ) → whole_line bytes ≡ Err left → (left ≤ length bytes) × IsLongestFront bytes (length bytes - left)
 whole_stops bytes left e = elim (cases (line_at bytes)) [
-    | inl f ↦ go f.0.0 f.0.1 f.1
-    | inr f ↦ subst (λ (k : ℕ). (k ≤ length bytes) × IsLongestFront bytes (length bytes - k)) (stopped_is {A = CalculationLine} f.0 left (sym (whole_none bytes f.0 f.1) ∙ e)) (front_of bytes f.0 f.1)
-  ]
+  | inl f ↦ go f.0.0 f.0.1 f.1
+  | inr f ↦ subst (λ (k : ℕ). (k ≤ length bytes) × IsLongestFront bytes (length bytes - k)) (stopped_is {A = CalculationLine} f.0 left (sym (whole_none bytes f.0 f.1) ∙ e)) (front_of bytes f.0 f.1)
+]
   where
     go : (a : CalculationLine) (rest : List ℕ) → line_at bytes ≡ Ok (a, rest) → (left ≤ length bytes) × IsLongestFront bytes (length bytes - left)
     go a [] f = absurd (ok_is_not_err a left (sym (whole_of bytes [] a f) ∙ e))
     go a (next ∷ rest) f =
         subst (λ (k : ℕ). (k ≤ length bytes) × IsLongestFront bytes (length bytes - k))
         (stopped_is {A = CalculationLine} (length (next ∷ rest)) left (sym (whole_more bytes next rest a f) ∙ e)) (front_of_line bytes (next ∷ rest) a f)
+
+-- two lines of one text are one
+pub one_line : (a b : CalculationLine) → is_line a ≡ true → is_line b ≡ true → line_text a ≡ line_text b → a ≡ b
+unfolding line_ok
+one_line a b x y e = line_is a b (sym (whole_only (line_text a) a x refl) ∙ whole_only (line_text a) b y (sym e))
+
+-- what is read is the one line of the text
+pub found_one : (bytes : List ℕ) (found line : CalculationLine) → whole_line bytes ≡ Ok found → is_line line ≡ true → line_text line ≡ bytes → found ≡ line
+found_one bytes found line e valid text =
+    let got = whole_found bytes found e in
+    one_line found line got.0 valid (got.1 ∙ sym text)
+
+-- the text of a line is read
+pub not_both : (bytes : List ℕ) (left : ℕ) (line : CalculationLine) → whole_line bytes ≡ Err left → is_line line ≡ true → line_text line ≡ bytes → ⊥
+not_both bytes left line e valid text = ok_is_not_err line left (sym (whole_only bytes line valid text) ∙ e)

@@ -89,10 +89,10 @@ pieces_are_text line =
     let totals : Totals = record { total = line.total; roe = line.roe } in
     ap (λ (t : List ℕ). spaced line.from ++ t)
     (flat_joined (parts_of 0 line.sectors line.parts) (plus_ups_of line.plus ++ (End (record { total = line.total; roe = line.roe }) ∷ []))
-     ∙ ap (λ (t : List ℕ). t ++ flat_map piece_text (plus_ups_of line.plus ++ (End (record { total = line.total; roe = line.roe }) ∷ []))) (parts_are_text 0 line.sectors line.parts)
-     ∙ ap (λ (t : List ℕ). parts_text 0 line.sectors line.parts ++ t)
-     (flat_joined (plus_ups_of line.plus) (End (record { total = line.total; roe = line.roe }) ∷ [])
-      ∙ ap (λ (t : List ℕ). t ++ flat_map piece_text (End (record { total = line.total; roe = line.roe }) ∷ [])) (plus_ups_text line.plus)))
+    ∙ ap (λ (t : List ℕ). t ++ flat_map piece_text (plus_ups_of line.plus ++ (End (record { total = line.total; roe = line.roe }) ∷ []))) (parts_are_text 0 line.sectors line.parts)
+    ∙ ap (λ (t : List ℕ). parts_text 0 line.sectors line.parts ++ t)
+    (flat_joined (plus_ups_of line.plus) (End (record { total = line.total; roe = line.roe }) ∷ [])
+    ∙ ap (λ (t : List ℕ). t ++ flat_map piece_text (End (record { total = line.total; roe = line.roe }) ∷ [])) (plus_ups_text line.plus)))
     ∙ regroup (spaced line.from) (parts_text 0 line.sectors line.parts) (flat_map plus_text line.plus) (totals_text line.total line.roe)
   where
     regroup : (a b c d : List ℕ) → a ++ (b ++ (c ++ (d ++ []))) ≡ a ++ b ++ c ++ d
@@ -108,9 +108,10 @@ sectors_way [] d rest line all few none way = subst (λ (k : List LineSector). W
 sectors_way (sector ∷ sectors) d rest line all few none way =
     let tests = both_tests (is_flown sector) (list_all is_flown sectors) all in
     let size : length (d.pending ++ sector ∷ []) ≡ length d.pending + 1 = length-append d.pending (sector ∷ []) in
-    let joined : d.pending ++ sector ∷ sectors ≡ (d.pending ++ sector ∷ []) ++ sectors = sym (append_assoc d.pending (sector ∷ []) sectors) in
-    ((tests.0, omega arith, none),
-     sectors_way sectors (with_piece d (Sector sector)) rest line tests.1 (omega arith) none (subst (λ (k : List LineSector). Way (record d { pending = k }) rest line) joined way))
+    let joined : d.pending ++ sector ∷ sectors ≡ (d.pending ++ sector ∷ []) ++ sectors = sym (append_assoc d.pending (sector ∷ []) sectors) in (
+      (tests.0, omega arith, none),
+      sectors_way sectors (with_piece d (Sector sector)) rest line tests.1 (omega arith) none (subst (λ (k : List LineSector). Way (record d { pending = k }) rest line) joined way),
+    )
 
 -- a draft that stands between two parts, or at the beginning
 abbrev at : City → List LineSector → List LinePart → ℕ → DraftLine
@@ -142,7 +143,7 @@ one_way from closed parts begun (Some city) own part rest line (inr none) valid 
     no : is_none (Some city) ≡ true → ⊥
     no h = absurd cc
 
-all_take : (n : ℕ) (xs : List LineSector) → list_all is_flown xs ≡ true → (list_all is_flown (take n xs) ≡ true) × (list_all is_flown (drop n xs) ≡ true)
+pub all_take : (n : ℕ) (xs : List LineSector) → list_all is_flown xs ≡ true → (list_all is_flown (take n xs) ≡ true) × (list_all is_flown (drop n xs) ≡ true)
 all_take zero xs h = (refl, h)
 all_take (suc n) [] h = (refl, refl)
 all_take (suc n) (x ∷ xs) h =
@@ -150,7 +151,7 @@ all_take (suc n) (x ∷ xs) h =
     let rest = all_take n xs tests.1 in
     (rw (tests.0, rest.0) refl, rest.1)
 
-gap_valid : (part : LinePart) → is_priced part ≡ true → is_gap part.gap ≡ true
+pub gap_valid : (part : LinePart) → is_priced part ≡ true → is_gap part.gap ≡ true
 gap_valid part h = grind arith
 
 -- parts, one after the other
@@ -182,7 +183,7 @@ parts_way (part ∷ parts) from closed sectors before begun rest line led all sh
     (inl (omega arith)) flown.1 (ap (λ (k : ℕ). are_parts part.end k parts) left ∙ lead.rest) on in
     subst (λ (k : List Piece). Way (at from closed before begun) k line) (regroup (gap_of part.gap) (sectors_of (take (flown_count begun part) sectors)) (parts_of part.end (drop (flown_count begun part) sectors) parts) rest part)
     (one_way from closed before begun part.gap (take (flown_count begun part) sectors) part (parts_of part.end (drop (flown_count begun part) sectors) parts ++ rest) line
-     led (gap_valid part lead.priced) flown.0 lead.priced refl (omega arith) (omega arith) lead.ends others)
+    led (gap_valid part lead.priced) flown.0 lead.priced refl (omega arith) (omega arith) lead.ends others)
   where
     regroup : (a b c rest : List Piece) (part : LinePart) → a ++ (b ++ (Part part ∷ (c ++ rest))) ≡ (a ++ (b ++ (Part part ∷ c))) ++ rest
     regroup a b c rest part = simp append_assoc
@@ -195,10 +196,11 @@ plus_ups_way [] d rest line all few between way = subst (λ (k : List PlusUp). W
 plus_ups_way (one ∷ others) d rest line all few between way =
     let tests = both_tests (is_plus one) (list_all is_plus others) all in
     let size : length (d.plus ++ one ∷ []) ≡ length d.plus + 1 = length-append d.plus (one ∷ []) in
-    let joined : d.plus ++ one ∷ others ≡ (d.plus ++ one ∷ []) ++ others = sym (append_assoc d.plus (one ∷ []) others) in
-    ((tests.0, between, omega arith),
-     plus_ups_way others (with_piece d (Plus one)) rest line tests.1 (omega arith) (record { none_pending = between.none_pending; no_gap = between.no_gap; some_part = between.some_part })
-     (subst (λ (k : List PlusUp). Way (record d { plus = k }) rest line) joined way))
+    let joined : d.plus ++ one ∷ others ≡ (d.plus ++ one ∷ []) ++ others = sym (append_assoc d.plus (one ∷ []) others) in (
+      (tests.0, between, omega arith),
+      plus_ups_way others (with_piece d (Plus one)) rest line tests.1 (omega arith) (record { none_pending = between.none_pending; no_gap = between.no_gap; some_part = between.some_part })
+          (subst (λ (k : List PlusUp). Way (record d { plus = k }) rest line) joined way),
+    )
 
 -- what the test of a line says
 pub record LineParts (line : CalculationLine) : Type 0 where
@@ -236,4 +238,4 @@ line_way line h =
     let last : IsBetween (record { from = line.from; closed = line.sectors; parts = line.parts; begun = last_end 0 line.parts; gap = None; pending = []; plus = line.plus }) = record { none_pending = refl; no_gap = refl; some_part = led.0 } in
     parts_way line.parts line.from [] line.sectors [] 0 (plus_ups_of line.plus ++ (End (record { total = line.total; roe = line.roe }) ∷ [])) line (inr led.1) tests.sectors tests.parts
     (plus_ups_way line.plus (at line.from line.sectors line.parts (last_end 0 line.parts)) (End (record { total = line.total; roe = line.roe }) ∷ []) line tests.plus (let few = tests.few in omega arith) between
-     ((tests.total, tests.roe, last), (refl, refl)))
+    ((tests.total, tests.roe, last), (refl, refl)))

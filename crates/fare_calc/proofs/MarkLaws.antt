@@ -60,10 +60,11 @@ nuc_plain n below =
     length-append (decimal (n / 100) ++ 46 ∷ []) ((48 + n % 100 / 10) ∷ (48 + n % 100 % 10) ∷ []) ∙ ap (λ (k : ℕ). k + 2) (length-append (decimal (n / 100)) (46 ∷ [])) in
     let first : get_or ((decimal (n / 100) ++ 46 ∷ []) ++ ((48 + n % 100 / 10) ∷ (48 + n % 100 % 10) ∷ [])) 0 0 ≡ get_or (decimal (n / 100)) 0 0 =
     get_or_append_left (decimal (n / 100) ++ 46 ∷ []) ((48 + n % 100 / 10) ∷ (48 + n % 100 % 10) ∷ []) 0 0 (omega (arith, length-append (decimal (n / 100)) (46 ∷ [])))
-    ∙ get_or_append_left (decimal (n / 100)) (46 ∷ []) 0 0 some in
-    (subst (λ (t : List ℕ). list_all is_plain t ≡ true) pieces all,
-     subst (λ (t : List ℕ). 4 ≤ length t) pieces (omega (arith, size)),
-     subst (λ (t : List ℕ). is_ascii_digit (get_or t 0 0) ≡ true) pieces (ap is_ascii_digit first ∙ all_at_least is_ascii_digit (decimal (n / 100)) 0 some digits))
+    ∙ get_or_append_left (decimal (n / 100)) (46 ∷ []) 0 0 some in (
+      subst (λ (t : List ℕ). list_all is_plain t ≡ true) pieces all,
+      subst (λ (t : List ℕ). 4 ≤ length t) pieces (omega (arith, size)),
+      subst (λ (t : List ℕ). is_ascii_digit (get_or t 0 0) ≡ true) pieces (ap is_ascii_digit first ∙ all_at_least is_ascii_digit (decimal (n / 100)) 0 some digits),
+    )
 
 -- a byte of an amount that others follow
 pub nuc_at : (n i : ℕ) (more : List ℕ) → is_amount n ≡ true → i < 4 → is_plain (get_or (nuc_text n ++ more) i 0) ≡ true
@@ -112,8 +113,16 @@ reads_paired letter =
     chain3 is_city (λ (c : List ℕ). c) is_city (λ (c : List ℕ). c) is_amount nuc_text (λ (a b : List ℕ) (n : ℕ). record { letter = letter; pair = Some (a, b); amount = n }) (IsPaired letter)
     city_at city_at amount_at reads_city reads_city reads_amount (codes "AAA") refl 0 refl
     (λ a b n x y z. record { letter_is = refl; first = a; second = b; pair_is = refl; first_is = x; second_is = y; valid = z; spelled = refl })
-    (λ mark text h. record { a = h.first; b = h.second; c = mark.amount; a_is = h.first_is; b_is = h.second_is; c_is = h.valid;
-      value = same_mark mark letter (Some (h.first, h.second)) h.letter_is h.pair_is; whole = h.spelled })
+    (λ mark text h. record {
+      a = h.first;
+      b = h.second;
+      c = mark.amount;
+      a_is = h.first_is;
+      b_is = h.second_is;
+      c_is = h.valid;
+      value = same_mark mark letter (Some (h.first, h.second)) h.letter_is h.pair_is;
+      whole = h.spelled;
+    })
 
 upper_is_no_digit : (c : ℕ) → is_ascii_uppercase c ≡ true → is_ascii_digit c ≡ true → ⊥
 upper_is_no_digit c h k = grind (arith, nat_tests)
@@ -187,13 +196,24 @@ mark_from : (letter : Letter) (pair : Option (City × City)) (amount : ℕ) (tex
 mark_from Bare None amount text x y z e = inr (record { letter_is = refl; pair_is = refl; valid = z; spelled = e })
 mark_from Bare (Some pair) amount text x y z e = absurd cc
 mark_from (Mileage s) None amount text x y z e =
-    inl (record { first = Mileage s; front = letter_text (Mileage s); behind = nuc_text amount; front_is = record { valid = x; spelled = refl };
-      behind_is = inr (record { letter_is = refl; pair_is = refl; valid = z; spelled = refl }); whole = e ∙ ap (λ (t : List ℕ). t ++ nuc_text amount) (append-nil (letter_text (Mileage s))) })
+    inl (record {
+      first = Mileage s;
+      front = letter_text (Mileage s);
+      behind = nuc_text amount;
+      front_is = record { valid = x; spelled = refl };
+      behind_is = inr (record { letter_is = refl; pair_is = refl; valid = z; spelled = refl });
+      whole = e ∙ ap (λ (t : List ℕ). t ++ nuc_text amount) (append-nil (letter_text (Mileage s)));
+    })
 mark_from (Mileage s) (Some pair) amount text x y z e =
     let cities = both_tests (is_city pair.0) (is_city pair.1) y in
-    inl (record { first = Mileage s; front = letter_text (Mileage s); behind = pair.0 ++ (pair.1 ++ nuc_text amount); front_is = record { valid = x; spelled = refl };
+    inl (record {
+      first = Mileage s;
+      front = letter_text (Mileage s);
+      behind = pair.0 ++ (pair.1 ++ nuc_text amount);
+      front_is = record { valid = x; spelled = refl };
       behind_is = inl (record { letter_is = refl; first = pair.0; second = pair.1; pair_is = refl; first_is = cities.0; second_is = cities.1; valid = z; spelled = refl });
-      whole = e ∙ simp append_assoc })
+      whole = e ∙ simp append_assoc;
+    })
 
 marked_letter : (letter : Letter) → is_marked letter ≡ true → is_letter letter ≡ true
 marked_letter Bare h = refl
@@ -214,15 +234,15 @@ mark_to mark text (inr q) = record {
   spelled = q.spelled ∙ rw (q.letter_is, q.pair_is) refl;
 }
 mark_to mark text (inl j) = elim j.behind_is [
-    | inl p ↦ record {
-        valid = rw (p.letter_is, p.pair_is, marked_letter j.first j.front_is.valid, paired_is j.first p.first p.second j.front_is.valid p.first_is p.second_is, p.valid) refl;
-        spelled = j.whole ∙ rw (j.front_is.spelled, p.spelled, p.letter_is, p.pair_is) (sym (simp append_assoc));
-      }
-    | inr q ↦ record {
-        valid = rw (q.letter_is, q.pair_is, marked_letter j.first j.front_is.valid, unpaired_is j.first, q.valid) refl;
-        spelled = j.whole ∙ rw (j.front_is.spelled, q.spelled, q.letter_is, q.pair_is, append-nil) refl;
-      }
-  ]
+  | inl p ↦ record {
+    valid = rw (p.letter_is, p.pair_is, marked_letter j.first j.front_is.valid, paired_is j.first p.first p.second j.front_is.valid p.first_is p.second_is, p.valid) refl;
+    spelled = j.whole ∙ rw (j.front_is.spelled, p.spelled, p.letter_is, p.pair_is) (sym (simp append_assoc));
+  }
+  | inr q ↦ record {
+    valid = rw (q.letter_is, q.pair_is, marked_letter j.first j.front_is.valid, unpaired_is j.first, q.valid) refl;
+    spelled = j.whole ∙ rw (j.front_is.spelled, q.spelled, q.letter_is, q.pair_is, append-nil) refl;
+  }
+]
 
 pub reads_mark : Reads (IsText is_mark text_of_mark) mark_at
 unfolding mark_at
@@ -256,15 +276,24 @@ reads_price end gap given =
     (λ (mark : Mark) (space : ℕ) (tag : Tag) (unit : ℕ). part_of end gap mark tag unit) (IsPart end gap)
     mark_at (byte_at (This 32)) tag_at unit_at reads_mark (reads_this 32) reads_tag reads_unit
     32 refl (record { carrier = codes "AA"; class = F; kind = OW; rule = None }) refl 1 refl
-    (λ mark b tag unit x y z w. record { end_is = refl; gap_is = refl; valid = priced end gap mark tag unit given x z w;
-      spelled = regroup (text_of_mark mark) (32 ∷ []) (tag_text tag.carrier tag.class tag.kind tag.rule) (codes "/") (spaced (decimal unit)) })
+    (λ mark b tag unit x y z w. record {
+      end_is = refl;
+      gap_is = refl;
+      valid = priced end gap mark tag unit given x z w;
+      spelled = regroup (text_of_mark mark) (32 ∷ []) (tag_text tag.carrier tag.class tag.kind tag.rule) (codes "/") (spaced (decimal unit));
+    })
     (λ part text h. let tests = seven_tests (is_gap part.gap) (is_letter part.letter) (is_pair part.letter part.pair) (is_amount part.amount) (is_carrier part.carrier) (is_rule part.rule) (is_unit part.unit) h.valid in record {
-      a = record { letter = part.letter; pair = part.pair; amount = part.amount }; a_is = rw (tests.1, tests.2, tests.3) refl;
-      b = 32; b_is = refl;
-      c = record { carrier = part.carrier; class = part.class; kind = part.kind; rule = part.rule }; c_is = rw (tests.4, tests.5) refl;
-      d = part.unit; d_is = tests.6;
+      a = record { letter = part.letter; pair = part.pair; amount = part.amount };
+      a_is = rw (tests.1, tests.2, tests.3) refl;
+      b = 32;
+      b_is = refl;
+      c = record { carrier = part.carrier; class = part.class; kind = part.kind; rule = part.rule };
+      c_is = rw (tests.4, tests.5) refl;
+      d = part.unit;
+      d_is = tests.6;
       value = rw (← h.end_is, ← h.gap_is) refl;
-      whole = h.spelled ∙ sym (regroup (mark_text part.letter part.pair part.amount) (32 ∷ []) (tag_text part.carrier part.class part.kind part.rule) (codes "/") (spaced (decimal part.unit))) })
+      whole = h.spelled ∙ sym (regroup (mark_text part.letter part.pair part.amount) (32 ∷ []) (tag_text part.carrier part.class part.kind part.rule) (codes "/") (spaced (decimal part.unit)));
+    })
   where
     regroup : (a b c d e : List ℕ) → a ++ (b ++ ((c ++ d) ++ e)) ≡ (((a ++ b) ++ c) ++ d) ++ e
     regroup a b c d e = simp append_assoc

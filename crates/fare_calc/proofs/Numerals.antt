@@ -175,11 +175,11 @@ unfolding whole_at
 reads_whole limit least most =
     same (Or (Counted limit) Nought) (IsWhole limit) (whole_at limit)
     (reads_either (Counted limit) Nought (counted_at limit) nought_at (reads_counted limit) reads_nought
-     (λ a b s t x y p q e.
-       let range = among p.first p.front_is.of_kind in
-       let cells : p.first ∷ (p.behind ++ x) ≡ 48 ∷ (46 ∷ y) = ap (λ (u : List ℕ). u ++ x) (sym (p.whole ∙ ap (λ (u : List ℕ). u ++ p.behind) p.front_is.alone)) ∙ e ∙ ap (λ (u : List ℕ). u ++ y) q.is in
-       let heads : p.first ≡ 48 = cc in
-       absurd (omega (arith, range.0, heads))))
+    (λ a b s t x y p q e.
+    let range = among p.first p.front_is.of_kind in
+    let cells : p.first ∷ (p.behind ++ x) ≡ 48 ∷ (46 ∷ y) = ap (λ (u : List ℕ). u ++ x) (sym (p.whole ∙ ap (λ (u : List ℕ). u ++ p.behind) p.front_is.alone)) ∙ e ∙ ap (λ (u : List ℕ). u ++ y) q.is in
+    let heads : p.first ≡ 48 = cc in
+    absurd (omega (arith, range.0, heads))))
     (λ number text o. elim o [
       | inl j ↦ (counted_to limit number text least most j).whole
       | inr m ↦ record { below = omega (arith, m.value); spelled = m.is ∙ sym nought_is ∙ ap (λ (k : ℕ). decimal k ++ 46 ∷ []) (sym m.value) }
@@ -201,28 +201,28 @@ unfolding hundredths_at
 reads_hundredths =
     same (Joined (IsByte Digit) (λ (a : ℕ). Mapped (IsByte Digit) (λ (b : ℕ). 10 * (a - 48) + (b - 48)))) IsHundredths hundredths_at
     (joined (IsByte Digit) (λ (a : ℕ). Mapped (IsByte Digit) (λ (b : ℕ). 10 * (a - 48) + (b - 48))) (byte_at Digit) (λ (a : ℕ) (rest : List ℕ). byte_at Digit rest >>= λ x. Ok (10 * (a - 48) + (x.0 - 48), x.1))
-     (reads_byte Digit 48 refl) (λ a text h. mapped (IsByte Digit) (λ (b : ℕ). 10 * (a - 48) + (b - 48)) (byte_at Digit) (reads_byte Digit 48 refl))
-     (λ a text h. (10 * (a - 48) + (48 - 48), 48 ∷ [], record { origin = 48; is = record { of_kind = refl; alone = refl }; value = refl })))
+    (reads_byte Digit 48 refl) (λ a text h. mapped (IsByte Digit) (λ (b : ℕ). 10 * (a - 48) + (b - 48)) (byte_at Digit) (reads_byte Digit 48 refl))
+    (λ a text h. (10 * (a - 48) + (48 - 48), 48 ∷ [], record { origin = 48; is = record { of_kind = refl; alone = refl }; value = refl })))
     (λ number text j.
-      let a = j.first in
-      let b = j.behind_is.origin in
-      let tens = digit_range a j.front_is.of_kind in
-      let ones = digit_range b j.behind_is.is.of_kind in
-      let value = j.behind_is.value in
-      let first : a ≡ 48 + number / 10 = omega arith in
-      let second : b ≡ 48 + number % 10 = omega arith in
-      record {
-        below = omega arith;
-        spelled = j.whole ∙ ap (λ (t : List ℕ). t ++ j.behind) j.front_is.alone ∙ ap (λ (t : List ℕ). a ∷ t) j.behind_is.is.alone
-            ∙ ap (λ (k : ℕ). k ∷ b ∷ []) first ∙ ap (λ (k : ℕ). (48 + number / 10) ∷ k ∷ []) second;
-      })
+    let a = j.first in
+    let b = j.behind_is.origin in
+    let tens = digit_range a j.front_is.of_kind in
+    let ones = digit_range b j.behind_is.is.of_kind in
+    let value = j.behind_is.value in
+    let first : a ≡ 48 + number / 10 = omega arith in
+    let second : b ≡ 48 + number % 10 = omega arith in
+    record {
+      below = omega arith;
+      spelled = j.whole ∙ ap (λ (t : List ℕ). t ++ j.behind) j.front_is.alone ∙ ap (λ (t : List ℕ). a ∷ t) j.behind_is.is.alone
+          ∙ ap (λ (k : ℕ). k ∷ b ∷ []) first ∙ ap (λ (k : ℕ). (48 + number / 10) ∷ k ∷ []) second;
+    })
     (λ number text h.
-      let below = h.below in
-      record {
-        first = 48 + number / 10;
-        front = (48 + number / 10) ∷ [];
-        behind = (48 + number % 10) ∷ [];
-        front_is = record { of_kind = is_digit (48 + number / 10) (omega arith) (omega arith); alone = refl };
-        behind_is = record { origin = 48 + number % 10; is = record { of_kind = is_digit (48 + number % 10) (omega arith) (omega arith); alone = refl }; value = omega arith };
-        whole = h.spelled;
-      })
+    let below = h.below in
+    record {
+      first = 48 + number / 10;
+      front = (48 + number / 10) ∷ [];
+      behind = (48 + number % 10) ∷ [];
+      front_is = record { of_kind = is_digit (48 + number / 10) (omega arith) (omega arith); alone = refl };
+      behind_is = record { origin = 48 + number % 10; is = record { of_kind = is_digit (48 + number % 10) (omega arith) (omega arith); alone = refl }; value = omega arith };
+      whole = h.spelled;
+    })

@@ -115,17 +115,17 @@ end_from d totals text h = record { origin = totals; is = record { valid = rw (h
 within_reads : (d : DraftLine) → IsDraft d → 0 < length d.pending → length d.plus ≡ 0 → Reads (IsNext d) (within_at d)
 unfolding within_at
 within_reads d draft some none = elim (cases_lt (count d) 16) [
-    | inl few ↦ same_reader (IsNext d) (λ bytes. either (sector_piece bytes) (part_piece d bytes)) (within_at d)
+  | inl few ↦ same_reader (IsNext d) (λ bytes. either (sector_piece bytes) (part_piece d bytes)) (within_at d)
       (same (Or SectorText (PartText d)) (IsNext d) (λ bytes. either (sector_piece bytes) (part_piece d bytes))
-       (reads_either SectorText (PartText d) sector_piece (part_piece d) sector_reads (part_reads d draft)
-        (λ a b s t x y p q e. sector_part p.origin q.origin x y p.is.valid q.is.valid (both_texts s t _ _ x y p.is.spelled q.is.spelled e)))
-       (λ piece text o. elim o [ inl m ↦ sector_next d piece text few none m | inr m ↦ part_next d piece text some m ])
-       (λ piece text h. from piece text h))
+      (reads_either SectorText (PartText d) sector_piece (part_piece d) sector_reads (part_reads d draft)
+      (λ a b s t x y p q e. sector_part p.origin q.origin x y p.is.valid q.is.valid (both_texts s t _ _ x y p.is.spelled q.is.spelled e)))
+      (λ piece text o. elim o [ inl m ↦ sector_next d piece text few none m | inr m ↦ part_next d piece text some m ])
+      (λ piece text h. from piece text h))
       (λ bytes. rw (lt-ltb (count d) 16 few) refl)
-    | inr full ↦ same_reader (IsNext d) (part_piece d) (within_at d)
+  | inr full ↦ same_reader (IsNext d) (part_piece d) (within_at d)
       (same (PartText d) (IsNext d) (part_piece d) (part_reads d draft) (λ piece text m. part_next d piece text some m) (λ piece text h. only full piece text h))
       (λ bytes. rw (le-ltb (count d) 16 full) refl)
-  ]
+]
   where
     from : (piece : Piece) (text : List ℕ) → IsNext d piece text → Or SectorText (PartText d) piece text
     from (Sector sector) text h = inl (sector_from d sector text h)
@@ -133,6 +133,7 @@ within_reads d draft some none = elim (cases_lt (count d) 16) [
     from (Gap city) text h = absurd (omega (arith, h.allowed.1.none_pending))
     from (Plus plus) text h = absurd (omega (arith, h.allowed.1.none_pending))
     from (End totals) text h = absurd (omega (arith, h.allowed.2.none_pending))
+
     only : 16 ≤ count d → (piece : Piece) (text : List ℕ) → IsNext d piece text → PartText d piece text
     only full (Sector sector) text h = (let few = h.allowed.1 in absurd (omega arith))
     only full (Part part) text h = part_from d part text h
@@ -163,17 +164,17 @@ end_closes d piece text between m = record { closing = subst IsClosing (sym m.va
 closing_reads : (d : DraftLine) → IsBetween d → Reads (Closes d) (closing_at d)
 unfolding closing_at
 closing_reads d between = elim (cases_lt (length d.plus) 16) [
-    | inl few ↦ same_reader (Closes d) (λ bytes. either (plus_piece bytes) (end_piece bytes)) (closing_at d)
+  | inl few ↦ same_reader (Closes d) (λ bytes. either (plus_piece bytes) (end_piece bytes)) (closing_at d)
       (same (Or PlusText EndText) (Closes d) (λ bytes. either (plus_piece bytes) (end_piece bytes))
-       (reads_either PlusText EndText plus_piece end_piece plus_reads end_reads
-        (λ a b s t x y p q e. plus_end p.origin q.origin x y (both_texts s t _ _ x y p.is.spelled q.is.spelled e)))
-       (λ piece text o. elim o [ inl m ↦ plus_closes d piece text between few m | inr m ↦ end_closes d piece text between m ])
-       (λ piece text h. from piece text h.closing h.next))
+      (reads_either PlusText EndText plus_piece end_piece plus_reads end_reads
+      (λ a b s t x y p q e. plus_end p.origin q.origin x y (both_texts s t _ _ x y p.is.spelled q.is.spelled e)))
+      (λ piece text o. elim o [ inl m ↦ plus_closes d piece text between few m | inr m ↦ end_closes d piece text between m ])
+      (λ piece text h. from piece text h.closing h.next))
       (λ bytes. rw (lt-ltb (length d.plus) 16 few) refl)
-    | inr full ↦ same_reader (Closes d) end_piece (closing_at d)
+  | inr full ↦ same_reader (Closes d) end_piece (closing_at d)
       (same EndText (Closes d) end_piece end_reads (λ piece text m. end_closes d piece text between m) (λ piece text h. only full piece text h.closing h.next))
       (λ bytes. rw (le-ltb (length d.plus) 16 full) refl)
-  ]
+]
   where
     from : (piece : Piece) (text : List ℕ) → IsClosing piece → IsNext d piece text → Or PlusText EndText piece text
     from (Sector sector) text c h = absurd c
@@ -181,6 +182,7 @@ closing_reads d between = elim (cases_lt (length d.plus) 16) [
     from (Gap city) text c h = absurd c
     from (Plus plus) text c h = inl (plus_from d plus text h)
     from (End totals) text c h = inr (end_from d totals text h)
+
     only : 16 ≤ length d.plus → (piece : Piece) (text : List ℕ) → IsClosing piece → IsNext d piece text → EndText piece text
     only full (Sector sector) text c h = absurd c
     only full (Part part) text c h = absurd c
@@ -225,42 +227,45 @@ closing_next d piece text c = c.next
 between_reads : (d : DraftLine) → IsBetween d → length d.plus ≡ 0 → Reads (IsNext d) (between_at d)
 unfolding between_at
 between_reads d between none = elim (cases_lt (count d) 15) [
-    | inl few ↦ same_reader (IsNext d) (λ bytes. either (further_at bytes) (closing_at d bytes)) (between_at d)
+  | inl few ↦ same_reader (IsNext d) (λ bytes. either (further_at bytes) (closing_at d bytes)) (between_at d)
       (same (Or Begins (Closes d)) (IsNext d) (λ bytes. either (further_at bytes) (closing_at d bytes))
-       (reads_either Begins (Closes d) further_at (closing_at d) further_reads (closing_reads d between) (λ a b s t x y p q e. begins_closing d a b s t x y p q e))
-       (λ piece text o. elim o [
-         | inl m ↦ elim m [ inl k ↦ sector_next d piece text (omega arith) none k | inr k ↦ gap_next d piece text between few none k ]
-         | inr c ↦ closing_next d piece text c
-       ])
-       (λ piece text h. all piece text h))
+      (reads_either Begins (Closes d) further_at (closing_at d) further_reads (closing_reads d between) (λ a b s t x y p q e. begins_closing d a b s t x y p q e))
+      (λ piece text o. elim o [
+        | inl m ↦ elim m [ inl k ↦ sector_next d piece text (omega arith) none k | inr k ↦ gap_next d piece text between few none k ]
+        | inr c ↦ closing_next d piece text c
+      ])
+      (λ piece text h. all piece text h))
       (λ bytes. rw (lt-ltb (count d) 15 few) refl)
-    | inr no_gap ↦ elim (cases_lt (count d) 16) [
-      | inl few ↦ same_reader (IsNext d) (λ bytes. either (sector_piece bytes) (closing_at d bytes)) (between_at d)
+  | inr no_gap ↦ elim (cases_lt (count d) 16) [
+    | inl few ↦ same_reader (IsNext d) (λ bytes. either (sector_piece bytes) (closing_at d bytes)) (between_at d)
         (same (Or SectorText (Closes d)) (IsNext d) (λ bytes. either (sector_piece bytes) (closing_at d bytes))
-         (reads_either SectorText (Closes d) sector_piece (closing_at d) sector_reads (closing_reads d between) (λ a b s t x y p q e. sector_closing d a b s t x y p q e))
-         (λ piece text o. elim o [ inl m ↦ sector_next d piece text few none m | inr c ↦ closing_next d piece text c ])
-         (λ piece text h. one no_gap piece text h))
+        (reads_either SectorText (Closes d) sector_piece (closing_at d) sector_reads (closing_reads d between) (λ a b s t x y p q e. sector_closing d a b s t x y p q e))
+        (λ piece text o. elim o [ inl m ↦ sector_next d piece text few none m | inr c ↦ closing_next d piece text c ])
+        (λ piece text h. one no_gap piece text h))
         (λ bytes. rw (le-ltb (count d) 15 no_gap, lt-ltb (count d) 16 few) refl)
-      | inr full ↦ same_reader (IsNext d) (closing_at d) (between_at d)
+    | inr full ↦ same_reader (IsNext d) (closing_at d) (between_at d)
         (same (Closes d) (IsNext d) (closing_at d) (closing_reads d between) (λ piece text c. closing_next d piece text c) (λ piece text h. none_more full piece text h))
         (λ bytes. rw (le-ltb (count d) 15 no_gap, le-ltb (count d) 16 full) refl)
-    ]
   ]
+]
   where
     no_part : (part : LinePart) (text : List ℕ) → IsNext d (Part part) text → ⊥
     no_part part text h = (let some = h.allowed.1 in absurd (omega (arith, between.none_pending)))
+
     all : (piece : Piece) (text : List ℕ) → IsNext d piece text → Or Begins (Closes d) piece text
     all (Sector sector) text h = inl (inl (sector_from d sector text h))
     all (Part part) text h = absurd (no_part part text h)
     all (Gap city) text h = inl (inr (gap_from d city text h))
     all (Plus plus) text h = inr (record { closing = tt; next = h })
     all (End totals) text h = inr (record { closing = tt; next = h })
+
     one : 15 ≤ count d → (piece : Piece) (text : List ℕ) → IsNext d piece text → Or SectorText (Closes d) piece text
     one room (Sector sector) text h = inl (sector_from d sector text h)
     one room (Part part) text h = absurd (no_part part text h)
     one room (Gap city) text h = (let few = h.allowed.2 in absurd (omega arith))
     one room (Plus plus) text h = inr (record { closing = tt; next = h })
     one room (End totals) text h = inr (record { closing = tt; next = h })
+
     none_more : 16 ≤ count d → (piece : Piece) (text : List ℕ) → IsNext d piece text → Closes d piece text
     none_more full (Sector sector) text h = (let few = h.allowed.1 in absurd (omega arith))
     none_more full (Part part) text h = absurd (no_part part text h)
@@ -273,9 +278,9 @@ between_reads d between none = elim (cases_lt (count d) 15) [
 -- behind a sector no plus-up stands
 pub no_plus : (d : DraftLine) → IsDraft d → 0 < length d.pending → length d.plus ≡ 0
 no_plus d draft some = elim (cases_lt 0 (length d.plus)) [
-    | inl more ↦ absurd (omega (arith, (draft.plus_behind more).none_pending))
-    | inr none ↦ omega arith
-  ]
+  | inl more ↦ absurd (omega (arith, (draft.plus_behind more).none_pending))
+  | inr none ↦ omega arith
+]
 
 no_items : (xs : List LinePart) → length xs ≡ 0 → xs ≡ []
 no_items [] f = refl
@@ -297,6 +302,7 @@ begun_room d draft none h = go d.gap refl
   where
     no_more : (0 < length d.plus → ⊥) → length d.plus ≡ 0
     no_more k = elim (cases_lt 0 (length d.plus)) [ inl more ↦ absurd (k more) | inr none ↦ omega arith ]
+
     go : (gap : Option City) → d.gap ≡ gap → (count d < 16) × (length d.plus ≡ 0)
     go None e =
         let empty : length d.parts ≡ 0 = eqb-true (length d.parts) 0 (ap (λ (g : Option City). is_some g || (length d.parts == 0)) (sym e) ∙ h) in
@@ -342,9 +348,9 @@ closing_only d between more (End totals) text k = record { closing = tt; next = 
 pub reads_piece : (d : DraftLine) → IsDraft d → Reads (IsNext d) (piece_at d)
 unfolding piece_at
 reads_piece d draft = elim (cases_lt 0 (length d.pending)) [
-    | inl some ↦ same_reader (IsNext d) (within_at d) (piece_at d) (within_reads d draft some (no_plus d draft some)) (λ bytes. rw (lt-ltb 0 (length d.pending) some) refl)
-    | inr least ↦ (let none : length d.pending ≡ 0 = omega arith in at none (le-ltb 0 (length d.pending) least) (is_some d.gap || (length d.parts == 0)) refl)
-  ]
+  | inl some ↦ same_reader (IsNext d) (within_at d) (piece_at d) (within_reads d draft some (no_plus d draft some)) (λ bytes. rw (lt-ltb 0 (length d.pending) some) refl)
+  | inr least ↦ (let none : length d.pending ≡ 0 = omega arith in at none (le-ltb 0 (length d.pending) least) (is_some d.gap || (length d.parts == 0)) refl)
+]
   where
     at : length d.pending ≡ 0 → nat_lt 0 (length d.pending) ≡ false → (b : Bool) → (is_some d.gap || (length d.parts == 0)) ≡ b → Reads (IsNext d) (piece_at d)
     at none test true h =
@@ -356,10 +362,10 @@ reads_piece d draft = elim (cases_lt 0 (length d.pending)) [
         let between = is_between d none h in
         elim (cases_lt 0 (length d.plus)) [
           | inl more ↦ same_reader (IsNext d) (closing_at d) (piece_at d)
-            (same (Closes d) (IsNext d) (closing_at d) (closing_reads d between) (λ piece text c. closing_next d piece text c) (λ piece text k. closing_only d between more piece text k))
-            (λ bytes. rw (test, h, lt-ltb 0 (length d.plus) more) refl)
+              (same (Closes d) (IsNext d) (closing_at d) (closing_reads d between) (λ piece text c. closing_next d piece text c) (λ piece text k. closing_only d between more piece text k))
+              (λ bytes. rw (test, h, lt-ltb 0 (length d.plus) more) refl)
           | inr few ↦ (let empty : length d.plus ≡ 0 = omega arith in
-            same_reader (IsNext d) (between_at d) (piece_at d) (between_reads d between empty) (λ bytes. rw (test, h, le-ltb 0 (length d.plus) few) refl))
+              same_reader (IsNext d) (between_at d) (piece_at d) (between_reads d between empty) (λ bytes. rw (test, h, le-ltb 0 (length d.plus) few) refl))
         ]
 
 -- a piece that is read may come next

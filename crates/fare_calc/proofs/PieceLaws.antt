@@ -79,13 +79,13 @@ reads_behind : (carrier : Carrier) → Reads (IsBehind carrier) (λ bytes. eithe
 reads_behind carrier =
     same (Or (ToTransfer carrier) (IsPlain carrier false)) (IsBehind carrier) (λ bytes. either (transfer_to carrier bytes) (sector_to carrier false bytes))
     (reads_either (ToTransfer carrier) (IsPlain carrier false) (transfer_to carrier) (sector_to carrier false) (reads_transfer carrier) (reads_plain carrier false)
-     (λ a b s t x y p q e. apart_transfer carrier a b s t x y p q e))
+    (λ a b s t x y p q e. apart_transfer carrier a b s t x y p q e))
     (λ sector text o. elim o [
       | inl j ↦ record { carrier_is = j.behind_is.carrier_is; valid = j.behind_is.valid; spelled = j.whole ∙ rw (j.front_is, j.behind_is.spelled, j.behind_is.transfer_is) refl }
       | inr q ↦ record { carrier_is = q.carrier_is; valid = q.valid; spelled = q.spelled ∙ rw q.transfer_is refl }
     ])
     (λ sector text h. subst (λ (k : LineSector). Or (ToTransfer carrier) (IsPlain carrier false) k text) (sym (same_sector sector carrier sector.transfer h.carrier_is refl))
-      (behind_from carrier sector.transfer sector.to text h.valid h.spelled))
+    (behind_from carrier sector.transfer sector.to text h.valid h.spelled))
 
 -- what a space stands before
 abbrev Spaced : Carrier → LineSector → List ℕ → Type 0
@@ -102,18 +102,39 @@ unfolding sector_at
 reads_sector =
     same (Joined (IsText is_carrier (λ (c : List ℕ). c)) Spaced) (IsText is_flown sector_text) sector_at
     (joined (IsText is_carrier (λ (c : List ℕ). c)) Spaced carrier_at
-     (λ (carrier : List ℕ) (bytes : List ℕ). byte_at (This 32) bytes >>= λ x. either (transfer_to carrier x.1) (sector_to carrier false x.1)) reads_carrier
-     (λ carrier text h. reads_spaced carrier)
-     (λ carrier text h. (record { carrier = carrier; transfer = false; to = codes "AAA" }, codes " AAA ", record {
-       first = 32; front = 32 ∷ []; behind = codes "AAA "; front_is = record { valid = refl; spelled = refl }; behind_is = record { carrier_is = refl; valid = refl; spelled = refl }; whole = refl })))
+    (λ (carrier : List ℕ) (bytes : List ℕ). byte_at (This 32) bytes >>= λ x. either (transfer_to carrier x.1) (sector_to carrier false x.1)) reads_carrier
+    (λ carrier text h. reads_spaced carrier)
+    (λ carrier text h. (
+      record { carrier = carrier; transfer = false; to = codes "AAA" },
+      codes " AAA ",
+      record {
+        first = 32;
+        front = 32 ∷ [];
+        behind = codes "AAA ";
+        front_is = record { valid = refl; spelled = refl };
+        behind_is = record { carrier_is = refl; valid = refl; spelled = refl };
+        whole = refl;
+      },
+    )))
     (λ sector text j. let k = j.behind_is in let b = k.behind_is in record {
       valid = rw (b.carrier_is, j.front_is.valid, b.valid) refl;
-      spelled = j.whole ∙ rw (j.front_is.spelled, k.whole, k.front_is.spelled, b.spelled, b.carrier_is) (sym (simp append_assoc)) })
+      spelled = j.whole ∙ rw (j.front_is.spelled, k.whole, k.front_is.spelled, b.spelled, b.carrier_is) (sym (simp append_assoc));
+    })
     (λ sector text h. let tests = both_tests (is_carrier sector.carrier) (is_city sector.to) h.valid in record {
-      first = sector.carrier; front = sector.carrier; behind = 32 ∷ (transfer_text sector.transfer ++ spaced sector.to); front_is = record { valid = tests.0; spelled = refl };
-      behind_is = record { first = 32; front = 32 ∷ []; behind = transfer_text sector.transfer ++ spaced sector.to; front_is = record { valid = refl; spelled = refl };
-        behind_is = record { carrier_is = refl; valid = tests.1; spelled = refl }; whole = refl };
-      whole = h.spelled ∙ simp append_assoc })
+      first = sector.carrier;
+      front = sector.carrier;
+      behind = 32 ∷ (transfer_text sector.transfer ++ spaced sector.to);
+      front_is = record { valid = tests.0; spelled = refl };
+      behind_is = record {
+        first = 32;
+        front = 32 ∷ [];
+        behind = transfer_text sector.transfer ++ spaced sector.to;
+        front_is = record { valid = refl; spelled = refl };
+        behind_is = record { carrier_is = refl; valid = tests.1; spelled = refl };
+        whole = refl;
+      };
+      whole = h.spelled ∙ simp append_assoc;
+    })
 
 -- ---- gaps, plus-ups and the end
 
@@ -130,9 +151,9 @@ unfolding gap_at
 reads_gap =
     same_reader (IsText is_city slashes) (λ bytes. word_at (codes "// ") bytes >>= λ x. (spaced_city_at x.1 >>= λ y. Ok (y.0, y.1))) gap_at
     (chain2 (λ (u : Unit {0}). true) (λ (u : Unit {0}). codes "// ") is_city spaced (λ (u : Unit {0}) (c : List ℕ). c) (IsText is_city slashes)
-     (word_at (codes "// ")) spaced_city_at (reads_words (codes "// ")) reads_spaced_city (codes "AAA") refl
-     (λ u c x y. record { valid = y; spelled = refl })
-     (λ c text h. record { a = tt; b = c; a_is = refl; b_is = h.valid; value = refl; whole = h.spelled }))
+    (word_at (codes "// ")) spaced_city_at (reads_words (codes "// ")) reads_spaced_city (codes "AAA") refl
+    (λ u c x y. record { valid = y; spelled = refl })
+    (λ c text h. record { a = tt; b = c; a_is = refl; b_is = h.valid; value = refl; whole = h.spelled }))
     (λ bytes. both (word_at (codes "// ") bytes))
   where
     both : (r : Result (Unit {0} × List ℕ) ℕ) → (r >>= λ x. spaced_city_at x.1) ≡ (r >>= λ x. (spaced_city_at x.1 >>= λ y. Ok (y.0, y.1)))
@@ -147,8 +168,17 @@ reads_plus =
     (word_at (codes "P/")) unit_at amount_at (byte_at (This 32)) (reads_words (codes "P/")) reads_unit reads_amount (reads_this 32) 1 refl 0 refl 32 refl
     (λ u unit amount b x y z w. record { valid = rw (y, z) refl; spelled = regroup (spaced (decimal unit)) (nuc_text amount) })
     (λ plus text h. let tests = both_tests (is_unit plus.unit) (is_amount plus.amount) h.valid in record {
-      a = tt; b = plus.unit; c = plus.amount; d = 32; a_is = refl; b_is = tests.0; c_is = tests.1; d_is = refl; value = refl;
-      whole = h.spelled ∙ sym (regroup (spaced (decimal plus.unit)) (nuc_text plus.amount)) })
+      a = tt;
+      b = plus.unit;
+      c = plus.amount;
+      d = 32;
+      a_is = refl;
+      b_is = tests.0;
+      c_is = tests.1;
+      d_is = refl;
+      value = refl;
+      whole = h.spelled ∙ sym (regroup (spaced (decimal plus.unit)) (nuc_text plus.amount));
+    })
   where
     regroup : (b c : List ℕ) → codes "P/" ++ (b ++ (c ++ (32 ∷ []))) ≡ codes "P/" ++ b ++ (c ++ (32 ∷ []))
     regroup b c = sym (append_assoc (codes "P/") b (c ++ (32 ∷ [])))
@@ -168,8 +198,17 @@ reads_totals =
     (word_at (codes "NUC")) amount_at (word_at (codes "END ROE")) rate_at (reads_words (codes "NUC")) reads_amount (reads_words (codes "END ROE")) reads_rate 0 refl tt refl 0 refl
     (λ u total v roe x y z w. record { valid = rw (y, w) refl; spelled = regroup (nuc_text total) (rate_text roe) })
     (λ totals text h. let tests = both_tests (is_amount totals.total) (is_rate totals.roe) h.valid in record {
-      a = tt; b = totals.total; c = tt; d = totals.roe; a_is = refl; b_is = tests.0; c_is = refl; d_is = tests.1; value = refl;
-      whole = h.spelled ∙ sym (regroup (nuc_text totals.total) (rate_text totals.roe)) })
+      a = tt;
+      b = totals.total;
+      c = tt;
+      d = totals.roe;
+      a_is = refl;
+      b_is = tests.0;
+      c_is = refl;
+      d_is = tests.1;
+      value = refl;
+      whole = h.spelled ∙ sym (regroup (nuc_text totals.total) (rate_text totals.roe));
+    })
   where
     regroup : (b d : List ℕ) → codes "NUC" ++ (b ++ (codes "END ROE" ++ d)) ≡ codes "NUC" ++ b ++ codes "END ROE" ++ d
     regroup b d = sym (append_assoc (codes "NUC" ++ b) (codes "END ROE") d ∙ append_assoc (codes "NUC") b (codes "END ROE" ++ d))

@@ -111,16 +111,17 @@ pub joined : {A B : Type 0} (L : A → List ℕ → Type 0) (M : A → B → Lis
     → Reads (Joined L M) (λ bytes. r bytes >>= λ x. s x.0 x.1)
 joined {A} {B} L M r s reads second some = record {
   again = λ b text rest j.
-    let first : r (text ++ rest) ≡ Ok (j.first, j.behind ++ rest) =
-    ap r (ap (λ (t : List ℕ). t ++ rest) j.whole ∙ append_assoc j.front j.behind rest) ∙ reads.again j.first j.front (j.behind ++ rest) j.front_is in
-    rw first ((second j.first j.front j.front_is).again b j.behind rest j.behind_is);
+      let first : r (text ++ rest) ≡ Ok (j.first, j.behind ++ rest) =
+      ap r (ap (λ (t : List ℕ). t ++ rest) j.whole ∙ append_assoc j.front j.behind rest) ∙ reads.again j.first j.front (j.behind ++ rest) j.front_is in
+      rw first ((second j.first j.front j.front_is).again b j.behind rest j.behind_is);
   found = λ bytes rest b e.
-    let got = bind_ok (r bytes) (λ x. s x.0 x.1) (b, rest) e in
-    let one = reads.found bytes got.0.1 got.0.0 got.1 in
-    let two = (second got.0.0 one.0 one.1).found got.0.1 rest b got.2 in
-    (one.0 ++ two.0,
-     record { first = got.0.0; front = one.0; behind = two.0; front_is = one.1; behind_is = two.1; whole = refl },
-     one.2 ∙ ap (λ (t : List ℕ). one.0 ++ t) two.2 ∙ sym (append_assoc one.0 two.0 rest));
+      let got = bind_ok (r bytes) (λ x. s x.0 x.1) (b, rest) e in
+      let one = reads.found bytes got.0.1 got.0.0 got.1 in
+      let two = (second got.0.0 one.0 one.1).found got.0.1 rest b got.2 in (
+        one.0 ++ two.0,
+        record { first = got.0.0; front = one.0; behind = two.0; front_is = one.1; behind_is = two.1; whole = refl },
+        one.2 ∙ ap (λ (t : List ℕ). one.0 ++ t) two.2 ∙ sym (append_assoc one.0 two.0 rest),
+      );
   stops = λ bytes left e. elim (bind_err (r bytes) (λ x. s x.0 x.1) left e) [
     | inl f ↦ stop_first L M r reads some bytes left f
     | inr f ↦ stop_second L M r s reads second bytes left f.0.0 f.0.1 f.1 f.2
@@ -138,13 +139,23 @@ joined {A} {B} L M r s reads second some = record {
           back = stop.back;
           whole = stop.whole;
           left_is = stop.left_is;
-          viable = (goes.0, stop.viable.1 ++ goes.1, record {
-            first = stop.viable.0; front = stop.front ++ stop.viable.1; behind = goes.1; front_is = stop.viable.2; behind_is = goes.2;
-            whole = sym (append_assoc stop.front stop.viable.1 goes.1) });
+          viable = (
+            goes.0,
+            stop.viable.1 ++ goes.1,
+            record {
+              first = stop.viable.0;
+              front = stop.front ++ stop.viable.1;
+              behind = goes.1;
+              front_is = stop.viable.2;
+              behind_is = goes.2;
+              whole = sym (append_assoc stop.front stop.viable.1 goes.1);
+            },
+          );
           refused = λ next others more text behind b back j g.
-            stop.refused next others more j.front (j.behind ++ behind) j.first back j.front_is
-            (sym (append_assoc j.front j.behind behind) ∙ ap (λ (t : List ℕ). t ++ behind) (sym j.whole) ∙ g);
+              stop.refused next others more j.front (j.behind ++ behind) j.first back j.front_is
+              (sym (append_assoc j.front j.behind behind) ∙ ap (λ (t : List ℕ). t ++ behind) (sym j.whole) ∙ g);
         }
+
     stop_second : {A B : Type 0} (L : A → List ℕ → Type 0) (M : A → B → List ℕ → Type 0) (r : List ℕ → Result (A × List ℕ) ℕ) (s : A → List ℕ → Result (B × List ℕ) ℕ)
         → Reads L r → ((a : A) (text : List ℕ) → L a text → Reads (M a) (s a))
         → (bytes : List ℕ) (left : ℕ) (a : A) (rest : List ℕ) → r bytes ≡ Ok (a, rest) → s a rest ≡ Err left → Stops (Joined L M) bytes left
@@ -156,13 +167,22 @@ joined {A} {B} L M r s reads second some = record {
           back = stop.back;
           whole = one.2 ∙ ap (λ (t : List ℕ). one.0 ++ t) stop.whole ∙ sym (append_assoc one.0 stop.front stop.back);
           left_is = stop.left_is;
-          viable = (stop.viable.0, stop.viable.1, record {
-            first = a; front = one.0; behind = stop.front ++ stop.viable.1; front_is = one.1; behind_is = stop.viable.2;
-            whole = append_assoc one.0 stop.front stop.viable.1 });
+          viable = (
+            stop.viable.0,
+            stop.viable.1,
+            record {
+              first = a;
+              front = one.0;
+              behind = stop.front ++ stop.viable.1;
+              front_is = one.1;
+              behind_is = stop.viable.2;
+              whole = append_assoc one.0 stop.front stop.viable.1;
+            },
+          );
           refused = λ next others more text behind b back j h.
-            let split = one_reading L r reads j.first a j.front one.0 (j.behind ++ behind) (stop.front ++ next ∷ more) j.front_is one.1
-            (sym (append_assoc j.front j.behind behind) ∙ ap (λ (t : List ℕ). t ++ behind) (sym j.whole) ∙ h ∙ append_assoc one.0 stop.front (next ∷ more)) in
-            stop.refused next others more j.behind behind b back (subst (λ (x : A). M x b j.behind) split.0 j.behind_is) split.1;
+              let split = one_reading L r reads j.first a j.front one.0 (j.behind ++ behind) (stop.front ++ next ∷ more) j.front_is one.1
+              (sym (append_assoc j.front j.behind behind) ∙ ap (λ (t : List ℕ). t ++ behind) (sym j.whole) ∙ h ∙ append_assoc one.0 stop.front (next ∷ more)) in
+              stop.refused next others more j.behind behind b back (subst (λ (x : A). M x b j.behind) split.0 j.behind_is) split.1;
         }
 
 -- ---- one of two texts, neither of which begins the other
@@ -205,29 +225,29 @@ Or L M a text = L a text ⊎ M a text
 -- both stopped
 both_stopped : {A : Type 0} (L M : A → List ℕ → Type 0) (bytes : List ℕ) (l m left : ℕ) → Stops L bytes l → Stops M bytes m → left ≡ min l m → Stops (Or L M) bytes left
 both_stopped {A} L M bytes l m left one two e = elim (cases_lt l m) [
-    | inl lt ↦ record {
-        front = one.front;
-        back = one.back;
-        whole = one.whole;
-        left_is = one.left_is ∙ omega arith;
-        viable = (one.viable.0, one.viable.1, inl one.viable.2);
-        refused = λ next others more text behind a b h f. elim h [
-          | inl p ↦ one.refused next others more text behind a b p f
-          | inr p ↦ (let size : length one.back ≤ m = (let is = one.left_is in omega arith) in refused_later M bytes m two one.front one.back one.whole size next others more text behind a b p f)
-        ];
-      }
-    | inr le ↦ record {
-        front = two.front;
-        back = two.back;
-        whole = two.whole;
-        left_is = two.left_is ∙ omega arith;
-        viable = (two.viable.0, two.viable.1, inr two.viable.2);
-        refused = λ next others more text behind a b h f. elim h [
-          | inl p ↦ (let size : length two.back ≤ l = (let is = two.left_is in omega arith) in refused_later L bytes l one two.front two.back two.whole size next others more text behind a b p f)
-          | inr p ↦ two.refused next others more text behind a b p f
-        ];
-      }
-  ]
+  | inl lt ↦ record {
+    front = one.front;
+    back = one.back;
+    whole = one.whole;
+    left_is = one.left_is ∙ omega arith;
+    viable = (one.viable.0, one.viable.1, inl one.viable.2);
+    refused = λ next others more text behind a b h f. elim h [
+      | inl p ↦ one.refused next others more text behind a b p f
+      | inr p ↦ (let size : length one.back ≤ m = (let is = one.left_is in omega arith) in refused_later M bytes m two one.front one.back one.whole size next others more text behind a b p f)
+    ];
+  }
+  | inr le ↦ record {
+    front = two.front;
+    back = two.back;
+    whole = two.whole;
+    left_is = two.left_is ∙ omega arith;
+    viable = (two.viable.0, two.viable.1, inr two.viable.2);
+    refused = λ next others more text behind a b h f. elim h [
+      | inl p ↦ (let size : length two.back ≤ l = (let is = two.left_is in omega arith) in refused_later L bytes l one two.front two.back two.whole size next others more text behind a b p f)
+      | inr p ↦ two.refused next others more text behind a b p f
+    ];
+  }
+]
 
 -- how two readings make one
 either_ok : {A : Type 0} (r s : Result (A × List ℕ) ℕ) (x : A × List ℕ) → either r s ≡ Ok x → (r ≡ Ok x) ⊎ (s ≡ Ok x)
@@ -252,15 +272,15 @@ reads_either {A} L M r s one two apart = record {
     | inr f ↦ (let got = two.found bytes rest a f in (got.0, inr got.1, got.2))
   ];
   stops = λ bytes left e.
-    let got = either_err (r bytes) (s bytes) left e in
-    both_stopped L M bytes got.0 got.1 left (one.stops bytes got.0 got.2) (two.stops bytes got.1 got.3) got.4;
+      let got = either_err (r bytes) (s bytes) left e in
+      both_stopped L M bytes got.0 got.1 left (one.stops bytes got.0 got.2) (two.stops bytes got.1 got.3) got.4;
 }
   where
     second : (a : A) (text rest : List ℕ) → M a text → either (r (text ++ rest)) (s (text ++ rest)) ≡ Ok (a, rest)
     second a text rest p = elim (cases (r (text ++ rest))) [
-        | inl f ↦ (let got = one.found (text ++ rest) f.0.1 f.0.0 f.1 in absurd (apart f.0.0 a got.0 text f.0.1 rest got.1 p (sym got.2)))
-        | inr f ↦ rw (f.1, two.again a text rest p) refl
-      ]
+      | inl f ↦ (let got = one.found (text ++ rest) f.0.1 f.0.0 f.1 in absurd (apart f.0.0 a got.0 text f.0.1 rest got.1 p (sym got.2)))
+      | inr f ↦ rw (f.1, two.again a text rest p) refl
+    ]
 
 -- ---- a byte of a kind
 
@@ -288,16 +308,16 @@ byte_stops kind sample some [] left e = record {
   refused = λ next others more text behind a b h f. absurd cc;
 }
 byte_stops kind sample some (c ∷ bytes) left e = elim (byte_cases (is_of kind c)) [
-    | inl holds ↦ absurd (ok_is_not_err (c, bytes) left (sym (byte_again kind c bytes holds) ∙ e))
-    | inr fails ↦ record {
-        front = [];
-        back = c ∷ bytes;
-        whole = refl;
-        left_is = stopped_is {A = ℕ × List ℕ} (suc (length bytes)) left (sym (byte_refused kind c bytes fails) ∙ e);
-        viable = (sample, sample ∷ [], record { of_kind = some; alone = refl });
-        refused = λ next others more text behind a b h f. refused c bytes next others more text behind a fails b h f;
-      }
-  ]
+  | inl holds ↦ absurd (ok_is_not_err (c, bytes) left (sym (byte_again kind c bytes holds) ∙ e))
+  | inr fails ↦ record {
+    front = [];
+    back = c ∷ bytes;
+    whole = refl;
+    left_is = stopped_is {A = ℕ × List ℕ} (suc (length bytes)) left (sym (byte_refused kind c bytes fails) ∙ e);
+    viable = (sample, sample ∷ [], record { of_kind = some; alone = refl });
+    refused = λ next others more text behind a b h f. refused c bytes next others more text behind a fails b h f;
+  }
+]
   where
     refused : (c : ℕ) (bytes : List ℕ) (next : ℕ) (others more text behind : List ℕ) (a : ℕ) → is_of kind c ≡ false → c ∷ bytes ≡ next ∷ others → IsByte kind a text
         → text ++ behind ≡ next ∷ more → ⊥
@@ -311,9 +331,9 @@ byte_stops kind sample some (c ∷ bytes) left e = elim (byte_cases (is_of kind 
 byte_found : (kind : ByteKind) (bytes rest : List ℕ) (a : ℕ) → byte_at kind bytes ≡ Ok (a, rest) → (text : List ℕ) × IsByte kind a text × (bytes ≡ text ++ rest)
 byte_found kind [] rest a e = absurd cc
 byte_found kind (c ∷ bytes) rest a e = elim (byte_cases (is_of kind c)) [
-    | inl holds ↦ (let both = done_is c a bytes rest (sym (byte_again kind c bytes holds) ∙ e) in (c ∷ [], record { of_kind = subst (λ (k : ℕ). is_of kind k ≡ true) both.0 holds; alone = ap (λ (k : ℕ). k ∷ []) both.0 }, ap (λ (t : List ℕ). c ∷ t) both.1))
-    | inr fails ↦ absurd (ok_is_not_err (a, rest) (suc (length bytes)) (sym e ∙ byte_refused kind c bytes fails))
-  ]
+  | inl holds ↦ (let both = done_is c a bytes rest (sym (byte_again kind c bytes holds) ∙ e) in (c ∷ [], record { of_kind = subst (λ (k : ℕ). is_of kind k ≡ true) both.0 holds; alone = ap (λ (k : ℕ). k ∷ []) both.0 }, ap (λ (t : List ℕ). c ∷ t) both.1))
+  | inr fails ↦ absurd (ok_is_not_err (a, rest) (suc (length bytes)) (sym e ∙ byte_refused kind c bytes fails))
+]
 
 pub reads_byte : (kind : ByteKind) (sample : ℕ) → is_of kind sample ≡ true → Reads (IsByte kind) (byte_at kind)
 reads_byte kind sample some = record {

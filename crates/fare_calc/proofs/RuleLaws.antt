@@ -62,7 +62,7 @@ slash_ends : EndsAt with_character 47
 slash_ends id = refl
 
 -- what an id says
-id_parts : (id : List ℕ) → is_rule_id id ≡ true → (1 ≤ length id) × (length id ≤ 8) × (list_all is_code_character id ≡ true)
+pub id_parts : (id : List ℕ) → is_rule_id id ≡ true → (1 ≤ length id) × (length id ≤ 8) × (list_all is_code_character id ≡ true)
 id_parts id h =
     let last = both_tests (nat_le 1 (length id) && nat_le (length id) 8) (list_all is_code_character id) h in
     let first = both_tests (nat_le 1 (length id)) (nat_le (length id) 8) last.0 in
@@ -81,20 +81,22 @@ reads_rule =
     same (Mapped (IsScanned with_character 47 []) rule_of) (IsText is_rule slashed) rule_at
     (mapped (IsScanned with_character 47 []) rule_of (scan with_character 47 []) (reads_scanned with_character 47 slash_ends []))
     (λ rule text m.
-      let lead = characters_lead m.is.bytes [] m.origin m.is.leads in
-      let all : list_all is_code_character m.origin ≡ true = subst (λ (t : List ℕ). list_all is_code_character t ≡ true) (sym lead.1) lead.0 in
-      let short : length m.origin ≤ 8 = lead.2 (omega arith) in
-      to m.origin rule text all short m.value (m.is.whole ∙ ap (λ (t : List ℕ). t ++ 47 ∷ []) (sym lead.1)))
+    let lead = characters_lead m.is.bytes [] m.origin m.is.leads in
+    let all : list_all is_code_character m.origin ≡ true = subst (λ (t : List ℕ). list_all is_code_character t ≡ true) (sym lead.1) lead.0 in
+    let short : length m.origin ≤ 8 = lead.2 (omega arith) in
+    to m.origin rule text all short m.value (m.is.whole ∙ ap (λ (t : List ℕ). t ++ 47 ∷ []) (sym lead.1)))
     (λ rule text h. from rule text h)
   where
     to : (id : List ℕ) (rule : Option RuleId) (text : List ℕ) → list_all is_code_character id ≡ true → length id ≤ 8 → rule ≡ rule_of id → text ≡ id ++ 47 ∷ [] → IsText is_rule slashed rule text
     to [] rule text all short value whole = record { valid = ap is_rule value; spelled = whole ∙ ap slashed (sym value) }
     to (first ∷ others) rule text all short value whole = record { valid = ap is_rule value ∙ id_from (first ∷ others) (omega arith) short all; spelled = whole ∙ ap slashed (sym value) }
+
     from_id : (id : List ℕ) (text : List ℕ) → is_rule_id id ≡ true → text ≡ id ++ 47 ∷ [] → Mapped (IsScanned with_character 47 []) rule_of (Some id) text
     from_id [] text h whole = absurd (omega (arith, (id_parts [] h).0))
     from_id (first ∷ others) text h whole =
         let parts = id_parts (first ∷ others) h in
         record { origin = first ∷ others; is = record { bytes = first ∷ others; leads = lead_characters (first ∷ others) [] parts.2 (omega (arith, parts.1)); whole = whole }; value = refl }
+
     from : (rule : Option RuleId) (text : List ℕ) → IsText is_rule slashed rule text → Mapped (IsScanned with_character 47 []) rule_of rule text
     from None text h = record { origin = []; is = record { bytes = []; leads = refl; whole = h.spelled }; value = refl }
     from (Some id) text h = from_id id text h.valid h.spelled
@@ -114,8 +116,17 @@ reads_tag =
     carrier_at class_at kind_at rule_at reads_carrier reads_class reads_kind reads_rule F refl OW refl None refl
     (λ a b c d x y z w. record { valid = rw (x, w) refl; spelled = regroup a (cabin_text b) (kind_text c) (rule_text d) (codes "/") })
     (λ tag text h. let tests = both_tests (is_carrier tag.carrier) (is_rule tag.rule) h.valid in record {
-      a = tag.carrier; b = tag.class; c = tag.kind; d = tag.rule; a_is = tests.0; b_is = refl; c_is = refl; d_is = tests.1; value = refl;
-      whole = h.spelled ∙ sym (regroup tag.carrier (cabin_text tag.class) (kind_text tag.kind) (rule_text tag.rule) (codes "/")) })
+      a = tag.carrier;
+      b = tag.class;
+      c = tag.kind;
+      d = tag.rule;
+      a_is = tests.0;
+      b_is = refl;
+      c_is = refl;
+      d_is = tests.1;
+      value = refl;
+      whole = h.spelled ∙ sym (regroup tag.carrier (cabin_text tag.class) (kind_text tag.kind) (rule_text tag.rule) (codes "/"));
+    })
   where
     regroup : (a b c d e : List ℕ) → a ++ (b ++ (c ++ (d ++ e))) ≡ (((a ++ b) ++ c) ++ d) ++ e
     regroup a b c d e = sym (simp append_assoc)

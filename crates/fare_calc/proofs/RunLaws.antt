@@ -80,9 +80,9 @@ end_begun d draft few none =
 
 pub ends : (d : DraftLine) → IsDraft d → Ends d
 ends d draft = elim (cases_lt 0 (length d.pending)) [
-    | inl some ↦ end_within d draft some
-    | inr least ↦ (let none : length d.pending ≡ 0 = omega arith in go none (is_some d.gap || (length d.parts == 0)) refl)
-  ]
+  | inl some ↦ end_within d draft some
+  | inr least ↦ (let none : length d.pending ≡ 0 = omega arith in go none (is_some d.gap || (length d.parts == 0)) refl)
+]
   where
     go : length d.pending ≡ 0 → (b : Bool) → (is_some d.gap || (length d.parts == 0)) ≡ b → Ends d
     go none true h = (let room = begun_room d draft none h in end_begun d draft room.0 room.1)
@@ -153,20 +153,45 @@ line_back : (d : DraftLine) (line : CalculationLine) (text : List ℕ) (pieces :
 unfolding BehindText
 line_back d line text [] way e = absurd way
 line_back d line text (Sector sector ∷ pieces) way e = record {
-  first = Sector sector; front = piece_text (Sector sector); behind = flat_map piece_text pieces; front_is = record { allowed = way.0; spelled = refl };
-  behind_is = record { pieces = pieces; way = way.1; whole = refl }; whole = e }
+  first = Sector sector;
+  front = piece_text (Sector sector);
+  behind = flat_map piece_text pieces;
+  front_is = record { allowed = way.0; spelled = refl };
+  behind_is = record { pieces = pieces; way = way.1; whole = refl };
+  whole = e;
+}
 line_back d line text (Part part ∷ pieces) way e = record {
-  first = Part part; front = piece_text (Part part); behind = flat_map piece_text pieces; front_is = record { allowed = way.0; spelled = refl };
-  behind_is = record { pieces = pieces; way = way.1; whole = refl }; whole = e }
+  first = Part part;
+  front = piece_text (Part part);
+  behind = flat_map piece_text pieces;
+  front_is = record { allowed = way.0; spelled = refl };
+  behind_is = record { pieces = pieces; way = way.1; whole = refl };
+  whole = e;
+}
 line_back d line text (Gap city ∷ pieces) way e = record {
-  first = Gap city; front = piece_text (Gap city); behind = flat_map piece_text pieces; front_is = record { allowed = way.0; spelled = refl };
-  behind_is = record { pieces = pieces; way = way.1; whole = refl }; whole = e }
+  first = Gap city;
+  front = piece_text (Gap city);
+  behind = flat_map piece_text pieces;
+  front_is = record { allowed = way.0; spelled = refl };
+  behind_is = record { pieces = pieces; way = way.1; whole = refl };
+  whole = e;
+}
 line_back d line text (Plus plus ∷ pieces) way e = record {
-  first = Plus plus; front = piece_text (Plus plus); behind = flat_map piece_text pieces; front_is = record { allowed = way.0; spelled = refl };
-  behind_is = record { pieces = pieces; way = way.1; whole = refl }; whole = e }
+  first = Plus plus;
+  front = piece_text (Plus plus);
+  behind = flat_map piece_text pieces;
+  front_is = record { allowed = way.0; spelled = refl };
+  behind_is = record { pieces = pieces; way = way.1; whole = refl };
+  whole = e;
+}
 line_back d line text (End totals ∷ pieces) way e = record {
-  first = End totals; front = piece_text (End totals); behind = []; front_is = record { allowed = way.0; spelled = refl };
-  behind_is = record { value = way.1.1; none = refl }; whole = e ∙ ap (λ (k : List Piece). piece_text (End totals) ++ flat_map piece_text k) way.1.0 }
+  first = End totals;
+  front = piece_text (End totals);
+  behind = [];
+  front_is = record { allowed = way.0; spelled = refl };
+  behind_is = record { value = way.1.1; none = refl };
+  whole = e ∙ ap (λ (k : List Piece). piece_text (End totals) ++ flat_map piece_text k) way.1.0;
+}
 
 pub reads_line_from : (n : ℕ) (d : DraftLine) → IsDraft d → room d ≤ n → Reads (LineFrom d) (line_from n d)
 unfolding line_from BehindText
@@ -174,8 +199,8 @@ reads_line_from zero d draft few = absurd (omega arith)
 reads_line_from (suc n) d draft few =
     same (Joined (IsNext d) (BehindText d)) (LineFrom d) (line_from (suc n) d)
     (joined (IsNext d) (BehindText d) (piece_at d) (behind (line_from n) d) (reads_piece d draft)
-     (λ piece text h. next (λ (e : DraftLine) (x : IsDraft e) (y : room e ≤ n). reads_line_from n e x y) piece h.allowed)
-     (λ piece text h. ends_behind d piece draft h.allowed))
+    (λ piece text h. next (λ (e : DraftLine) (x : IsDraft e) (y : room e ≤ n). reads_line_from n e x y) piece h.allowed)
+    (λ piece text h. ends_behind d piece draft h.allowed))
     (λ line text j. subst (λ (t : List ℕ). LineFrom d line t) (sym (j.whole ∙ ap (λ (t : List ℕ). t ++ j.behind) j.front_is.spelled)) (line_to d j.first line j.behind j.front_is.allowed j.behind_is))
     (λ line text l. line_back d line text l.pieces l.way l.whole)
   where

@@ -142,9 +142,11 @@ way_is_text (Sector sector ∷ pieces) d line draft way =
     let rest = way_is_text pieces (with_piece d (Sector sector)) line (draft_with d (Sector sector) draft way.0) way.1 in
     (rest.0, onward (line_text line) (so_far d) (so_far (with_piece d (Sector sector))) (sector_text sector) (flat_map piece_text pieces) rest.1 (sector_more d sector (empty d.plus way.0.2)))
 way_is_text (Part part ∷ pieces) d line draft way =
-    let rest = way_is_text pieces (with_piece d (Part part)) line (draft_with d (Part part) draft way.0) way.1 in
-    (rest.0, onward (line_text line) (so_far d) (so_far (with_piece d (Part part))) (price_text part) (flat_map piece_text pieces) rest.1
-     (part_more d part draft (empty d.plus (no_plus d draft way.0.1)) way.0.2 way.0.3))
+    let rest = way_is_text pieces (with_piece d (Part part)) line (draft_with d (Part part) draft way.0) way.1 in (
+      rest.0,
+      onward (line_text line) (so_far d) (so_far (with_piece d (Part part))) (price_text part) (flat_map piece_text pieces) rest.1
+          (part_more d part draft (empty d.plus (no_plus d draft way.0.1)) way.0.2 way.0.3),
+    )
 way_is_text (Gap city ∷ pieces) d line draft way =
     let rest = way_is_text pieces (with_piece d (Gap city)) line (draft_with d (Gap city) draft way.0) way.1 in
     (rest.0, onward (line_text line) (so_far d) (so_far (with_piece d (Gap city))) (gap_text (Some city)) (flat_map piece_text pieces) rest.1 (gap_more d city way.0.1 (empty d.plus way.0.3)))

@@ -40,11 +40,11 @@ reads_word [] = same (Empty tt) (IsWord []) (word_at []) (reads_nothing tt) (λ 
 reads_word (letter ∷ letters) =
     same (Joined (IsByte (This letter)) (λ (b : ℕ). IsWord letters)) (IsWord (letter ∷ letters)) (word_at (letter ∷ letters))
     (joined (IsByte (This letter)) (λ (b : ℕ). IsWord letters) (byte_at (This letter)) (λ (b : ℕ). word_at letters) (reads_byte (This letter) letter (eq-eqb letter letter refl))
-     (λ b text h. reads_word letters) (λ b text h. (tt, letters, refl)))
+    (λ b text h. reads_word letters) (λ b text h. (tt, letters, refl)))
     (λ u text j.
-      let here : j.first ≡ letter = eqb-true j.first letter j.front_is.of_kind in
-      let front : j.front ≡ letter ∷ [] = j.front_is.alone ∙ ap (λ (k : ℕ). k ∷ []) here in
-      j.whole ∙ ap (λ (t : List ℕ). t ++ j.behind) front ∙ ap (λ (t : List ℕ). letter ∷ t) j.behind_is)
+    let here : j.first ≡ letter = eqb-true j.first letter j.front_is.of_kind in
+    let front : j.front ≡ letter ∷ [] = j.front_is.alone ∙ ap (λ (k : ℕ). k ∷ []) here in
+    j.whole ∙ ap (λ (t : List ℕ). t ++ j.behind) front ∙ ap (λ (t : List ℕ). letter ∷ t) j.behind_is)
     (λ u text h. record { first = letter; front = letter ∷ []; behind = letters; front_is = record { of_kind = eq-eqb letter letter refl; alone = refl }; behind_is = refl; whole = h })
 
 -- ---- one of some words
@@ -90,14 +90,14 @@ reads_one_of word (next ∷ others) h =
     let tests = both_tests (list_all (apart word) (next ∷ others)) (are_apart (next ∷ others)) h in
     same (Or (Mapped (IsWord word) (λ (u : Unit {0}). 0)) (Mapped (IsOneOf next others) (λ (k : ℕ). suc k))) (IsOneOf word (next ∷ others)) (one_of word (next ∷ others))
     (reads_either (Mapped (IsWord word) (λ (u : Unit {0}). 0)) (Mapped (IsOneOf next others) (λ (k : ℕ). suc k))
-     (λ bytes. word_at word bytes >>= λ x. Ok (0, x.1)) (λ bytes. one_of next others bytes >>= λ x. Ok (suc x.0, x.1))
-     (mapped (IsWord word) (λ (u : Unit {0}). 0) (word_at word) (reads_word word))
-     (mapped (IsOneOf next others) (λ (k : ℕ). suc k) (one_of next others) (reads_one_of next others tests.1))
-     (λ i j s t x y p q e.
-       let k = q.origin in
-       let index = q.is.index in
-       let there = all_at (apart word) (next ∷ others) k (omega arith) tests.0 in
-       apart_words word (get_or (next ∷ others) k []) x y there (ap (λ (u : List ℕ). u ++ x) (sym p.is) ∙ e ∙ ap (λ (u : List ℕ). u ++ y) q.is.word_is)))
+    (λ bytes. word_at word bytes >>= λ x. Ok (0, x.1)) (λ bytes. one_of next others bytes >>= λ x. Ok (suc x.0, x.1))
+    (mapped (IsWord word) (λ (u : Unit {0}). 0) (word_at word) (reads_word word))
+    (mapped (IsOneOf next others) (λ (k : ℕ). suc k) (one_of next others) (reads_one_of next others tests.1))
+    (λ i j s t x y p q e.
+    let k = q.origin in
+    let index = q.is.index in
+    let there = all_at (apart word) (next ∷ others) k (omega arith) tests.0 in
+    apart_words word (get_or (next ∷ others) k []) x y there (ap (λ (u : List ℕ). u ++ x) (sym p.is) ∙ e ∙ ap (λ (u : List ℕ). u ++ y) q.is.word_is)))
     (λ i text o. elim o [
       | inl m ↦ record { index = omega (arith, m.value); word_is = m.is ∙ ap (λ (k : ℕ). get_or (word ∷ next ∷ others) k []) (sym m.value) }
       | inr m ↦ record { index = (let index = m.is.index in let value = m.value in omega arith); word_is = m.is.word_is ∙ ap (λ (k : ℕ). get_or (word ∷ next ∷ others) k []) (sym m.value) }
@@ -168,27 +168,28 @@ scan_again : {A : Type 0} (step : A → ℕ → Option A) (last : ℕ) → EndsA
     → scan step last value ((bytes ++ last ∷ []) ++ rest) ≡ Ok (a, rest)
 scan_again {A} step last end [] value a rest h = scan_ends step last value rest ∙ ap (λ (v : A). Ok (v, rest)) (some_is value a h)
 scan_again step last end (byte ∷ bytes) value a rest h = elim (does step last value byte) [
-    | ends e ↦ absurd (none_is_not_some a (sym (steps_none step value byte bytes (ap (step value) e ∙ end value)) ∙ h))
-    | fails e f ↦ absurd (none_is_not_some a (sym (steps_none step value byte bytes f) ∙ h))
-    | goes next e f ↦ scan_goes step last value byte next ((bytes ++ last ∷ []) ++ rest) e f ∙ scan_again step last end bytes next a rest (sym (steps_go step value byte next bytes f) ∙ h)
-  ]
+  | ends e ↦ absurd (none_is_not_some a (sym (steps_none step value byte bytes (ap (step value) e ∙ end value)) ∙ h))
+  | fails e f ↦ absurd (none_is_not_some a (sym (steps_none step value byte bytes f) ∙ h))
+  | goes next e f ↦ scan_goes step last value byte next ((bytes ++ last ∷ []) ++ rest) e f ∙ scan_again step last end bytes next a rest (sym (steps_go step value byte next bytes f) ∙ h)
+]
 
 scan_found : {A : Type 0} (step : A → ℕ → Option A) (last : ℕ) (bytes : List ℕ) (value a : A) (rest : List ℕ) → scan step last value bytes ≡ Ok (a, rest)
     → (text : List ℕ) × IsScanned step last value a text × (bytes ≡ text ++ rest)
 unfolding scan
 scan_found step last [] value a rest h = absurd cc
 scan_found {A} step last (byte ∷ bytes) value a rest h = elim (does step last value byte) [
-    | ends e ↦ (
-        let at : scan step last value (byte ∷ bytes) ≡ Ok (value, bytes) = ap (λ (b : ℕ). scan step last value (b ∷ bytes)) e ∙ scan_ends step last value bytes in
-        let both = done_is value a bytes rest (sym at ∙ h) in
-        (last ∷ [], record { bytes = []; leads = ap (λ (v : A). Some v) both.0; whole = refl }, ap (λ (b : ℕ). b ∷ bytes) e ∙ ap (λ (t : List ℕ). last ∷ t) both.1))
-    | fails e f ↦ absurd (ok_is_not_err (a, rest) (suc (length bytes)) (sym h ∙ scan_fails step last value byte bytes e f))
-    | goes next e f ↦ (
-        let got = scan_found step last bytes next a rest (sym (scan_goes step last value byte next bytes e f) ∙ h) in
-        (byte ∷ got.0,
-         record { bytes = byte ∷ got.1.bytes; leads = steps_go step value byte next got.1.bytes f ∙ got.1.leads; whole = ap (λ (t : List ℕ). byte ∷ t) got.1.whole },
-         ap (λ (t : List ℕ). byte ∷ t) got.2))
-  ]
+  | ends e ↦ (
+      let at : scan step last value (byte ∷ bytes) ≡ Ok (value, bytes) = ap (λ (b : ℕ). scan step last value (b ∷ bytes)) e ∙ scan_ends step last value bytes in
+      let both = done_is value a bytes rest (sym at ∙ h) in
+      (last ∷ [], record { bytes = []; leads = ap (λ (v : A). Some v) both.0; whole = refl }, ap (λ (b : ℕ). b ∷ bytes) e ∙ ap (λ (t : List ℕ). last ∷ t) both.1))
+  | fails e f ↦ absurd (ok_is_not_err (a, rest) (suc (length bytes)) (sym h ∙ scan_fails step last value byte bytes e f))
+  | goes next e f ↦ (
+      let got = scan_found step last bytes next a rest (sym (scan_goes step last value byte next bytes e f) ∙ h) in (
+        byte ∷ got.0,
+        record { bytes = byte ∷ got.1.bytes; leads = steps_go step value byte next got.1.bytes f ∙ got.1.leads; whole = ap (λ (t : List ℕ). byte ∷ t) got.1.whole },
+        ap (λ (t : List ℕ). byte ∷ t) got.2,
+      ))
+]
 
 -- a first byte that is refused
 scan_refused : {A : Type 0} (step : A → ℕ → Option A) (last : ℕ) (value a : A) (byte : ℕ) (text behind more : List ℕ) → (byte == last) ≡ false → step value byte ≡ None
@@ -234,18 +235,18 @@ scan_stops {A} step last [] value left h = record {
   refused = λ next others more text behind a b s f. absurd cc;
 }
 scan_stops {A} step last (byte ∷ bytes) value left h = elim (does step last value byte) [
-    | ends e ↦ absurd (ok_is_not_err (value, bytes) left (sym (ap (λ (b : ℕ). scan step last value (b ∷ bytes)) e ∙ scan_ends step last value bytes) ∙ h))
-    | fails e f ↦ record {
-        front = [];
-        back = byte ∷ bytes;
-        whole = refl;
-        left_is = stopped_is {A = A × List ℕ} (suc (length bytes)) left (sym (scan_fails step last value byte bytes e f) ∙ h);
-        viable = (value, last ∷ [], record { bytes = []; leads = refl; whole = refl });
-        refused = λ next others more text behind a b s g.
-          (let here : byte ≡ next = cc in scan_refused step last value a byte text behind more e f s (g ∙ ap (λ (k : ℕ). k ∷ more) (sym here)));
-      }
-    | goes next e f ↦ scan_behind step last value next byte bytes left e f (scan_stops step last bytes next left (sym (scan_goes step last value byte next bytes e f) ∙ h))
-  ]
+  | ends e ↦ absurd (ok_is_not_err (value, bytes) left (sym (ap (λ (b : ℕ). scan step last value (b ∷ bytes)) e ∙ scan_ends step last value bytes) ∙ h))
+  | fails e f ↦ record {
+    front = [];
+    back = byte ∷ bytes;
+    whole = refl;
+    left_is = stopped_is {A = A × List ℕ} (suc (length bytes)) left (sym (scan_fails step last value byte bytes e f) ∙ h);
+    viable = (value, last ∷ [], record { bytes = []; leads = refl; whole = refl });
+    refused = λ next others more text behind a b s g.
+        (let here : byte ≡ next = cc in scan_refused step last value a byte text behind more e f s (g ∙ ap (λ (k : ℕ). k ∷ more) (sym here)));
+  }
+  | goes next e f ↦ scan_behind step last value next byte bytes left e f (scan_stops step last bytes next left (sym (scan_goes step last value byte next bytes e f) ∙ h))
+]
 
 pub reads_scanned : {A : Type 0} (step : A → ℕ → Option A) (last : ℕ) → EndsAt step last → (value : A) → Reads (IsScanned step last value) (scan step last value)
 reads_scanned {A} step last end value = record {

@@ -2,10 +2,12 @@
 //! A contract sees a line as its first city, its flown sectors, its parts and plus-ups, its total and its rate.
 #![tactic(auto)]
 
+mod bad_line;
 mod byte_kind;
 mod cursor;
 mod draft;
 mod flown;
+mod from_text;
 mod letter;
 mod line;
 mod mark;
@@ -16,12 +18,13 @@ mod pieces_at;
 mod plus_up;
 mod priced_part;
 mod printing;
-mod read_line;
 mod reading;
 mod tag;
 mod totals;
 
+pub use bad_line::BadLine;
 pub use flown::LineSector;
+pub use from_text::{read_line, text_tells};
 pub use letter::Letter;
 pub use line::Line;
 pub use plus_up::PlusUp;

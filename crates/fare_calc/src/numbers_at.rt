@@ -8,7 +8,8 @@ use crate::cursor::Cursor;
 
 /// The units behind the first, each with its space.
 const LATER_UNITS: [&[u8]; 15] = [
-    b"2 ", b"3 ", b"4 ", b"5 ", b"6 ", b"7 ", b"8 ", b"9 ", b"10 ", b"11 ", b"12 ", b"13 ", b"14 ", b"15 ", b"16 ",
+    b"2 ", b"3 ", b"4 ", b"5 ", b"6 ", b"7 ", b"8 ", b"9 ", b"10 ", b"11 ", b"12 ", b"13 ", b"14 ",
+    b"15 ", b"16 ",
 ];
 
 impl Cursor<'_> {

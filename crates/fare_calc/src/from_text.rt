@@ -1,9 +1,13 @@
 //! The line that a whole text spells.
 
-ghost use Rattle.std.specs.Prelude.{◌≡◌, Ok, Err, IfOk, MatchResult};
+ghost use Rattle.std.specs.Prelude.{◌≡◌, true, Ok, IfOk, IfErr};
 ghost use Rattle.fare_calc.specs.Reading.{Gives};
 ghost use Rattle.fare_calc.specs.Draft.{Allowed, line_at, line_from, piece_at, start, whole_line};
+ghost use Rattle.fare_calc.specs.Line.{CalculationLine, is_line};
+ghost use Rattle.fare_calc.specs.LineText.{line_text};
+ghost use Rattle.fare_calc.specs.LongestFront.{IsLongestFront};
 
+use crate::bad_line::BadLine;
 use crate::cursor::Cursor;
 use crate::draft::Draft;
 use crate::line::Line;
@@ -62,3 +66,23 @@ fn whole_line(bytes: &[u8]) -> Result<Line, usize>
         Err(cursor.rest.len())
     }
 }
+
+/// The line that bytes spell. `BadLine` comes exactly where they are the text of no line.
+pub fn read_line(bytes: &[u8]) -> Result<Line, BadLine>
+    // What is read is a line, and the bytes are its text.
+    ensures found { IfOk result (λ line. (is_line line ≡ true) × (line_text line ≡ bytes.now)) }
+    // The text of each line is read.
+    ensures only { (line : CalculationLine) → is_line line ≡ true → line_text line ≡ bytes.now → result ≡ Ok line }
+    // How far bytes that are no line could have become one.
+    ensures bad { IfErr result (λ bad. IsLongestFront bytes.now bad.0) }
+{
+    match whole_line(bytes) {
+        Ok(line) => Ok(line),
+        Err(left) => Err(BadLine((bytes.len() - left) as u32)),
+    }
+}
+
+/// The text of a line stands for no other one.
+pub fn text_tells()
+    ensures { (a b : CalculationLine) → is_line a ≡ true → is_line b ≡ true → line_text a ≡ line_text b → a ≡ b }
+{}
