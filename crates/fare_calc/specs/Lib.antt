@@ -9,3 +9,7 @@ pub mod PartSheets
 pub mod LineOf
 pub mod Worksheet
 pub mod Answer
+pub mod Draft
+pub mod LongestFront
+pub mod Pieces
+pub mod Reading

@@ -5,27 +5,42 @@
 #![tactic(auto)]
 
 mod answers;
+mod bad_line;
+mod byte_kind;
 mod composing;
 mod cost;
+mod cursor;
+mod draft;
 mod flown;
 mod forms;
+mod from_text;
 mod letter;
 mod line;
+mod mark;
+mod marks_at;
+mod numbers_at;
 mod part_sheet;
 mod part_sheets;
 mod part_text;
+mod piece;
+mod pieces_at;
 mod plus_up;
 mod priced_part;
 mod printing;
 mod pushing;
+mod reading;
+mod tag;
 mod total_text;
+mod totals;
 mod unit_text;
 mod worksheets;
 
 pub use answers::answer_text;
+pub use bad_line::BadLine;
 pub use composing::line_of;
 pub use cost::home_has_a_currency;
 pub use flown::LineSector;
+pub use from_text::{read_line, text_tells};
 pub use letter::Letter;
 pub use line::Line;
 pub use plus_up::PlusUp;

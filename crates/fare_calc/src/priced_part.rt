@@ -1,4 +1,7 @@
+ghost use Rattle.std.specs.Prelude.{◌≡◌, ◌<◌, [], ◌∷◌, ◌++◌, length};
+
 use crate::letter::Letter;
+use arrayvec::ArrayVec;
 use fare_codes::{Cabin, Carrier, City, Kind, RuleId};
 
 /// A part of a line: a fare component with its amount, its fare and its unit.
@@ -24,6 +27,16 @@ pub struct LinePart {
     pub unit: u8,
     /// The city to which the surface sector before the part leads, where there is one.
     pub gap: Option<City>,
+}
+
+impl LinePart {
+    /// Adds the part to others.
+    pub(crate) fn push_to(self, parts: &mut ArrayVec<LinePart, 16>)
+        requires { length parts.old.items < 16 }
+        ensures { parts.new.items ≡ parts.old.items ++ self ∷ [] }
+    {
+        let _fits = parts.try_extend_from_slice(&[self]);
+    }
 }
 
 /// A part that stands in room that is not yet used.
