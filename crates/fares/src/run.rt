@@ -33,21 +33,23 @@ pub fn run<R: Threads + Sync, S: Source, K: Sink, P: Keeper, D: Door, G: Gate>(
 ) -> Exit
     ensures answer { IfSome (S.left src.old) (λ source. EndsIn (IsOutcome (map string_bytes words.now) source) result (K.taken out.old) (K.taken out.new)) }
 
-    // Which ends there are, and why each comes, whether the source tells its bytes or not.
+    // The ends, whether the source tells its bytes or not.
     ensures not_taken { OnFalse (is_price (map string_bytes words.now)) (result ≡ Exit.NotYet) }
     ensures taken { OnTrue (is_price (map string_bytes words.now)) (IsEndOfPrice result) }
-    ensures limit { result ≡ Exit.Limit → TakesJust (price_limit + 1) (S.left src.old) (S.left src.new) }
     ensures read_fault { result ≡ Exit.ReadFault → Rose (S.faults src.old) (S.faults src.new) }
     ensures write_fault { result ≡ Exit.WriteFault → Rose (K.faults out.old) (K.faults out.new) }
 
     // What is left alone.
     ensures untouched { OnFalse (is_price (map string_bytes words.now)) (src.new ≡ src.old) }
-    ensures source { TakesUpTo (price_limit + 1) (S.left src.old) (S.left src.new) }
-    ensures source_count { S.faults src.old ≤ S.faults src.new }
     ensures silent { IsSilent result → out.new ≡ out.old }
-    ensures sink_count { K.faults out.old ≤ K.faults out.new }
     ensures store { store.new ≡ store.old }
     ensures door { door.new ≡ door.old }
+
+    // The source never loses more than one byte above the limit, and no count falls.
+    ensures within { TakesUpTo (price_limit + 1) (S.left src.old) (S.left src.new) }
+    ensures limit { result ≡ Exit.Limit → TakesJust (price_limit + 1) (S.left src.old) (S.left src.new) }
+    ensures source_count { S.faults src.old ≤ S.faults src.new }
+    ensures sink_count { K.faults out.old ≤ K.faults out.new }
 {
     if !is_price(words) {
         return Exit::NotYet;

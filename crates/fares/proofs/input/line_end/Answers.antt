@@ -1,4 +1,4 @@
-use Rattle.std.proofs.Common.{◌<◌, ◌≤◌, length, arith, sym}
+use Rattle.std.proofs.Common.{length, arith, sym}
 use Rattle.std.proofs.lemmas.List.Sums.{position_or_len_is}
 use Rattle.fares.specs.Input.{is_line_feed}
 use Rattle.fares.proofs.input.line_end.Goals as goal
