@@ -30,3 +30,6 @@ pub use line::Line;
 pub use plus_up::PlusUp;
 pub use priced_part::LinePart;
 pub use printing::print_line;
+
+#[cfg(test)]
+mod tests;
