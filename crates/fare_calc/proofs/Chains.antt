@@ -1,10 +1,10 @@
 -- Readings of two to four texts, one behind the other, of which one value is made.
-use Rattle.std.proofs.Common.{◌≡◌, ◌∙◌, ℕ, Bool, true, ◌==◌, List, [], ◌∷◌, ◌++◌, Result, Ok, Err, refl, sym, ap, subst}
+use Rattle.std.proofs.Common.{◌≡◌, ◌∙◌, ℕ, Bool, true, ◌==◌, List, [], ◌∷◌, ◌++◌, Result, Ok, refl, sym, ap, subst}
 use Rattle.std.proofs.lemmas.Bool.{eq-eqb, eqb-true}
 use Rattle.fare_calc.specs.declared.byte_kind.ByteKind.{ByteKind}
 use Rattle.fare_calc.specs.declared.byte_kind.ByteKind.TheVariants.{This}
 use Rattle.fare_calc.specs.Reading.{◌>>=◌, byte_at, is_of, word_at}
-use Rattle.fare_calc.proofs.Readers.{Reads, Joined, IsByte, joined, same, same_reader, reads_byte}
+use Rattle.fare_calc.proofs.Readers.{Reads, Joined, IsByte, joined, same, reads_byte}
 use Rattle.fare_calc.proofs.Words.{Mapped, IsWord, mapped, reads_word}
 use Rattle.fare_calc.proofs.Amounts.{IsText}
 

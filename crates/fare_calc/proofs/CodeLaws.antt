@@ -1,29 +1,26 @@
 -- Codes, as they are read.
-use Rattle.std.proofs.Common.{◌≡◌, ◌∙◌, ◌<◌, ◌≤◌, ◌+◌, ◌*◌, ℕ, zero, suc, Bool, true, false, ◌&&◌, ◌||◌, ◌==◌, List, [], ◌∷◌, ◌++◌, length, get_or, nat_lt, nat_le, Option, Some, None, Ok, ◌⊎◌, inl, inr, decimal, codes, refl, sym, ap, subst, arith, append_assoc, append-nil, length-append}
-use Rattle.std.proofs.lemmas.Grind.{common_steps}
-use Rattle.std.proofs.lemmas.Bool.Decides.{nat_tests}
-use Rattle.std.proofs.lemmas.Bool.{eqb-true, eq-eqb, ltb-true, lt-ltb, leb-true, le-leb}
+use Rattle.std.proofs.Common.{◌≡◌, ◌∙◌, ◌*◌, ℕ, zero, suc, Bool, true, false, ◌||◌, ◌==◌, List, [], ◌∷◌, length, get_or, nat_le, ◌⊎◌, inl, inr, codes, refl, sym, ap, arith}
+use Rattle.std.proofs.lemmas.Bool.{eqb-true, leb-true, le-leb}
 use Rattle.std.specs.Fmt.{digits}
 use Rattle.std.specs.List.{list_all}
 use Rattle.std.specs.Char.{is_ascii_uppercase}
-use Rattle.fare_codes.specs.Codes.{is_city, is_carrier, is_rule_id, is_code_character}
+use Rattle.fare_codes.specs.Codes.{is_city, is_carrier, is_code_character}
 use Rattle.fare_codes.specs.Words.{cabin_text, kind_text}
 use Rattle.fare_codes.specs.declared.cabin.Cabin.{Cabin}
 use Rattle.fare_codes.specs.declared.cabin.Cabin.TheVariants.{F, C, Y}
 use Rattle.fare_codes.specs.declared.kind.Kind.{Kind}
 use Rattle.fare_codes.specs.declared.kind.Kind.TheVariants.{OW, HR}
-use Rattle.fare_codes.specs.declared.rule_id.RuleId.{RuleId}
 use Rattle.fare_calc.specs.declared.byte_kind.ByteKind.TheVariants.{Uppercase, CodeCharacter, This}
 use Rattle.fare_calc.specs.declared.letter.Letter.{Letter}
 use Rattle.fare_calc.specs.declared.letter.Letter.TheVariants.{Bare, Mileage}
-use Rattle.fare_calc.specs.Line.{is_letter, is_surcharge, is_rule}
-use Rattle.fare_calc.specs.LineText.{letter_text, rule_text, spaced}
-use Rattle.fare_calc.specs.Reading.{◌>>=◌, byte_at, is_of, word_at, one_of, scan, city_at, spaced_city_at, carrier_at}
-use Rattle.fare_calc.specs.Pieces.{later_letters, letter_at, later_classes, cabin_of, class_at, later_kinds, kind_of, kind_at, with_character, rule_of, rule_at}
+use Rattle.fare_calc.specs.Line.{is_surcharge}
+use Rattle.fare_calc.specs.LineText.{letter_text, spaced}
+use Rattle.fare_calc.specs.Reading.{byte_at, is_of, one_of, city_at, spaced_city_at, carrier_at}
+use Rattle.fare_calc.specs.Pieces.{later_letters, letter_at, later_classes, cabin_of, class_at, later_kinds, kind_of, kind_at}
 use Rattle.fare_calc.proofs.Readers.{Reads, same}
-use Rattle.fare_calc.proofs.Words.{Mapped, IsOneOf, IsScanned, EndsAt, are_apart, both_tests, mapped, none_is_not_some, reads_one_of, reads_scanned, some_is, steps, steps_go, steps_none}
+use Rattle.fare_calc.proofs.Words.{IsOneOf, are_apart, both_tests, reads_one_of}
 use Rattle.fare_calc.proofs.Amounts.{IsText}
-use Rattle.fare_calc.proofs.Chains.{Split1, Split2, Split3, chain1, chain2, chain3, reads_one, reads_this}
+use Rattle.fare_calc.proofs.Chains.{Split1, chain1, chain2, chain3, reads_one, reads_this}
 
 -- ---- cities and carriers
 

@@ -1,8 +1,7 @@
 -- A line as far as it is read: what holds of it holds with a piece more.
-use Rattle.std.proofs.Common.{◌≡◌, ◌∙◌, ◌<◌, ◌≤◌, ◌+◌, ◌-◌, ℕ, zero, suc, Bool, true, false, ◌&&◌, List, [], ◌∷◌, ◌++◌, length, take, drop, nat_lt, nat_le, Option, Some, None, ◌⊎◌, inl, inr, refl, sym, ap, subst, arith, append-nil, length-append}
+use Rattle.std.proofs.Common.{◌≡◌, ◌∙◌, ◌<◌, ◌≤◌, ◌+◌, ◌-◌, ℕ, Bool, true, List, [], ◌∷◌, ◌++◌, length, take, drop, Option, Some, None, refl, sym, ap, subst, arith, length-append}
 use Rattle.std.specs.Prelude.{is_some, is_none}
-use Rattle.std.proofs.lemmas.Grind.{common_steps}
-use Rattle.std.proofs.lemmas.Bool.{ltb-true, lt-ltb, leb-true, le-leb, eq-eqb, eqb-true}
+use Rattle.std.proofs.lemmas.Bool.{lt-ltb, le-leb, eqb-true}
 use Rattle.std.proofs.lemmas.List.Folds.{list_all-append}
 use Rattle.std.proofs.lemmas.List.{drop_all, length-drop, length-take, take-append-drop, take_all}
 use Rattle.std.specs.List.{list_all}
@@ -14,9 +13,9 @@ use Rattle.fare_calc.specs.declared.plus_up.PlusUp.{PlusUp}
 use Rattle.fare_calc.specs.declared.totals.Totals.{Totals}
 use Rattle.fare_calc.specs.declared.piece.Piece.{Piece}
 use Rattle.fare_calc.specs.declared.piece.Piece.TheVariants.{Sector, Part, Gap, Plus, End}
-use Rattle.fare_calc.specs.Line.{are_parts, flown_count, gap_count, is_flown, is_gap, is_led, is_line, is_plus, is_priced}
-use Rattle.fare_calc.specs.Draft.{DraftLine, IsDraft, IsBetween, Allowed, count, ended, start, last_end, leads_without_gap, with_piece}
-use Rattle.fare_calc.proofs.PartLemmas.{Leads, leads}
+use Rattle.fare_calc.specs.Line.{are_parts, flown_count, gap_count, is_flown, is_led, is_line, is_plus, is_priced}
+use Rattle.fare_calc.specs.Draft.{DraftLine, IsDraft, Allowed, count, ended, start, last_end, leads_without_gap, with_piece}
+use Rattle.fare_calc.proofs.PartLemmas.{leads}
 
 -- all of some and one more
 all_more : {A : Type 0} (p : A → Bool) (xs : List A) (x : A) → list_all p xs ≡ true → p x ≡ true → list_all p (xs ++ x ∷ []) ≡ true

@@ -1,15 +1,13 @@
 -- A line is read exactly from its text, and what is no line is left where no line goes on.
-use Rattle.std.proofs.Common.{◌≡◌, ◌∙◌, ◌<◌, ◌≤◌, ◌+◌, ◌-◌, ℕ, zero, suc, Bool, true, false, ◌==◌, List, [], ◌∷◌, ◌++◌, length, take, drop, Result, Ok, Err, ◌⊎◌, inl, inr, refl, sym, ap, subst, arith, append_assoc, append-nil, length-append, if◌then◌else◌}
+use Rattle.std.proofs.Common.{◌≡◌, ◌∙◌, ◌<◌, ◌≤◌, ◌+◌, ◌-◌, ℕ, zero, suc, Bool, true, false, ◌==◌, List, [], ◌∷◌, ◌++◌, length, take, Result, Ok, Err, inl, inr, refl, sym, ap, subst, arith, append_assoc, append-nil, length-append, if◌then◌else◌}
 use Rattle.std.specs.List.{flat_map}
-use Rattle.std.proofs.lemmas.Bool.{eq-eqb, eqb-true}
-use Rattle.std.proofs.lemmas.List.{take_at, take_all}
-use Rattle.fare_codes.specs.Codes.{is_city}
+use Rattle.std.proofs.lemmas.Bool.{eqb-true}
+use Rattle.std.proofs.lemmas.List.{take_at}
 use Rattle.fare_calc.specs.Line.{CalculationLine, is_line}
 use Rattle.fare_calc.specs.LineText.{line_text, parts_text, spaced}
 use Rattle.fare_calc.specs.LongestFront.{BeginsLine, IsLongestFront}
-use Rattle.fare_calc.specs.Reading.{◌>>=◌}
 use Rattle.fare_calc.specs.Draft.{line_at, start, whole_line}
-use Rattle.fare_calc.proofs.Readers.{Reads, Stops, cases, done_is, ok_is_not_err, one_reading, same, stopped, stopped_is}
+use Rattle.fare_calc.proofs.Readers.{Reads, cases, ok_is_not_err, one_reading, same, stopped_is}
 use Rattle.fare_calc.proofs.Amounts.{IsText}
 use Rattle.fare_calc.proofs.DraftLaws.{draft_start}
 use Rattle.fare_calc.proofs.PieceAt.{piece_text}

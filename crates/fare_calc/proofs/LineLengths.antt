@@ -1,12 +1,12 @@
 -- How long the text of a line may be.
-use Rattle.std.proofs.Common.{◌≡◌, ◌∙◌, ◌<◌, ◌≤◌, ◌+◌, ◌-◌, ◌*◌, ◌/◌, ◌%◌, ◌^◌, ℕ, zero, suc, Bool, true, false, ◌==◌, ◌&&◌, List, [], ◌∷◌, ◌++◌, length, take, drop, get_or, Option, Some, None, decimal, codes, nat_le, refl, sym, ap, subst, arith, length-append, length-drop}
+use Rattle.std.proofs.Common.{◌≡◌, ◌∙◌, ◌<◌, ◌≤◌, ◌+◌, ◌-◌, ◌*◌, ◌/◌, ◌%◌, ◌^◌, ℕ, zero, suc, Bool, true, false, ◌==◌, List, [], ◌∷◌, ◌++◌, length, take, drop, get_or, Option, Some, None, decimal, codes, nat_le, refl, sym, ap, subst, arith, length-append, length-drop}
 use Rattle.std.specs.List.{flat_map, list_all}
 use Rattle.std.proofs.lemmas.Bool.{eqb-true, leb-true, ltb-true}
 use Rattle.std.proofs.lemmas.Fmt.{length-decimal-le}
 use Rattle.std.proofs.lemmas.List.{length-take, length-take-le}
 use Rattle.std.specs.Char.{is_ascii_uppercase}
 use Rattle.fare_codes.specs.Numbers.{nuc_text, rate_text}
-use Rattle.fare_codes.specs.Codes.{is_carrier, is_city, is_code_character, is_rule_id}
+use Rattle.fare_codes.specs.Codes.{is_carrier, is_city, is_code_character}
 use Rattle.fare_codes.specs.Words.{cabin_text, kind_text}
 use Rattle.fare_codes.specs.declared.cabin.Cabin.{Cabin}
 use Rattle.fare_codes.specs.declared.cabin.Cabin.TheVariants.{F, C, Y}
@@ -30,8 +30,7 @@ use Rattle.fare_calc.proofs.Amounts.{nuc_is, rate_is, unit_range}
 use Rattle.fare_calc.proofs.CodeLaws.{index_of, steps_of}
 use Rattle.fare_calc.proofs.RuleLaws.{id_parts}
 use Rattle.fare_calc.proofs.MarkLaws.{seven_tests}
-use Rattle.fare_calc.proofs.DraftLaws.{flown_le, none_flown}
-use Rattle.fare_calc.proofs.WayTexts.{parts_text_next}
+use Rattle.fare_calc.proofs.DraftLaws.{flown_le}
 use Rattle.fare_calc.proofs.LineWays.{all_take, gap_valid, line_parts}
 
 city_length : (city : List ℕ) → is_city city ≡ true → length city ≡ 3

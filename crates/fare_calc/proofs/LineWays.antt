@@ -1,5 +1,5 @@
 -- The pieces of a line lead to it, and their texts are its text.
-use Rattle.std.proofs.Common.{◌≡◌, ◌∙◌, ◌<◌, ◌≤◌, ◌+◌, ◌-◌, ℕ, zero, suc, Bool, true, ◌&&◌, List, [], ◌∷◌, ◌++◌, length, map, take, drop, Option, Some, None, ◌⊎◌, inl, inr, refl, sym, ap, subst, arith, append_assoc, append-nil, length-append, take-append-drop}
+use Rattle.std.proofs.Common.{◌≡◌, ◌∙◌, ◌<◌, ◌≤◌, ◌+◌, ◌-◌, ℕ, zero, suc, Bool, true, ◌&&◌, List, [], ◌∷◌, ◌++◌, length, take, drop, Option, Some, None, ◌⊎◌, inl, inr, refl, sym, ap, subst, arith, append_assoc, append-nil, length-append, take-append-drop}
 use Rattle.std.specs.Prelude.{is_none, nat_le}
 use Rattle.std.specs.List.{flat_map, list_all}
 use Rattle.std.proofs.lemmas.Bool.{leb-true}
@@ -13,15 +13,14 @@ use Rattle.fare_calc.specs.declared.totals.Totals.{Totals}
 use Rattle.fare_calc.specs.declared.piece.Piece.{Piece}
 use Rattle.fare_calc.specs.declared.piece.Piece.TheVariants.{Sector, Part, Gap, Plus, End}
 use Rattle.fare_calc.specs.Line.{CalculationLine, are_parts, flown_count, gap_count, is_amount, is_flown, is_gap, is_led, is_line, is_plus, is_priced, is_rate}
-use Rattle.fare_calc.specs.LineText.{gap_text, line_text, part_text, parts_text, plus_text, price_text, sector_text, spaced, totals_text}
-use Rattle.fare_calc.specs.Draft.{DraftLine, IsDraft, IsBetween, Allowed, count, ended, last_end, leads_without_gap, start, with_piece}
-use Rattle.fare_calc.proofs.PartLemmas.{Leads, leads}
+use Rattle.fare_calc.specs.LineText.{gap_text, line_text, parts_text, plus_text, price_text, sector_text, spaced, totals_text}
+use Rattle.fare_calc.specs.Draft.{DraftLine, IsBetween, count, last_end, leads_without_gap, start, with_piece}
+use Rattle.fare_calc.proofs.PartLemmas.{leads}
 use Rattle.fare_calc.proofs.Words.{both_tests}
 use Rattle.fare_calc.proofs.DraftLaws.{none_flown}
-use Rattle.fare_calc.proofs.PieceLaws.{text_of_totals}
 use Rattle.fare_calc.proofs.PieceAt.{piece_text}
 use Rattle.fare_calc.proofs.RunLaws.{Way}
-use Rattle.fare_calc.proofs.WayTexts.{empty, parts_text_next}
+use Rattle.fare_calc.proofs.WayTexts.{empty}
 
 -- ---- the pieces of a line
 

@@ -1,14 +1,13 @@
 -- The mark and the price of a part, as they are read.
-use Rattle.std.proofs.Common.{◌≡◌, ◌∙◌, ◌<◌, ◌≤◌, ◌+◌, ◌/◌, ◌%◌, ◌^◌, ℕ, zero, suc, Bool, true, false, ◌&&◌, ◌||◌, ◌==◌, List, [], ◌∷◌, ◌++◌, length, get_or, nat_lt, nat_le, Option, Some, None, ◌⊎◌, inl, inr, decimal, codes, refl, sym, ap, subst, arith, append_assoc, append-nil, length-append}
-use Rattle.std.proofs.lemmas.Grind.{common_steps}
+use Rattle.std.proofs.Common.{◌≡◌, ◌∙◌, ◌<◌, ◌≤◌, ◌+◌, ◌/◌, ◌%◌, ◌^◌, ℕ, zero, suc, Bool, true, ◌&&◌, ◌||◌, ◌==◌, List, [], ◌∷◌, ◌++◌, length, get_or, nat_le, Option, Some, None, inl, inr, decimal, codes, refl, sym, ap, subst, arith, append_assoc, append-nil, length-append}
 use Rattle.std.proofs.lemmas.Bool.Decides.{nat_tests}
-use Rattle.std.proofs.lemmas.Bool.{ltb-true, lt-ltb, leb-true}
-use Rattle.std.proofs.lemmas.List.Folds.{list_all_at, list_all-append}
+use Rattle.std.proofs.lemmas.Bool.{ltb-true, leb-true}
+use Rattle.std.proofs.lemmas.List.Folds.{list_all-append}
 use Rattle.std.proofs.lemmas.List.{get_or_append_left}
 use Rattle.std.specs.List.{list_all}
 use Rattle.std.specs.Char.{is_ascii_uppercase, is_ascii_digit}
 use Rattle.std.proofs.lemmas.Fmt.{digits_decimal, decimal_nonempty}
-use Rattle.fare_codes.specs.Numbers.{nuc_text, decimal_text, last_digits}
+use Rattle.fare_codes.specs.Numbers.{nuc_text}
 use Rattle.fare_codes.specs.Codes.{is_city, is_carrier}
 use Rattle.fare_codes.specs.declared.cabin.Cabin.TheVariants.{F}
 use Rattle.fare_codes.specs.declared.kind.Kind.TheVariants.{OW}
@@ -19,15 +18,15 @@ use Rattle.fare_calc.specs.declared.mark.Mark.{Mark}
 use Rattle.fare_calc.specs.declared.tag.Tag.{Tag}
 use Rattle.fare_calc.specs.declared.priced_part.LinePart.{LinePart}
 use Rattle.fare_calc.specs.declared.byte_kind.ByteKind.TheVariants.{This}
-use Rattle.fare_calc.specs.Line.{is_amount, is_letter, is_pair, is_priced, is_surcharge, is_gap, is_unit, is_rule}
-use Rattle.fare_calc.specs.LineText.{letter_text, pair_text, mark_text, price_text, tag_text, spaced}
-use Rattle.fare_calc.specs.Reading.{◌>>=◌, either, byte_at, city_at, amount_at, unit_at}
+use Rattle.fare_calc.specs.Line.{is_amount, is_letter, is_pair, is_priced, is_gap, is_unit, is_rule}
+use Rattle.fare_calc.specs.LineText.{letter_text, mark_text, price_text, tag_text, spaced}
+use Rattle.fare_calc.specs.Reading.{either, byte_at, city_at, amount_at, unit_at}
 use Rattle.fare_calc.specs.Pieces.{later_letters, letter_at, unpaired_at, paired_at, lettered_at, mark_at, tag_at, part_of, price_at}
 use Rattle.fare_calc.proofs.Readers.{Reads, Joined, Or, joined, same, reads_either}
 use Rattle.fare_calc.proofs.Words.{both_tests, all_at_least}
-use Rattle.fare_calc.proofs.Numerals.{digits_model, is_digit, digit_range}
+use Rattle.fare_calc.proofs.Numerals.{digits_model, is_digit}
 use Rattle.fare_calc.proofs.Amounts.{IsText, reads_amount, reads_unit, nuc_is}
-use Rattle.fare_calc.proofs.Chains.{Split1, Split3, Split4, chain1, chain3, chain4, reads_this}
+use Rattle.fare_calc.proofs.Chains.{chain1, chain3, chain4, reads_this}
 use Rattle.fare_calc.proofs.CodeLaws.{city_cells, index_of, is_marked, reads_city, reads_letter, steps_of}
 use Rattle.fare_calc.proofs.RuleLaws.{is_tag, reads_tag, slashed_tag}
 

@@ -1,11 +1,10 @@
 -- The pieces of a line begin apart from one another.
-use Rattle.std.proofs.Common.{◌≡◌, ◌∙◌, ◌<◌, ◌≤◌, ◌+◌, ◌^◌, ℕ, zero, suc, Bool, true, false, ◌&&◌, ◌==◌, List, [], ◌∷◌, ◌++◌, length, get_or, nat_lt, nat_le, Option, Some, None, ◌⊎◌, inl, inr, decimal, codes, refl, sym, ap, subst, arith, append_assoc, length-append}
-use Rattle.std.proofs.lemmas.Grind.{common_steps}
+use Rattle.std.proofs.Common.{◌≡◌, ◌∙◌, ◌<◌, ◌≤◌, ◌+◌, ◌^◌, ℕ, zero, suc, Bool, true, ◌==◌, List, [], ◌∷◌, ◌++◌, length, get_or, nat_lt, nat_le, Option, Some, None, decimal, codes, refl, sym, ap, subst, arith, append_assoc, length-append}
 use Rattle.std.proofs.lemmas.Bool.Decides.{nat_tests}
-use Rattle.std.proofs.lemmas.Bool.{ltb-true, lt-ltb, leb-true}
+use Rattle.std.proofs.lemmas.Bool.{ltb-true, leb-true}
 use Rattle.std.proofs.lemmas.List.{get_or_append_left}
 use Rattle.std.specs.List.{list_all}
-use Rattle.std.specs.Char.{is_ascii_uppercase, is_ascii_digit}
+use Rattle.std.specs.Char.{is_ascii_uppercase}
 use Rattle.fare_codes.specs.Numbers.{nuc_text}
 use Rattle.fare_codes.specs.Codes.{is_city, is_carrier, is_code_character}
 use Rattle.fare_codes.specs.declared.city.City.{City}
@@ -20,7 +19,7 @@ use Rattle.fare_calc.specs.LineText.{letter_text, mark_text, pair_text, plus_tex
 use Rattle.fare_calc.specs.Pieces.{later_letters}
 use Rattle.fare_calc.proofs.Words.{all_at_least, both_tests}
 use Rattle.fare_calc.proofs.DraftLaws.{all_joined}
-use Rattle.fare_calc.proofs.CodeLaws.{carrier_cells, city_cells, index_of, steps_of}
+use Rattle.fare_calc.proofs.CodeLaws.{carrier_cells, index_of, steps_of}
 use Rattle.fare_calc.proofs.MarkLaws.{is_plain, nuc_plain, seven_tests}
 use Rattle.fare_calc.proofs.PieceLaws.{slashes, text_of_totals}
 

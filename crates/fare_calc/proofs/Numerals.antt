@@ -1,19 +1,15 @@
 -- Numbers, amounts and rates, as they are read.
-use Rattle.std.proofs.Common.{◌≡◌, ◌∙◌, ◌<◌, ◌≤◌, ◌+◌, ◌-◌, ◌*◌, ◌/◌, ◌%◌, ◌^◌, ℕ, zero, suc, Bool, true, false, ◌&&◌, List, [], ◌∷◌, ◌++◌, length, get_or, nat_lt, nat_le, Option, Some, None, Ok, ◌⊎◌, inl, inr, decimal, codes, refl, sym, ap, subst, arith, rules, append_assoc, append-nil, if◌then◌else◌}
-use Rattle.std.proofs.lemmas.Grind.{common_steps}
+use Rattle.std.proofs.Common.{◌≡◌, ◌∙◌, ◌<◌, ◌≤◌, ◌+◌, ◌-◌, ◌*◌, ◌/◌, ◌%◌, ◌^◌, ℕ, zero, suc, Bool, true, false, ◌&&◌, List, [], ◌∷◌, ◌++◌, length, get_or, nat_lt, nat_le, Option, Some, None, Ok, inl, inr, decimal, codes, refl, sym, ap, subst, arith, rules}
 use Rattle.std.proofs.lemmas.Bool.Decides.{nat_tests}
-use Rattle.std.proofs.lemmas.Bool.{eqb-true, eq-eqb, ltb-true, lt-ltb, leb-true, le-leb}
-use Rattle.std.proofs.lemmas.List.Folds.{list_all_at}
+use Rattle.std.proofs.lemmas.Bool.{ltb-true, lt-ltb}
 use Rattle.std.proofs.lemmas.Str.Parse.{IsNumeralModel, IsDigitsTest, numerals_by_value}
 use Rattle.std.proofs.lemmas.Fmt.{digits_decimal, digits_value-decimal, decimal-digits_value, decimal_digit, decimal_nonempty, first_decimal}
 use Rattle.std.specs.List.{list_all}
 use Rattle.std.specs.Char.{is_ascii_digit, digit_value}
 use Rattle.std.specs.Str.Parse.{digits_value, digits_value_after}
-use Rattle.fare_codes.specs.Numbers.{nuc_text, rate_text, decimal_text, last_digits}
 use Rattle.fare_calc.specs.declared.byte_kind.ByteKind.TheVariants.{Digit, Among}
-use Rattle.fare_calc.specs.Line.{is_amount, is_rate}
-use Rattle.fare_calc.specs.Reading.{◌>>=◌, byte_at, scan, word_at, with_digit, counted_at, nought_at, whole_at, hundredths_at, amount_at, rate_at}
-use Rattle.fare_calc.proofs.Readers.{Reads, Joined, Empty, IsByte, Or, joined, same, reads_byte, reads_nothing, reads_either}
+use Rattle.fare_calc.specs.Reading.{◌>>=◌, byte_at, scan, word_at, with_digit, counted_at, nought_at, whole_at, hundredths_at}
+use Rattle.fare_calc.proofs.Readers.{Reads, Joined, IsByte, Or, joined, same, reads_byte, reads_either}
 use Rattle.fare_calc.proofs.Words.{IsWord, Mapped, both_tests, IsScanned, EndsAt, steps, steps_go, steps_none, none_is_not_some, some_is, mapped, reads_word, reads_scanned}
 
 -- the words in which a number's digits are tested

@@ -1,7 +1,7 @@
 -- The piece that stands next is one that may come next.
-use Rattle.std.proofs.Common.{◌≡◌, ◌∙◌, ◌<◌, ◌≤◌, ◌+◌, ℕ, zero, suc, Bool, true, false, ◌&&◌, ◌||◌, ◌==◌, List, [], ◌∷◌, ◌++◌, length, nat_lt, Option, Some, None, Ok, ◌⊎◌, inl, inr, decimal, codes, refl, sym, ap, subst, arith}
-use Rattle.std.specs.Prelude.{is_some, is_none}
-use Rattle.std.proofs.lemmas.Bool.{cases_lt, ltb-true, lt-ltb, ltb-false, le-ltb, eq-eqb, eqb-true}
+use Rattle.std.proofs.Common.{◌≡◌, ◌∙◌, ◌<◌, ◌≤◌, ℕ, zero, suc, Bool, true, false, ◌||◌, ◌==◌, List, [], ◌∷◌, ◌++◌, length, nat_lt, Option, Some, None, Ok, inl, inr, refl, sym, ap, subst, arith}
+use Rattle.std.specs.Prelude.{is_some}
+use Rattle.std.proofs.lemmas.Bool.{cases_lt, lt-ltb, le-ltb, eqb-true}
 use Rattle.fare_codes.specs.Codes.{is_city}
 use Rattle.fare_codes.specs.declared.city.City.{City}
 use Rattle.fare_calc.specs.declared.flown.LineSector.{LineSector}
@@ -10,15 +10,14 @@ use Rattle.fare_calc.specs.declared.plus_up.PlusUp.{PlusUp}
 use Rattle.fare_calc.specs.declared.totals.Totals.{Totals}
 use Rattle.fare_calc.specs.declared.piece.Piece.{Piece}
 use Rattle.fare_calc.specs.declared.piece.Piece.TheVariants.{Sector, Part, Gap, Plus, End}
-use Rattle.fare_calc.specs.Line.{gap_count, is_amount, is_flown, is_plus, is_priced, is_rate}
+use Rattle.fare_calc.specs.Line.{gap_count, is_amount, is_flown, is_plus, is_rate}
 use Rattle.fare_calc.specs.LineText.{plus_text, price_text, sector_text}
-use Rattle.fare_calc.specs.Reading.{◌>>=◌, either}
+use Rattle.fare_calc.specs.Reading.{either}
 use Rattle.fare_calc.specs.Pieces.{gap_at, plus_at, price_at, sector_at, totals_at}
 use Rattle.fare_calc.specs.Draft.{DraftLine, IsDraft, IsBetween, Allowed, count, between_at, closing_at, end_piece, further_at, gap_piece, last_end, part_piece, piece_at, plus_piece, sector_piece, within_at}
 use Rattle.fare_calc.proofs.Readers.{Reads, Or, reads_either, same, same_reader}
 use Rattle.fare_calc.proofs.Words.{Mapped, both_tests, mapped}
 use Rattle.fare_calc.proofs.Amounts.{IsText}
-use Rattle.fare_calc.proofs.CodeLaws.{one_test}
 use Rattle.fare_calc.proofs.MarkLaws.{IsPart, reads_price}
 use Rattle.fare_calc.proofs.PieceLaws.{are_totals, reads_gap, reads_plus, reads_sector, reads_totals, slashes, text_of_totals}
 use Rattle.fare_calc.proofs.NextLaws.{gap_end, gap_plus, plus_end, sector_end, sector_gap, sector_part, sector_plus}

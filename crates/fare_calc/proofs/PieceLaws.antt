@@ -1,13 +1,11 @@
 -- Sectors, gaps, plus-ups and the end of a line, as they are read.
-use Rattle.std.proofs.Common.{◌≡◌, ◌∙◌, ◌<◌, ◌≤◌, ◌+◌, ◌^◌, ℕ, Bool, true, false, ◌&&◌, ◌==◌, List, [], ◌∷◌, ◌++◌, length, get_or, Ok, Err, Result, ◌⊎◌, inl, inr, decimal, codes, refl, sym, ap, subst, arith, append_assoc}
-use Rattle.std.proofs.lemmas.Grind.{common_steps}
+use Rattle.std.proofs.Common.{◌≡◌, ◌∙◌, ℕ, Bool, true, false, ◌&&◌, ◌==◌, List, [], ◌∷◌, ◌++◌, get_or, Ok, Err, Result, inl, inr, decimal, codes, refl, sym, ap, subst, append_assoc}
 use Rattle.std.specs.Char.{is_ascii_uppercase}
 use Rattle.fare_codes.specs.Codes.{is_city, is_carrier}
 use Rattle.fare_codes.specs.Numbers.{nuc_text, rate_text}
 use Rattle.fare_codes.specs.declared.city.City.{City}
 use Rattle.fare_codes.specs.declared.carrier.Carrier.{Carrier}
 use Rattle.fare_calc.specs.declared.flown.LineSector.{LineSector}
-use Rattle.fare_calc.specs.declared.plus_up.PlusUp.{PlusUp}
 use Rattle.fare_calc.specs.declared.totals.Totals.{Totals}
 use Rattle.fare_calc.specs.declared.byte_kind.ByteKind.TheVariants.{This}
 use Rattle.fare_calc.specs.Line.{is_amount, is_rate, is_unit, is_flown, is_plus}
@@ -17,7 +15,7 @@ use Rattle.fare_calc.specs.Pieces.{sector_to, transfer_to, sector_at, gap_at, pl
 use Rattle.fare_calc.proofs.Readers.{Reads, Joined, Or, joined, same, same_reader, reads_either}
 use Rattle.fare_calc.proofs.Words.{both_tests, IsWord, reads_word}
 use Rattle.fare_calc.proofs.Amounts.{IsText, reads_amount, reads_rate, reads_unit}
-use Rattle.fare_calc.proofs.Chains.{Split1, Split2, Split4, chain1, chain2, chain4, reads_this, reads_words}
+use Rattle.fare_calc.proofs.Chains.{chain1, chain2, chain4, reads_this, reads_words}
 use Rattle.fare_calc.proofs.CodeLaws.{city_cells, reads_carrier, reads_spaced_city}
 
 -- ---- sectors

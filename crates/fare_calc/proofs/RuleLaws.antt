@@ -1,7 +1,5 @@
 -- The rule and the tag of a fare, as they are read.
-use Rattle.std.proofs.Common.{◌≡◌, ◌∙◌, ◌<◌, ◌≤◌, ◌+◌, ℕ, zero, suc, Bool, true, false, ◌&&◌, List, [], ◌∷◌, ◌++◌, length, nat_lt, nat_le, Option, Some, None, codes, refl, sym, ap, subst, arith, append_assoc, append-nil, length-append}
-use Rattle.std.proofs.lemmas.Grind.{common_steps}
-use Rattle.std.proofs.lemmas.Bool.Decides.{nat_tests}
+use Rattle.std.proofs.Common.{◌≡◌, ◌∙◌, ◌<◌, ◌≤◌, ◌+◌, ℕ, Bool, true, false, ◌&&◌, List, [], ◌∷◌, ◌++◌, length, nat_lt, nat_le, Option, Some, None, codes, refl, sym, ap, subst, arith, append_assoc, append-nil, length-append}
 use Rattle.std.proofs.lemmas.Bool.{ltb-true, lt-ltb, leb-true, le-leb}
 use Rattle.std.specs.List.{list_all}
 use Rattle.fare_codes.specs.Codes.{is_carrier, is_rule_id, is_code_character}
@@ -19,7 +17,7 @@ use Rattle.fare_calc.specs.Pieces.{with_character, rule_of, rule_at, class_at, k
 use Rattle.fare_calc.proofs.Readers.{Reads, same}
 use Rattle.fare_calc.proofs.Words.{Mapped, IsScanned, EndsAt, both_tests, mapped, none_is_not_some, reads_scanned, some_is, steps, steps_go, steps_none}
 use Rattle.fare_calc.proofs.Amounts.{IsText}
-use Rattle.fare_calc.proofs.Chains.{Split4, chain4}
+use Rattle.fare_calc.proofs.Chains.{chain4}
 use Rattle.fare_calc.proofs.CodeLaws.{reads_carrier, reads_class, reads_kind}
 
 -- one character more

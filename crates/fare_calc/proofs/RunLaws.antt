@@ -1,5 +1,5 @@
 -- Pieces that lead to a whole line, as they are read.
-use Rattle.std.proofs.Common.{◌≡◌, ◌∙◌, ◌<◌, ◌≤◌, ◌+◌, ◌-◌, ℕ, zero, suc, Bool, true, false, ◌||◌, ◌==◌, List, [], ◌∷◌, ◌++◌, length, Option, Some, None, Ok, ◌⊎◌, inl, inr, codes, refl, sym, ap, subst, arith, length-append}
+use Rattle.std.proofs.Common.{◌≡◌, ◌∙◌, ◌<◌, ◌≤◌, ◌+◌, ◌-◌, ℕ, zero, suc, Bool, true, false, ◌||◌, ◌==◌, List, [], ◌∷◌, ◌++◌, length, None, inl, inr, codes, refl, sym, ap, subst, arith, length-append}
 use Rattle.std.specs.Prelude.{is_some}
 use Rattle.std.specs.List.{flat_map}
 use Rattle.std.proofs.lemmas.Bool.{cases_lt}
@@ -13,16 +13,16 @@ use Rattle.fare_calc.specs.declared.priced_part.LinePart.{LinePart}
 use Rattle.fare_calc.specs.declared.totals.Totals.{Totals}
 use Rattle.fare_calc.specs.declared.piece.Piece.{Piece}
 use Rattle.fare_calc.specs.declared.piece.Piece.TheVariants.{Sector, Part, Gap, Plus, End}
-use Rattle.fare_calc.specs.Line.{CalculationLine, gap_count, is_gap, is_priced}
+use Rattle.fare_calc.specs.Line.{CalculationLine, gap_count, is_priced}
 use Rattle.fare_calc.specs.LineText.{spaced}
-use Rattle.fare_calc.specs.Reading.{◌>>=◌, spaced_city_at}
+use Rattle.fare_calc.specs.Reading.{spaced_city_at}
 use Rattle.fare_calc.specs.Pieces.{part_of}
 use Rattle.fare_calc.specs.Draft.{DraftLine, IsDraft, IsBetween, Allowed, behind, count, ended, line_at, line_from, piece_at, start, with_piece}
 use Rattle.fare_calc.proofs.Readers.{Reads, Joined, Empty, joined, reads_nothing, same}
 use Rattle.fare_calc.proofs.Amounts.{IsText}
 use Rattle.fare_calc.proofs.CodeLaws.{reads_spaced_city}
 use Rattle.fare_calc.proofs.DraftLaws.{draft_start, draft_with}
-use Rattle.fare_calc.proofs.PieceAt.{IsNext, begun_room, is_between, no_plus, piece_text, reads_piece}
+use Rattle.fare_calc.proofs.PieceAt.{IsNext, begun_room, is_between, piece_text, reads_piece}
 
 -- what a piece leads to: the whole line at the end, else what the rest leads to
 abbrev pub Behind : (DraftLine → Type 0) → DraftLine → Piece → List Piece → CalculationLine → Type 0

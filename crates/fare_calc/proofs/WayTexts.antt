@@ -1,5 +1,5 @@
 -- What leads to a line is that line's text.
-use Rattle.std.proofs.Common.{◌≡◌, ◌∙◌, ◌<◌, ◌≤◌, ◌+◌, ◌-◌, ℕ, zero, suc, Bool, true, List, [], ◌∷◌, ◌++◌, length, take, drop, Option, Some, None, ◌⊎◌, inl, inr, refl, sym, ap, subst, arith, append_assoc, append-nil, length-append}
+use Rattle.std.proofs.Common.{◌≡◌, ◌∙◌, ◌-◌, ℕ, true, List, [], ◌∷◌, ◌++◌, length, take, drop, Option, Some, refl, sym, ap, arith, append_assoc, append-nil}
 use Rattle.std.specs.List.{flat_map}
 use Rattle.std.proofs.lemmas.List.{drop-append-le, flat_map_more, length-drop, take-append-le, take_all}
 use Rattle.fare_codes.specs.declared.city.City.{City}
@@ -11,7 +11,7 @@ use Rattle.fare_calc.specs.declared.piece.Piece.{Piece}
 use Rattle.fare_calc.specs.declared.piece.Piece.TheVariants.{Sector, Part, Gap, Plus, End}
 use Rattle.fare_calc.specs.Line.{CalculationLine, are_parts, flown_count, gap_count, is_line}
 use Rattle.fare_calc.specs.LineText.{gap_text, line_text, part_text, parts_text, plus_text, price_text, sector_text, spaced}
-use Rattle.fare_calc.specs.Draft.{DraftLine, IsDraft, IsBetween, Allowed, count, ended, last_end, with_piece}
+use Rattle.fare_calc.specs.Draft.{DraftLine, IsDraft, IsBetween, count, ended, last_end, with_piece}
 use Rattle.fare_calc.proofs.PartLemmas.{leads}
 use Rattle.fare_calc.proofs.DraftLaws.{draft_with, ended_is_line, none_flown}
 use Rattle.fare_calc.proofs.PieceLaws.{text_of_totals}

@@ -1,12 +1,12 @@
 -- Words, one of some words, and bytes up to a last one.
-use Rattle.std.proofs.Common.{◌≡◌, ◌∙◌, ◌<◌, ◌≤◌, ◌+◌, ℕ, zero, suc, Bool, true, false, ◌==◌, ◌&&◌, List, [], ◌∷◌, ◌++◌, length, get_or, append-nil, Option, Some, None, Result, Ok, Err, ◌⊎◌, inl, inr, refl, sym, ap, subst, arith, if◌then◌else◌}
+use Rattle.std.proofs.Common.{◌≡◌, ◌∙◌, ◌<◌, ◌≤◌, ℕ, zero, suc, Bool, true, false, ◌==◌, ◌&&◌, List, [], ◌∷◌, ◌++◌, length, get_or, append-nil, Option, Some, None, Result, Ok, Err, inl, inr, refl, sym, ap, subst, arith, if◌then◌else◌}
 use Rattle.std.proofs.lemmas.Bool.{eq-eqb, eqb-true}
 use Rattle.std.proofs.lemmas.Grind.{common_steps}
 use Rattle.std.proofs.lemmas.List.Folds.{list_all_at}
 use Rattle.std.specs.List.{list_all}
 use Rattle.fare_calc.specs.declared.byte_kind.ByteKind.TheVariants.{This}
-use Rattle.fare_calc.specs.Reading.{◌>>=◌, either, byte_at, is_of, word_at, one_of, scan}
-use Rattle.fare_calc.proofs.Readers.{done_is, stopped_is, ok_is_not_err, Reads, Stops, Joined, Empty, IsByte, Or, Apart, joined, same, reads_byte, reads_nothing, reads_either}
+use Rattle.fare_calc.specs.Reading.{◌>>=◌, byte_at, word_at, one_of, scan}
+use Rattle.fare_calc.proofs.Readers.{done_is, stopped_is, ok_is_not_err, Reads, Stops, Joined, Empty, IsByte, Or, joined, same, reads_byte, reads_nothing, reads_either}
 
 -- the first of some words is read
 pub one_of_first : (word : List ℕ) (others : List (List ℕ)) (bytes rest : List ℕ) → word_at word bytes ≡ Ok (tt, rest) → one_of word others bytes ≡ Ok (0, rest)

@@ -1,5 +1,5 @@
 -- How the pieces of a line's text are read.
-use Rattle.std.specs.Prelude.{ℕ, zero, suc, ◌+◌, ◌*◌, Bool, true, false, List, [], ◌∷◌, ◌++◌, length, Option, Some, None, Result, Ok, Err, ◌&&◌, ◌==◌, nat_lt, codes, if◌then◌else◌}
+use Rattle.std.specs.Prelude.{ℕ, zero, suc, ◌*◌, Bool, true, false, List, [], ◌∷◌, ◌++◌, length, Option, Some, None, Result, Ok, ◌&&◌, nat_lt, codes, if◌then◌else◌}
 use Rattle.fare_codes.specs.Codes.{is_code_character}
 use Rattle.fare_codes.specs.declared.cabin.Cabin.{Cabin}
 use Rattle.fare_codes.specs.declared.cabin.Cabin.TheVariants.{F, C, Y}

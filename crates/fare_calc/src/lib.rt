@@ -47,3 +47,6 @@ pub use plus_up::PlusUp;
 pub use priced_part::LinePart;
 pub use printing::print_line;
 pub use worksheets::worksheet_text;
+
+#[cfg(test)]
+mod tests;

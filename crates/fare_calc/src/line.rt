@@ -1,3 +1,6 @@
+ghost use Rattle.std.specs.Prelude.{◌≡◌, true};
+ghost use Rattle.fare_calc.specs.Line.{is_line};
+
 use crate::flown::LineSector;
 use crate::plus_up::PlusUp;
 use crate::priced_part::LinePart;
@@ -32,4 +35,13 @@ impl Model for Line {
     ghost view = { λ l. record { from = l.from; sectors = l.sectors.items; parts = l.parts.items; plus = l.plus.items; total = l.total; roe = l.roe } };
 
     ghost invariant = { λ l. is_line (record { from = l.from; sectors = l.sectors.items; parts = l.parts.items; plus = l.plus.items; total = l.total; roe = l.roe }) ≡ true };
+}
+
+impl Line {
+    /// What holds of every line: some text spells it.
+    pub fn law(&self)
+        ensures { is_line self.now ≡ true }
+    {
+        let _ = &self.from;
+    }
 }

@@ -3,7 +3,7 @@
 ghost use Rattle.std.specs.Prelude.{◌≡◌, ◌++◌, ◌≤◌, ◌<◌, ◌^◌, true, length, decimal, IfOk, OnOk};
 ghost use Rattle.std.specs.List.{flat_map, list_all};
 ghost use Rattle.fare_codes.specs.Numbers.{nuc_text};
-ghost use Rattle.fare_calc.specs.Line.{are_parts, gap_count, is_amount, is_plus, is_rate};
+ghost use Rattle.fare_calc.specs.Line.{are_parts, gap_count, is_amount, is_line, is_plus, is_rate};
 ghost use Rattle.fare_calc.specs.LineText.{gap_text, letter_text, line_text, mark_text, pair_text, part_text, parts_text, plus_text, price_text, rule_text, sector_text, spaced, tag_text, totals_text};
 
 use crate::flown::LineSector;
@@ -16,10 +16,11 @@ use fare_codes::{City, Nuc, RuleId, number_text, rate_text};
 use fare_outside::NoMemory;
 use std::alloc::Global;
 
-/// The text of a line. No other line has it.
+/// The text of a line, which `read_line` reads as that line. No other line has it.
 #[tactic(auto, unfolding(crate::specs::LineText::line_text, crate::specs::Line::is_line))]
 pub fn print_line(alloc: Global, line: &Line) -> Result<Vec<u8>, NoMemory>
-    ensures { IfOk result (λ text. text.items ≡ line_text line.now) }
+    ensures text { IfOk result (λ text. text.items ≡ line_text line.now) }
+    ensures form { is_line line.now ≡ true }
 {
     let mut text = Vec::new(alloc);
     push_spaced(&mut text, &line.from.text())?;

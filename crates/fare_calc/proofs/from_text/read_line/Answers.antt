@@ -1,4 +1,4 @@
-use Rattle.std.proofs.Common.{◌≡◌, ◌∙◌, ◌≤◌, ◌-◌, Ok, Err, length, arith, sym, ap}
+use Rattle.std.proofs.Common.{◌≡◌, ◌∙◌, ◌-◌, Ok, Err, length, arith, sym, ap}
 use Rattle.fare_calc.specs.Draft.{whole_line}
 use Rattle.fare_calc.proofs.LineLaws.{found_one, not_both, whole_found, whole_stops}
 use Rattle.fare_calc.proofs.LineLengths.{front_length}

@@ -1,5 +1,3 @@
-use Rattle.std.proofs.Common.{refl}
-use Rattle.fare_calc.specs.LineText.{line_text}
 use Rattle.fare_calc.proofs.LineLaws.{one_line}
 use Rattle.fare_calc.proofs.from_text.text_tells.Goals as goal
 

@@ -1,6 +1,5 @@
-use Rattle.std.proofs.Common.{◌≡◌, ◌∙◌, ◌+◌, ◌-◌, ◌++◌, ◌≤◌, arith, sym, ap, append_assoc, append-nil, length, drop, take, List, ℕ}
+use Rattle.std.proofs.Common.{◌≡◌, ◌∙◌, ◌+◌, ◌-◌, ◌++◌, arith, sym, ap, append-nil, drop, take, List, ℕ}
 use Rattle.fare_calc.specs.Line.{flown_count}
-use Rattle.fare_calc.specs.LineText.{part_text, parts_text}
 use Rattle.fare_calc.proofs.PartLemmas.{leads_at, priced_amount, rest_at, text_past, text_step}
 use Rattle.fare_calc.proofs.printing.push_parts.Goals as goal
 

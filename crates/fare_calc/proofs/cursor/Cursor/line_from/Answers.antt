@@ -1,7 +1,7 @@
-use Rattle.std.proofs.Common.{◌≡◌, ◌∙◌, ◌<◌, ◌-◌, ◌+◌, ℕ, Ok, arith, ap, refl, sym}
+use Rattle.std.proofs.Common.{◌≡◌, ◌∙◌, ◌<◌, ◌-◌, ◌+◌, ℕ, Ok, arith, ap, sym}
 use Rattle.std.proofs.lemmas.Result.{err_from_is_err_and}
 use Rattle.fare_calc.specs.declared.piece.Piece.TheVariants.{End}
-use Rattle.fare_calc.specs.Draft.{line_from, DraftLine, piece_at, with_piece}
+use Rattle.fare_calc.specs.Draft.{line_from, DraftLine, piece_at}
 use Rattle.fare_calc.proofs.LineSteps.{last_piece, next_piece, no_piece, none_left}
 use Rattle.fare_calc.proofs.cursor.Cursor.line_from.Goals as goal
 
