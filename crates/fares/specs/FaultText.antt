@@ -1,7 +1,6 @@
 -- The line on standard error that says why a run ended.
-use Rattle.std.specs.Prelude.{ℕ, List, [], ◌++◌, drop, codes, decimal}
-use Rattle.fare_book.specs.declared.damage.Damage.{Damage}
-use Rattle.fare_book.specs.declared.damage.Damage.TheVariants as damaged
+use Rattle.std.specs.Prelude.{ℕ, List, [], ◌++◌, codes, decimal}
+use Rattle.fare_book.specs.DamageText.{damage_text}
 use Rattle.fare_csv.specs.FaultText.{fault_text as tariff_fault_text}
 use Rattle.fare_trip.specs.FaultText.{fault_text as trip_fault_text}
 use Rattle.fares.specs.declared.exit.Exit.{Exit}
@@ -10,13 +9,6 @@ use Rattle.fares.specs.declared.exit.Exit.TheVariants as ended
 -- a line ends with LF
 abbrev pub line : List ℕ → List ℕ
 line words = words ++ codes "\n"
-
--- what is wrong with the bodies of a store: a tariff fault without its first word, a number that stands at an earlier place, or
--- that there are too many
-abbrev pub damage_text : Damage → List ℕ
-damage_text (damaged.Text fault) = drop 7 (tariff_fault_text fault)
-damage_text (damaged.Repeat place) = codes "Repeat " ++ decimal place
-damage_text damaged.TooMany = codes "TooMany"
 
 -- the line of what a run ended in; nothing for a run that wrote its answer
 abbrev pub fault_line : Exit → List ℕ

@@ -1,13 +1,12 @@
 //! The line on standard error that says why a run ended.
 
-ghost use Rattle.std.specs.Prelude.{◌≡◌, ◌++◌, IfOk, OnOk, drop, codes, decimal};
-ghost use Rattle.fares.specs.FaultText.{line, damage_text, fault_line};
-ghost use Rattle.fare_csv.specs.FaultText.{fault_text as tariff_fault_text};
+ghost use Rattle.std.specs.Prelude.{◌≡◌, ◌++◌, IfOk, codes, decimal};
+ghost use Rattle.fare_book.specs.DamageText.{damage_text};
+ghost use Rattle.fares.specs.FaultText.{line, fault_line};
 
 use crate::exit::Exit;
 use fare_book::Damage;
 use fare_codes::number_text;
-use fare_csv::TextFault;
 use fare_outside::NoMemory;
 use std::alloc::Global;
 
@@ -73,35 +72,7 @@ fn damaged(alloc: Global, place: u32, damage: &Damage) -> Result<Vec<u8>, NoMemo
     let mut text = Vec::from_slice(alloc, b"DAMAGED ")?;
     text.extend_from_slice(number_text(place).as_str().as_bytes())?;
     text.extend_from_slice(b" ")?;
-    append_damage(&mut text, damage)?;
+    text.extend_from_slice(damage.text().as_str().as_bytes())?;
     text.push(b'\n')?;
     Ok(text)
-}
-
-fn append_damage(text: &mut Vec<u8>, damage: &Damage) -> Result<(), NoMemory>
-    ensures { OnOk result (text.new.items ≡ text.old.items ++ damage_text damage.now) }
-{
-    match damage {
-        Damage::Text(fault) => append_fault(text, fault),
-        Damage::Repeat(place) => append_repeat(text, *place),
-        Damage::TooMany => Ok(text.extend_from_slice(b"TooMany")?),
-    }
-}
-
-/// Appends a tariff fault without its first word.
-fn append_fault(text: &mut Vec<u8>, fault: &TextFault) -> Result<(), NoMemory>
-    ensures { OnOk result (text.new.items ≡ text.old.items ++ drop 7 (tariff_fault_text fault.now)) }
-{
-    let line = fault.text();
-    let bytes = line.as_str().as_bytes();
-    text.extend_from_slice(&bytes[bytes.len().min(7)..])?;
-    Ok(())
-}
-
-fn append_repeat(text: &mut Vec<u8>, place: u32) -> Result<(), NoMemory>
-    ensures { OnOk result (text.new.items ≡ text.old.items ++ codes "Repeat " ++ decimal place) }
-{
-    text.extend_from_slice(b"Repeat ")?;
-    text.extend_from_slice(number_text(place).as_str().as_bytes())?;
-    Ok(())
 }
