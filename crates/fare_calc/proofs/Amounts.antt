@@ -211,10 +211,6 @@ reads_rate =
     rate_from : (n : ℕ) (text : List ℕ) → IsText is_rate rate_text n text → Rate n text
     rate_from n text h =
         let below : n < 10 ^ 13 = ltb-true n (10 ^ 13) h.valid in
-        let w : ℕ = n / 1_000_000 in
-        let a : ℕ = n / 10_000 % 100 in
-        let b : ℕ = n / 100 % 100 in
-        let c : ℕ = n % 100 in
         record {
           first = n / 1_000_000;
           front = decimal (n / 1_000_000) ++ 46 ∷ [];

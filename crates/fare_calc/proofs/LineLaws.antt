@@ -120,8 +120,7 @@ longest_front bytes front back whole begins refuses =
         within = omega arith;
         begins = subst BeginsLine (sym first) begins;
         longest = λ more above within b.
-            (let n : ℕ = more - length front in
-            let is : more ≡ length front + (more - length front) = omega arith in
+            (let is : more ≡ length front + (more - length front) = omega arith in
             no_longer bytes front back whole refuses back refl (more - length front) (omega arith) (omega arith) (subst (λ (k : ℕ). BeginsLine (take k bytes)) is b));
       },
     )

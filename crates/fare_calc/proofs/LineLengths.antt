@@ -57,7 +57,6 @@ rate_length n h =
     let below : n < 10 ^ 13 = ltb-true n (10 ^ 13) h in
     let whole : n / 1_000_000 < 10 ^ 10 = omega arith in
     let digits = length-decimal-le 10 (n / 1_000_000) (omega arith) whole (omega arith) in
-    let a : ℕ = n / 10_000 % 100 in
     let pieces = rate_is n (n / 1_000_000) (n / 10_000 % 100) (n / 100 % 100) (n % 100) (omega arith) (omega arith) (omega arith) (omega arith) in
     let size : length (rate_text n) ≡ length (decimal (n / 1_000_000)) + 1 + 6 =
     ap length (sym pieces) ∙ length-append (decimal (n / 1_000_000) ++ 46 ∷ []) _ ∙ ap (λ (k : ℕ). k + 6) (length-append (decimal (n / 1_000_000)) (46 ∷ [])) in

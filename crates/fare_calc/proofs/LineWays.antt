@@ -69,8 +69,6 @@ parts_are_text : (begun : ℕ) (sectors : List LineSector) (parts : List LinePar
 unfolding parts_of parts_text
 parts_are_text begun sectors [] = refl
 parts_are_text begun sectors (part ∷ parts) =
-    let own : List LineSector = take (flown_count begun part) sectors in
-    let others : List Piece = parts_of part.end (drop (flown_count begun part) sectors) parts in
     let rest = parts_are_text part.end (drop (flown_count begun part) sectors) parts in
     flat_joined (gap_of part.gap) (sectors_of (take (flown_count begun part) sectors) ++ (Part part ∷ parts_of part.end (drop (flown_count begun part) sectors) parts))
     ∙ ap (λ (t : List ℕ). t ++ flat_map piece_text (sectors_of (take (flown_count begun part) sectors) ++ (Part part ∷ parts_of part.end (drop (flown_count begun part) sectors) parts))) (gap_is_text part.gap)
@@ -85,7 +83,6 @@ parts_are_text begun sectors (part ∷ parts) =
 pub pieces_are_text : (line : CalculationLine) → spaced line.from ++ flat_map piece_text (pieces_of line) ≡ line_text line
 unfolding pieces_of line_text
 pieces_are_text line =
-    let totals : Totals = record { total = line.total; roe = line.roe } in
     ap (λ (t : List ℕ). spaced line.from ++ t)
     (flat_joined (parts_of 0 line.sectors line.parts) (plus_ups_of line.plus ++ (End (record { total = line.total; roe = line.roe }) ∷ []))
     ∙ ap (λ (t : List ℕ). t ++ flat_map piece_text (plus_ups_of line.plus ++ (End (record { total = line.total; roe = line.roe }) ∷ []))) (parts_are_text 0 line.sectors line.parts)
@@ -165,7 +162,6 @@ parts_way [] from closed sectors before begun rest line led all shared way =
     subst (λ (k : List LineSector). Way (at from k before begun) rest line) front (subst (λ (k : List LinePart). Way (at from (closed ++ sectors) k begun) rest line) (append-nil before) way)
 parts_way (part ∷ parts) from closed sectors before begun rest line led all shared way =
     let lead = leads begun (length sectors) part parts shared in
-    let n : ℕ = flown_count begun part in
     let fits = lead.fits in
     let begins = lead.begins in
     let own_size : length (take (flown_count begun part) sectors) ≡ flown_count begun part = omega (arith, length-take (flown_count begun part) sectors) in
@@ -231,8 +227,6 @@ unfolding pieces_of
 line_way line h =
     let tests = line_parts line h in
     let led = led_parts line.parts tests.led in
-    let totals : Totals = record { total = line.total; roe = line.roe } in
-    let final : DraftLine = at line.from line.sectors line.parts (last_end 0 line.parts) in
     let between : IsBetween (at line.from line.sectors line.parts (last_end 0 line.parts)) = record { none_pending = refl; no_gap = refl; some_part = led.0 } in
     let last : IsBetween (record { from = line.from; closed = line.sectors; parts = line.parts; begun = last_end 0 line.parts; gap = None; pending = []; plus = line.plus }) = record { none_pending = refl; no_gap = refl; some_part = led.0 } in
     parts_way line.parts line.from [] line.sectors [] 0 (plus_ups_of line.plus ++ (End (record { total = line.total; roe = line.roe }) ∷ [])) line (inr led.1) tests.sectors tests.parts

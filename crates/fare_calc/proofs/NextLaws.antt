@@ -82,9 +82,7 @@ dark_mark letter pair amount x y z =
 price_third : (part : LinePart) (more : List ℕ) → is_priced part ≡ true → is_dark (get_or (price_text part ++ more) 2 0) ≡ true
 price_third part more h =
     let tests = seven_tests (is_gap part.gap) (is_letter part.letter) (is_pair part.letter part.pair) (is_amount part.amount) (is_carrier part.carrier) (is_rule part.rule) (is_unit part.unit) h in
-    let mark : List ℕ = mark_text part.letter part.pair part.amount in
     let dark = dark_mark part.letter part.pair part.amount tests.1 tests.2 tests.3 in
-    let tail : List ℕ = 32 ∷ (tag_text part.carrier part.class part.kind part.rule ++ (codes "/" ++ (spaced (decimal part.unit) ++ more))) in
     let regroup : price_text part ++ more ≡ mark_text part.letter part.pair part.amount ++ (32 ∷ (tag_text part.carrier part.class part.kind part.rule ++ (codes "/" ++ (spaced (decimal part.unit) ++ more)))) =
     behind (mark_text part.letter part.pair part.amount) (tag_text part.carrier part.class part.kind part.rule) (codes "/") (spaced (decimal part.unit)) more in
     ap (λ (t : List ℕ). is_dark (get_or t 2 0)) regroup

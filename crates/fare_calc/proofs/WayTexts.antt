@@ -54,7 +54,6 @@ parts_text_more [] begun closed pending part h n =
 parts_text_more (first ∷ parts) begun closed pending part h n =
     let lead = leads begun (length closed) first parts h in
     let fits = lead.fits in
-    let count_first : ℕ = flown_count begun first in
     let front : take (flown_count begun first) (closed ++ pending) ≡ take (flown_count begun first) closed = take-append-le (flown_count begun first) closed pending fits in
     let back : drop (flown_count begun first) (closed ++ pending) ≡ drop (flown_count begun first) closed ++ pending = drop-append-le (flown_count begun first) closed pending fits in
     let size : length (drop (flown_count begun first) closed) ≡ length closed - flown_count begun first = length-drop (flown_count begun first) closed in
