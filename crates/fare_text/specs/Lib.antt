@@ -1,0 +1,1 @@
+pub use Rattle.fare_codes.specs.Numbers
