@@ -6,7 +6,7 @@ ghost use Rattle.std.specs.Option.{option_to_list};
 ghost use Rattle.fare_tariff.specs.Check.{is_unknown_city, is_one_unknown, names_unknown_city, is_unknown_rule, names_unknown_rule, names_unknown_currency};
 
 use crate::look_up::{city_record, currency_record, rule_record};
-use crate::record::Record;
+use crate::records::Record;
 use fare_codes::{City, RuleId};
 
 /// Whether a city has no record.

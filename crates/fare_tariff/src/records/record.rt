@@ -1,10 +1,4 @@
-use crate::city_record::CityRec;
-use crate::currency_record::CurRec;
-use crate::extra_mileage_record::EmaRec;
-use crate::fare_record::FareRec;
-use crate::mileage_record::MileRec;
-use crate::pair_record::PairRec;
-use crate::rule_record::RuleRec;
+use crate::records::{CityRec, CurRec, EmaRec, FareRec, MileRec, PairRec, RuleRec};
 
 /// A record of a tariff, between its HEAD and its END.
 #[derive(Drop)]

@@ -1,4 +1,4 @@
-use crate::check_kind::CheckKind;
+use crate::check::CheckKind;
 
 /// Why a list of records is no edition.
 #[derive(Clone, Copy, Debug, PartialEq, Eq)]

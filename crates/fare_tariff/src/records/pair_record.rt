@@ -14,13 +14,14 @@ pub struct PairRec {
 
 impl Model for PairRec {
     ghost use Rattle.std.specs.Prelude.{◌≤◌};
+    ghost use Rattle.fare_tariff.specs.declared.limits.TheConstants.{MOST_MILES};
     ghost use Rattle.fare_tariff.specs.Record.{PairRecord};
 
     ghost Value = { PairRecord };
 
     ghost view = { λ r. record { from = r.from; to = r.to; miles = r.miles } };
 
-    ghost invariant = { λ r. r.miles ≤ 99_999 };
+    ghost invariant = { λ r. r.miles ≤ MOST_MILES };
 
     ghost inverse = { λ r. record { from = r.from; to = r.to; miles = r.miles } };
 }

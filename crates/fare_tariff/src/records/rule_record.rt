@@ -1,4 +1,4 @@
-use crate::names::Names;
+use crate::records::Names;
 use fare_codes::RuleId;
 use std::marker::Model;
 

@@ -16,13 +16,14 @@ pub struct MileRec {
 
 impl Model for MileRec {
     ghost use Rattle.std.specs.Prelude.{◌≤◌};
+    ghost use Rattle.fare_tariff.specs.declared.limits.TheConstants.{MOST_MILES};
     ghost use Rattle.fare_tariff.specs.Record.{MileageRecord};
 
     ghost Value = { MileageRecord };
 
     ghost view = { λ r. record { from = r.from; to = r.to; ind = r.ind; miles = r.miles } };
 
-    ghost invariant = { λ r. r.miles ≤ 99_999 };
+    ghost invariant = { λ r. r.miles ≤ MOST_MILES };
 
     ghost inverse = { λ r. record { from = r.from; to = r.to; ind = r.ind; miles = r.miles } };
 }

@@ -18,13 +18,14 @@ pub struct EmaRec {
 
 impl Model for EmaRec {
     ghost use Rattle.std.specs.Prelude.{◌≤◌};
+    ghost use Rattle.fare_tariff.specs.declared.limits.TheConstants.{MOST_MILES};
     ghost use Rattle.fare_tariff.specs.Record.{AllowanceRecord};
 
     ghost Value = { AllowanceRecord };
 
     ghost view = { λ r. record { from = r.from; to = r.to; ind = r.ind; via = r.via; miles = r.miles } };
 
-    ghost invariant = { λ r. r.miles ≤ 99_999 };
+    ghost invariant = { λ r. r.miles ≤ MOST_MILES };
 
     ghost inverse = { λ r. record { from = r.from; to = r.to; ind = r.ind; via = r.via; miles = r.miles } };
 }

@@ -25,14 +25,15 @@ pub struct FareRec {
 }
 
 impl Model for FareRec {
-    ghost use Rattle.std.specs.Prelude.{◌<◌, ◌^◌};
+    ghost use Rattle.std.specs.Prelude.{◌<◌};
+    ghost use Rattle.fare_codes.specs.declared.nuc.TheConstants.{FARE_LIMIT};
     ghost use Rattle.fare_tariff.specs.Record.{FareRecord};
 
     ghost Value = { FareRecord };
 
     ghost view = { λ r. record { from = r.from; to = r.to; ind = r.ind; carrier = r.carrier; class = r.class; kind = r.kind; rule = r.rule; season = r.season; amount = r.amount } };
 
-    ghost invariant = { λ r. r.amount < 10 ^ 9 };
+    ghost invariant = { λ r. r.amount < FARE_LIMIT };
 
     ghost inverse = { λ r. record { from = r.from; to = r.to; ind = r.ind; carrier = r.carrier; class = r.class; kind = r.kind; rule = r.rule; season = r.season; amount = r.amount } };
 }

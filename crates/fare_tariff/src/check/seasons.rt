@@ -1,17 +1,9 @@
 //! Two seasons beside one another.
 
 ghost use Rattle.std.specs.Prelude.{◌≡◌, IsTrue};
-ghost use Rattle.fare_tariff.specs.Check.{same_season, seasons_overlap, ShareADay};
+ghost use Rattle.fare_tariff.specs.Check.{seasons_overlap, ShareADay};
 
-use crate::same::same_month_days;
 use fare_codes::Season;
-
-/// Whether two seasons have the same first and the same last day.
-pub(crate) fn same_seasons(a: &Season, b: &Season) -> bool
-    ensures { result ≡ same_season a.now b.now }
-{
-    same_month_days(a.first, b.first) && same_month_days(a.last, b.last)
-}
 
 /// Whether one of two seasons holds the other's first day.
 pub(crate) fn seasons_overlap(a: &Season, b: &Season) -> bool

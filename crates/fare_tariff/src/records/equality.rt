@@ -2,16 +2,11 @@
 
 ghost use Rattle.std.specs.Prelude.{◌≡◌, ◌↔◌, IsTrue};
 
-use crate::city_record::CityRec;
-use crate::currency_record::CurRec;
-use crate::extra_mileage_record::EmaRec;
-use crate::fare_record::FareRec;
-use crate::mileage_record::MileRec;
-use crate::names::Names;
-use crate::pair_record::PairRec;
-use crate::record::Record;
-use crate::rule_record::RuleRec;
-use fare_codes::{Area, Cabin, City, Indicator, Kind, Mode, Nuc, RuleId};
+use crate::records::{
+    CityRec, CurRec, EmaRec, FareRec, MileRec, Names, PairRec, Record, RuleRec, same_rules,
+    same_vias,
+};
+use fare_codes::RuleId;
 
 /// Whether two lists have the same records in the same order.
 pub fn same_records(a: &[Record], b: &[Record]) -> bool
@@ -46,7 +41,7 @@ fn is_record(a: &Record, b: &Record) -> bool
 fn is_city_record(a: &CityRec, b: &CityRec) -> bool
     ensures { IsTrue result ↔ (a.now ≡ b.now) }
 {
-    a.code.is(b.code) && a.country.is(b.country) && is_area(a.area, b.area)
+    a.code.is(b.code) && a.country.is(b.country) && a.area.is(b.area)
 }
 
 fn is_currency_record(a: &CurRec, b: &CurRec) -> bool
@@ -57,7 +52,7 @@ fn is_currency_record(a: &CurRec, b: &CurRec) -> bool
         && a.roe == b.roe
         && a.decimals == b.decimals
         && a.unit == b.unit
-        && is_mode(a.mode, b.mode)
+        && a.mode.is(b.mode)
 }
 
 fn is_rule_record(a: &RuleRec, b: &RuleRec) -> bool
@@ -91,31 +86,11 @@ fn is_list(a: &[Option<RuleId>], b: &[Option<RuleId>]) -> bool
         return false;
     }
     for (place, name) in a.iter().enumerate() {
-        if !is_rule(name, &b[place]) {
+        if !same_rules(name, &b[place]) {
             return false;
         }
     }
     true
-}
-
-fn is_rule(a: &Option<RuleId>, b: &Option<RuleId>) -> bool
-    ensures { IsTrue result ↔ (a.now ≡ b.now) }
-{
-    match (a, b) {
-        (None, None) => true,
-        (Some(a), Some(b)) => a.is(*b),
-        _ => false,
-    }
-}
-
-fn is_via(a: &Option<City>, b: &Option<City>) -> bool
-    ensures { IsTrue result ↔ (a.now ≡ b.now) }
-{
-    match (a, b) {
-        (None, None) => true,
-        (Some(a), Some(b)) => a.is(*b),
-        _ => false,
-    }
 }
 
 fn is_fare_record(a: &FareRec, b: &FareRec) -> bool
@@ -123,19 +98,19 @@ fn is_fare_record(a: &FareRec, b: &FareRec) -> bool
 {
     a.from.is(b.from)
         && a.to.is(b.to)
-        && is_indicator(a.ind, b.ind)
+        && a.ind.is(b.ind)
         && a.carrier.is(b.carrier)
-        && is_cabin(a.class, b.class)
-        && is_kind(a.kind, b.kind)
-        && is_rule(&a.rule, &b.rule)
+        && a.class.is(b.class)
+        && a.kind.is(b.kind)
+        && same_rules(&a.rule, &b.rule)
         && a.season.is(b.season)
-        && is_amount(a.amount, b.amount)
+        && a.amount.is(b.amount)
 }
 
 fn is_mileage_record(a: &MileRec, b: &MileRec) -> bool
     ensures { IsTrue result ↔ (a.now ≡ b.now) }
 {
-    a.from.is(b.from) && a.to.is(b.to) && is_indicator(a.ind, b.ind) && a.miles == b.miles
+    a.from.is(b.from) && a.to.is(b.to) && a.ind.is(b.ind) && a.miles == b.miles
 }
 
 fn is_pair_record(a: &PairRec, b: &PairRec) -> bool
@@ -149,43 +124,7 @@ fn is_extra_mileage_record(a: &EmaRec, b: &EmaRec) -> bool
 {
     a.from.is(b.from)
         && a.to.is(b.to)
-        && is_indicator(a.ind, b.ind)
-        && is_via(&a.via, &b.via)
+        && a.ind.is(b.ind)
+        && same_vias(&a.via, &b.via)
         && a.miles == b.miles
-}
-
-fn is_amount(a: Nuc, b: Nuc) -> bool
-    ensures { IsTrue result ↔ (a ≡ b) }
-{
-    a.hundredths() == b.hundredths()
-}
-
-fn is_area(a: Area, b: Area) -> bool
-    ensures { IsTrue result ↔ (a ≡ b) }
-{
-    a == b
-}
-
-fn is_mode(a: Mode, b: Mode) -> bool
-    ensures { IsTrue result ↔ (a ≡ b) }
-{
-    a == b
-}
-
-fn is_indicator(a: Indicator, b: Indicator) -> bool
-    ensures { IsTrue result ↔ (a ≡ b) }
-{
-    a == b
-}
-
-fn is_cabin(a: Cabin, b: Cabin) -> bool
-    ensures { IsTrue result ↔ (a ≡ b) }
-{
-    a == b
-}
-
-fn is_kind(a: Kind, b: Kind) -> bool
-    ensures { IsTrue result ↔ (a ≡ b) }
-{
-    a == b
 }
