@@ -11,6 +11,8 @@ use Rattle.fare_codes.specs.declared.indicator.Indicator.{Indicator}
 use Rattle.fare_codes.specs.declared.indicator.Indicator.TheVariants.{WH, EH, AT, PA, AP}
 use Rattle.fare_codes.specs.declared.month_day.MonthDay.{MonthDay}
 use Rattle.fare_codes.specs.Same.{same_indicator}
+use Rattle.fare_codes.specs.declared.nuc.TheConstants.{FARE_LIMIT}
+use Rattle.fare_tariff.specs.declared.limits.TheConstants.{MOST_FARES_BETWEEN, MOST_RECORDS}
 use Rattle.fare_tariff.specs.declared.records.record.Record.{Record}
 use Rattle.fare_tariff.specs.declared.records.record.Record.TheVariants as filed
 use Rattle.fare_tariff.specs.declared.records.fare_key.FareKey.{FareKey}
@@ -63,7 +65,7 @@ fare_facts : (tariff : Tariff) (earlier : List Record) (fare : FareRecord) → h
 fare_facts tariff earlier fare form kinds =
     let known = both_known tariff.records fare.from fare.to kinds.known_city in
     record {
-      in_form = ltb-true fare.amount 1_000_000_000 form;
+      in_form = ltb-true fare.amount FARE_LIMIT form;
       points_differ = bytes_eq-false _ _ kinds.points_differ;
       from_known = known.0;
       to_known = known.1;
@@ -88,7 +90,7 @@ fare_at-some tariff number fare h =
     (leb-true 2 number p.0, fare_in-some _ fare p.1)
 
 -- the fare of a record number in an edition
-pub filed_fare : (tariff : Tariff) (number : ℕ) (fare : FareRecord) → IsEdition tariff.number tariff.records → fare_at tariff number ≡ Some fare → IsFiledFare tariff fare × (number ≤ 400_001)
+pub filed_fare : (tariff : Tariff) (number : ℕ) (fare : FareRecord) → IsEdition tariff.number tariff.records → fare_at tariff number ≡ Some fare → IsFiledFare tariff fare × (number ≤ MOST_RECORDS + 1)
 filed_fare tariff number fare edition h =
     let valid = edition.no_fault in
     let p = fare_at-some tariff number fare h in
@@ -203,14 +205,14 @@ nth_at test from [] k number h = cc
 nth_at test from (x ∷ xs) k number h =
     nth_step test from x xs k number (test x) refl h (λ j later. nth_at test (from + 1) xs j number later)
 
--- fewer than 64 fares of a from, to and indicator stand before one without a kind
-few_before : (all earlier : List Record) (from to : City) (ind : Indicator) (fare : FareRecord) → IsFareBetween from to ind fare → HasNoKind all earlier (filed.Fare fare) → count_by (is_fare_between from to ind) earlier < 64
+-- fewer fares than there may be of a from, to and indicator stand before one without a kind
+few_before : (all earlier : List Record) (from to : City) (ind : Indicator) (fare : FareRecord) → IsFareBetween from to ind fare → HasNoKind all earlier (filed.Fare fare) → count_by (is_fare_between from to ind) earlier < MOST_FARES_BETWEEN
 few_before all earlier from to ind fare between kinds =
-    let few = leb-false 64 (count_by (is_fare_between fare.from fare.to fare.ind) earlier) kinds.not_too_many in
+    let few = leb-false MOST_FARES_BETWEEN (count_by (is_fare_between fare.from fare.to fare.ind) earlier) kinds.not_too_many in
     rw (between.of_from, between.of_to, between.of_ind) at few
 
--- the k-th number of a from, to and indicator is that of a fare between them, and k is below 64
-pub filed_nth : (tariff : Tariff) (from to : City) (ind : Indicator) (k number : ℕ) → is_none (first_fault tariff.records) ≡ true → nth_fare tariff from to ind k ≡ Some number → IsSomeAnd (fare_at tariff number) (IsFareBetween from to ind) × (k < 64)
+-- the k-th number of a from, to and indicator is that of a fare between them, and k is below the greatest number of them
+pub filed_nth : (tariff : Tariff) (from to : City) (ind : Indicator) (k number : ℕ) → is_none (first_fault tariff.records) ≡ true → nth_fare tariff from to ind k ≡ Some number → IsSomeAnd (fare_at tariff number) (IsFareBetween from to ind) × (k < MOST_FARES_BETWEEN)
 filed_nth tariff from to ind k number valid h =
     let nth = nth_at (is_fare_between from to ind) 2 tariff.records k number h in
     let fare = is_fare_between-true from to ind nth.one nth.passes in
