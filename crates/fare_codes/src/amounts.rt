@@ -10,7 +10,8 @@ use crate::nuc::{FARE_LIMIT, Nuc};
 /// The greater of two amounts, of which either may be missing.
 pub fn greater(a: Option<Nuc>, b: Option<Nuc>) -> Option<Nuc>
     ensures value { result ≡ greater a b }
-    ensures below { (limit : ℕ) → IfSome a (λ x. x < limit) → IfSome b (λ x. x < limit) → IfSome result (λ x. x < limit) }
+    ensures below { (limit : ℕ) →
+        IfSome a (λ x. x < limit) → IfSome b (λ x. x < limit) → IfSome result (λ x. x < limit) }
 {
     match (a, b) {
         (None, b) => b,

@@ -12,7 +12,7 @@ use crate::texts::all_digits;
 use arrayvec::ArrayString;
 use itoa::Buffer;
 
-/// Every decimal has fewer units of its last place than this: it has at most fourteen characters, one of them its point.
+/// Every decimal has fewer units of its last place: it has at most fourteen characters, one of them its point.
 const UNIT_LIMIT: u64 = 10_000_000_000_000;
 
 /// Every rate is below this many millionths: it has at most seven digits before its point.

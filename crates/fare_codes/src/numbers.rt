@@ -51,7 +51,8 @@ pub(crate) fn value_after(start: u64, bytes: &[u8], most: u64) -> Option<u64>
     requires form { list_all is_ascii_digit bytes.now ≡ true }
     requires small { start ≤ most }
     requires room { most < 10 ^ 18 }
-    ensures value { result ≡ (if nat_le (digits_value_after 10 start bytes.now) most then Some (digits_value_after 10 start bytes.now) else None) }
+    ensures value { result ≡ (if nat_le (digits_value_after 10 start bytes.now) most
+        then Some (digits_value_after 10 start bytes.now) else None) }
     ensures bound { IfSome result (λ n. n ≤ most) }
 {
     let mut value = start;

@@ -21,7 +21,8 @@ impl Model for RuleId {
 
     ghost view = { λ r. take r.len r.characters };
 
-    ghost invariant = { λ r. (r.len ≤ 8) × (length r.characters ≡ 8) × (is_rule_id (take r.len r.characters) ≡ true) × (padded (take r.len r.characters) ≡ r.characters) };
+    ghost invariant = { λ r. (r.len ≤ 8) × (length r.characters ≡ 8)
+        × (is_rule_id (take r.len r.characters) ≡ true) × (padded (take r.len r.characters) ≡ r.characters) };
 
     ghost inverse = { λ bytes. record { characters = padded bytes; len = length bytes } };
 

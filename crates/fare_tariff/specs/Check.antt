@@ -25,7 +25,15 @@ use Rattle.fare_tariff.specs.Lookup.{first_some, same_pair, same_via, city_in, c
 
 -- the key of a filed fare without its season
 abbrev pub key_of : FareRecord → FareKey
-key_of fare = record { from = fare.from; to = fare.to; ind = fare.ind; carrier = fare.carrier; class = fare.class; kind = fare.kind; rule = fare.rule }
+key_of fare = record {
+  from = fare.from;
+  to = fare.to;
+  ind = fare.ind;
+  carrier = fare.carrier;
+  class = fare.class;
+  kind = fare.kind;
+  rule = fare.rule;
+}
 
 -- a record files a fare that has a key and just this season
 abbrev pub is_fare_of : FareKey → Season → Record → Bool
@@ -84,7 +92,8 @@ names_unknown_currency records _ = false
 
 -- as many of the earlier records as there may be are fares with the from, to and indicator of this fare
 abbrev pub is_one_too_many : List Record → Record → Bool
-is_one_too_many earlier (filed.Fare r) = nat_le MOST_FARES_BETWEEN (count_by (is_fare_between r.from r.to r.ind) earlier)
+is_one_too_many earlier (filed.Fare r) =
+    nat_le MOST_FARES_BETWEEN (count_by (is_fare_between r.from r.to r.ind) earlier)
 is_one_too_many earlier _ = false
 
 -- a record's two cities are equal
@@ -102,7 +111,7 @@ is_zero_mileage (filed.Tpm r) = r.miles == 0
 is_zero_mileage (filed.Ema r) = r.miles == 0
 is_zero_mileage _ = false
 
--- a record that has these before it is one more than there may be: the last of them all has a number one higher than their count
+-- a record that has these before it has a number above the last that one may have, which is one above the most records
 abbrev pub is_out_of_limit : List Record → Bool
 is_out_of_limit earlier = nat_lt (MOST_RECORDS + 1) (number_at (length earlier))
 
@@ -151,7 +160,8 @@ fault_at records place one = option_map (At (number_at place)) (kind_of records 
 -- the fault of the least record that has one, of the rest of a list from a place on
 unfoldable pub first_fault_from : List Record → ℕ → List Record → Option CheckFault
 first_fault_from records place [] = None
-first_fault_from records place (one ∷ rest) = option_or (fault_at records place one) (first_fault_from records (place + 1) rest)
+first_fault_from records place (one ∷ rest) =
+    option_or (fault_at records place one) (first_fault_from records (place + 1) rest)
 
 -- the fault of the least record that has one
 abbrev pub first_fault : List Record → Option CheckFault
@@ -164,7 +174,8 @@ unless (Some fault) value = Err fault
 
 -- what the check of a list of records answers: the fault of the least record, else the edition with just these records
 abbrev pub check_edition : ℕ → Day → List Record → Result Tariff CheckFault
-check_edition number effective records = unless (first_fault records) (record { number = number; effective = effective; records = records })
+check_edition number effective records =
+    unless (first_fault records) (record { number = number; effective = effective; records = records })
 
 -- a result is an answer, or memory ran out
 abbrev pub Gives : {A : Type 0} → Result A CheckFault → Result A CheckFault → Type 0

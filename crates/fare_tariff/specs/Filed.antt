@@ -41,7 +41,7 @@ pub record IsFareBetween (from to : City) (ind : Indicator) (fare : FareRecord) 
   pub of_to : fare.to ≡ to
   pub of_ind : fare.ind ≡ ind
 
--- terms are in the ranges of a rule's record; the greatest stay of the free rule alone is above the days that one states
+-- terms are in the ranges of a rule's record; the greatest stay of the free rule alone is above what one states
 pub record AreInRange (terms : Terms) : Type 0 where
   pub stops : terms.stops ≤ MOST_STOPS
   pub transfers : terms.transfers ≤ MOST_TRANSFERS

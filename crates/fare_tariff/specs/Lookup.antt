@@ -115,11 +115,25 @@ rule_record tariff id = first_some (rule_in id) tariff.records
 
 -- the terms of the free rule: no limits, and a surcharge is allowed
 abbrev pub free_terms : Terms
-free_terms = record { stops = MOST_STOPS; transfers = MOST_TRANSFERS; advance = 0; min_stay = 0; max_stay = 4_294_967_295; excess = true }
+free_terms = record {
+  stops = MOST_STOPS;
+  transfers = MOST_TRANSFERS;
+  advance = 0;
+  min_stay = 0;
+  max_stay = 4_294_967_295;
+  excess = true;
+}
 
 -- the terms that a rule's record states
 abbrev pub terms_of : RuleRecord → Terms
-terms_of r = record { stops = r.stops; transfers = r.transfers; advance = r.advance; min_stay = r.min_stay; max_stay = r.max_stay; excess = r.excess }
+terms_of r = record {
+  stops = r.stops;
+  transfers = r.transfers;
+  advance = r.advance;
+  min_stay = r.min_stay;
+  max_stay = r.max_stay;
+  excess = r.excess;
+}
 
 -- the terms of a rule field
 abbrev pub terms : Tariff → Option RuleId → Option Terms
@@ -177,7 +191,7 @@ abbrev pub is_by_way_of : List City → Option City → Bool
 is_by_way_of cities None = true
 is_by_way_of cities (Some via) = list_any (bytes_eq via) cities
 
--- the extra miles that a record allows between two cities for an indicator by way of some cities, 0 where it allows none
+-- the extra miles that a record allows between two cities for an indicator by way of some cities, else 0
 abbrev pub allowed_in : City → City → Indicator → List City → Record → ℕ
 allowed_in a b ind cities (filed.Ema r) =
     if same_pair r.from r.to a b && same_indicator r.ind ind && is_by_way_of cities r.via then r.miles else 0
@@ -188,6 +202,7 @@ abbrev pub greatest : (Record → ℕ) → List Record → ℕ
 greatest measure [] = 0
 greatest measure (one ∷ records) = max (measure one) (greatest measure records)
 
--- the greatest extra mileage allowance of an unordered pair of cities and an indicator that is filed for every way or by way of one of some cities
+-- the greatest extra mileage allowance of an unordered pair of cities and an indicator that is filed for every way or by
+-- way of one of some cities
 abbrev pub allowance : Tariff → City → City → Indicator → List City → ℕ
 allowance tariff a b ind cities = greatest (allowed_in a b ind cities) tariff.records

@@ -25,7 +25,8 @@ pub record CurrencyRecord : Type 0 where
   pub unit : ℕ
   pub mode : Mode
 
--- a rate is above zero and has at most seven digits before its point, an amount has at most two decimals, and a unit is 1 to 10,000
+-- a rate is above zero and has at most seven digits before its point, an amount has at most two decimals, and a unit is
+-- 1 to 10,000
 pub record IsCurrency (roe decimals unit : ℕ) : Type 0 where
   pub rate_above_zero : 0 < roe
   pub rate_in_form : roe < RATE_LIMIT

@@ -57,7 +57,8 @@ fn fare_in(one: &Record) -> Option<&FareRec>
 
 /// The fare that the record of a number files.
 fn fare_record(records: &[Record], number: u32) -> Option<&FareRec>
-    ensures fare { option_copied result ≡ (if nat_le 2 number then option_and_then fare_in (slice_get records.now (number - 2)) else None) }
+    ensures fare { option_copied result ≡ (if nat_le 2 number
+        then option_and_then fare_in (slice_get records.now (number - 2)) else None) }
     ensures in_range { IfSome result (λ fare. fare.now.amount < FARE_LIMIT) }
 {
     if number < 2 {

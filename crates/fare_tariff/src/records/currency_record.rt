@@ -23,9 +23,23 @@ impl Model for CurRec {
 
     ghost Value = { CurrencyRecord };
 
-    ghost view = { λ r. record { country = r.country; currency = r.currency; roe = r.roe; decimals = r.decimals; unit = r.unit; mode = r.mode } };
+    ghost view = { λ r. record {
+      country = r.country;
+      currency = r.currency;
+      roe = r.roe;
+      decimals = r.decimals;
+      unit = r.unit;
+      mode = r.mode;
+    } };
 
     ghost invariant = { λ r. IsCurrency r.roe r.decimals r.unit };
 
-    ghost inverse = { λ r. record { country = r.country; currency = r.currency; roe = r.roe; decimals = r.decimals; unit = r.unit; mode = r.mode } };
+    ghost inverse = { λ r. record {
+      country = r.country;
+      currency = r.currency;
+      roe = r.roe;
+      decimals = r.decimals;
+      unit = r.unit;
+      mode = r.mode;
+    } };
 }

@@ -31,9 +31,29 @@ impl Model for FareRec {
 
     ghost Value = { FareRecord };
 
-    ghost view = { λ r. record { from = r.from; to = r.to; ind = r.ind; carrier = r.carrier; class = r.class; kind = r.kind; rule = r.rule; season = r.season; amount = r.amount } };
+    ghost view = { λ r. record {
+      from = r.from;
+      to = r.to;
+      ind = r.ind;
+      carrier = r.carrier;
+      class = r.class;
+      kind = r.kind;
+      rule = r.rule;
+      season = r.season;
+      amount = r.amount;
+    } };
 
     ghost invariant = { λ r. r.amount < FARE_LIMIT };
 
-    ghost inverse = { λ r. record { from = r.from; to = r.to; ind = r.ind; carrier = r.carrier; class = r.class; kind = r.kind; rule = r.rule; season = r.season; amount = r.amount } };
+    ghost inverse = { λ r. record {
+      from = r.from;
+      to = r.to;
+      ind = r.ind;
+      carrier = r.carrier;
+      class = r.class;
+      kind = r.kind;
+      rule = r.rule;
+      season = r.season;
+      amount = r.amount;
+    } };
 }

@@ -30,7 +30,27 @@ impl Model for RuleRec {
 
     ghost Value = { RuleRecord };
 
-    ghost view = { λ r. record { id = r.id; stops = r.stops; transfers = r.transfers; advance = r.advance; min_stay = r.min_stay; max_stay = r.max_stay; excess = r.excess; units = r.units; ends = r.ends } };
+    ghost view = { λ r. record {
+      id = r.id;
+      stops = r.stops;
+      transfers = r.transfers;
+      advance = r.advance;
+      min_stay = r.min_stay;
+      max_stay = r.max_stay;
+      excess = r.excess;
+      units = r.units;
+      ends = r.ends;
+    } };
 
-    ghost invariant = { λ r. IsRule (record { id = r.id; stops = r.stops; transfers = r.transfers; advance = r.advance; min_stay = r.min_stay; max_stay = r.max_stay; excess = r.excess; units = r.units; ends = r.ends }) };
+    ghost invariant = { λ r. IsRule (record {
+      id = r.id;
+      stops = r.stops;
+      transfers = r.transfers;
+      advance = r.advance;
+      min_stay = r.min_stay;
+      max_stay = r.max_stay;
+      excess = r.excess;
+      units = r.units;
+      ends = r.ends;
+    }) };
 }
