@@ -1,7 +1,8 @@
 -- Ranges of numbers, one number on.
 use Rattle.std.proofs.Common.{◌≡◌, ℕ, ◌+◌, ◌<◌, ◌≤◌, Bool, true, false, cond, List, ◌∷◌, Option, None, filter, refl, ap, ◌∙◌}
 use Rattle.fare_rules.proofs.NumberLemmas.{numbers_next, numbers_none}
-use Rattle.fare_rules.specs.Numbers.{numbers, greater, greatest_of}
+use Rattle.fare_codes.specs.Amounts.{greater}
+use Rattle.fare_rules.specs.Numbers.{numbers, greatest_of}
 
 -- a number that passes may give the greatest amount, and one that doesn't gives none
 chosen : (b : Bool) (first : Option ℕ) (amount : ℕ → Option ℕ) (n : ℕ) (rest : List ℕ) → amount n ≡ first → greatest_of amount (cond b (n ∷ rest) rest) ≡ greater (cond b first None) (greatest_of amount rest)

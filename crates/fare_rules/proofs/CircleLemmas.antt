@@ -8,7 +8,8 @@ use Rattle.fare_trip.specs.Itinerary.{Itinerary}
 use Rattle.fare_tariff.specs.Record.{FareRecord}
 use Rattle.fare_tariff.specs.Tariff.{Tariff}
 use Rattle.fare_rules.specs.declared.part.Part.{Part}
-use Rattle.fare_rules.specs.Numbers.{greater, greatest_of}
+use Rattle.fare_codes.specs.Amounts.{greater}
+use Rattle.fare_rules.specs.Numbers.{greatest_of}
 use Rattle.fare_rules.specs.Span.{first_day}
 use Rattle.fare_rules.specs.Indicator.{indicator_of}
 use Rattle.fare_rules.specs.Reference.{reference}

@@ -10,7 +10,7 @@ use Rattle.fare_codes.specs.declared.rule_id.RuleId.{RuleId}
 use Rattle.fare_codes.specs.Day.{is_month_day, month_day_of, place_in_year, two_digits}
 use Rattle.fare_codes.specs.Season.{season_holds, whole_year}
 use Rattle.fare_trip.specs.Itinerary.{Itinerary}
-use Rattle.fare_tariff.specs.declared.terms.Terms.{Terms}
+use Rattle.fare_tariff.specs.declared.records.terms.Terms.{Terms}
 use Rattle.fare_tariff.specs.Record.{FareRecord}
 use Rattle.fare_tariff.specs.Tariff.{Tariff}
 use Rattle.fare_tariff.specs.Lookup.{terms, free_terms}

@@ -4,7 +4,8 @@ use Rattle.std.specs.Prelude.{Option, Some, None, find, filter, sum_by}
 use Rattle.std.specs.List.{range_with_len, list_any, list_all}
 use Rattle.std.proofs.lemmas.Bool.{cases_Bool, cases_eq}
 use Rattle.std.proofs.lemmas.List.Sums.{sum_by-cons}
-use Rattle.fare_rules.specs.Numbers.{numbers, greater, greatest_of}
+use Rattle.fare_codes.specs.Amounts.{greater}
+use Rattle.fare_rules.specs.Numbers.{numbers, greatest_of}
 
 -- a range that is not empty is its first number and the rest
 pub numbers_next : (first past : ℕ) → first < past → numbers first past ≡ first ∷ numbers (first + 1) past

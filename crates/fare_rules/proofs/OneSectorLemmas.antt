@@ -5,7 +5,8 @@ use Rattle.std.proofs.lemmas.Bool.{cases_Bool, ltb-false}
 use Rattle.fare_trip.specs.Itinerary.{Itinerary, count}
 use Rattle.fare_tariff.specs.Record.{FareRecord}
 use Rattle.fare_tariff.specs.Tariff.{Tariff}
-use Rattle.fare_tariff.specs.Lookup.{fare_at, same_kind}
+use Rattle.fare_codes.specs.Same.{same_kind}
+use Rattle.fare_tariff.specs.Lookup.{fare_at}
 use Rattle.fare_codes.specs.declared.kind.Kind.TheVariants.{OW}
 use Rattle.fare_rules.specs.declared.amount.Amount.{Amount}
 use Rattle.fare_rules.specs.declared.part.Part.{Part}

@@ -13,7 +13,8 @@ use Rattle.fare_tariff.specs.Tariff.{Tariff}
 use Rattle.fare_tariff.specs.Lookup.{fare_at, mpm}
 use Rattle.fare_rules.specs.declared.miles.Mileage.TheVariants.{Direct}
 use Rattle.fare_rules.specs.declared.miles.Miles.{Miles}
-use Rattle.fare_rules.specs.Numbers.{numbers, greater, greatest_of}
+use Rattle.fare_codes.specs.Amounts.{greater}
+use Rattle.fare_rules.specs.Numbers.{numbers, greatest_of}
 use Rattle.fare_rules.specs.Span.{stopovers, first_day}
 use Rattle.fare_rules.specs.Indicator.{indicator}
 use Rattle.fare_rules.specs.Mileage.{surcharge, surcharge_steps, is_covered_by, mileage, mileage_by, mileage_with, compared_miles, surcharge_of, first_without_tpm, sum_of_miles, allowance_of, miles_from}

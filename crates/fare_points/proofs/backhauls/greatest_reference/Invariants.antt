@@ -1,6 +1,7 @@
 -- the greatest so far and of what is left is the greatest of all, and an amount of a fare
 use Rattle.std.proofs.Common.{◌≡◌, ◌<◌, ◌^◌, ◌+◌, IfSome, filter}
-use Rattle.fare_rules.specs.Numbers.{numbers, greater, greatest_of}
+use Rattle.fare_codes.specs.Amounts.{greater}
+use Rattle.fare_rules.specs.Numbers.{numbers, greatest_of}
 use Rattle.fare_rules.specs.Span.{is_stopover}
 use Rattle.fare_rules.specs.Backhaul.{reference_to}
 use Rattle.fare_points.proofs.backhauls.greatest_reference.Given as goal
