@@ -1,7 +1,7 @@
 -- The line that tells what is wrong with a tariff text.
 use Rattle.std.specs.Prelude.{ℕ, List, [], ◌++◌, codes, decimal}
-use Rattle.fare_tariff.specs.declared.check_kind.CheckKind.{CheckKind}
-use Rattle.fare_tariff.specs.declared.check_kind.CheckKind.TheVariants.{Duplicate, UnknownCity, UnknownRule, UnknownCurrency, TooManyFares, SamePoint, ZeroMileage, OutOfLimit, Overlap}
+use Rattle.fare_tariff.specs.declared.check.check_kind.CheckKind.{CheckKind}
+use Rattle.fare_tariff.specs.declared.check.check_kind.CheckKind.TheVariants.{Duplicate, UnknownCity, UnknownRule, UnknownCurrency, TooManyFares, SamePoint, ZeroMileage, OutOfLimit, Overlap}
 use Rattle.fare_csv.specs.declared.text_fault.TextFault.{TextFault}
 use Rattle.fare_csv.specs.declared.text_fault.TextFault.TheVariants.{Memory, NoHeader, UnknownRecord, BadRecord, AfterEnd, NoEnd, Check}
 

@@ -9,6 +9,7 @@ use crate::rows::Row;
 use crate::text_fault::TextFault;
 use crate::version::Version;
 use fare_codes::Day;
+use fare_tariff::LAST_EDITION;
 
 /// What HEAD says of the edition, and how the fares behind it are spelled.
 #[derive(Clone, Copy, Debug)]
@@ -33,7 +34,7 @@ fn read_version(bytes: &[u8]) -> Option<Version>
 #[tactic(auto, unfolding(crate::specs::Head::head_of))]
 pub(crate) fn read_head(row: &Row) -> Result<Head, TextFault>
     ensures value { result ≡ head_of row.now }
-    ensures range { IfOk result (λ head. (0 < head.number) × (head.number ≤ 99_999)) }
+    ensures range { IfOk result (λ head. (0 < head.number) × (head.number ≤ LAST_EDITION)) }
 {
     counted(row, 1, 4)?;
     let version = read_version(row.field(1)).ok_or(TextFault::BadRecord(1, 2))?;

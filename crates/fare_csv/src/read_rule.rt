@@ -9,7 +9,7 @@ use crate::read_record::counted;
 use crate::rows::Row;
 use crate::text_fault::TextFault;
 use fare_codes::{RuleId, read_number};
-use fare_tariff::RuleRec;
+use fare_tariff::{MOST_DAYS, MOST_STOPS, MOST_TRANSFERS, RuleRec};
 use std::alloc::Global;
 
 /// Whether a surcharge is allowed.
@@ -31,11 +31,13 @@ pub(crate) fn read_rule(alloc: Global, row: &Row, number: u32) -> Result<RuleRec
 {
     counted(row, number, 10)?;
     let id = RuleId::read(row.field(1)).ok_or(TextFault::BadRecord(number, 2))?;
-    let stops = read_number(row.field(2), 16).ok_or(TextFault::BadRecord(number, 3))?;
-    let transfers = read_number(row.field(3), 16).ok_or(TextFault::BadRecord(number, 4))?;
-    let advance = read_number(row.field(4), 999).ok_or(TextFault::BadRecord(number, 5))?;
-    let min_stay = read_number(row.field(5), 999).ok_or(TextFault::BadRecord(number, 6))?;
-    let max_stay = read_number(row.field(6), 999).ok_or(TextFault::BadRecord(number, 7))?;
+    let stops = read_number(row.field(2), MOST_STOPS).ok_or(TextFault::BadRecord(number, 3))?;
+    let transfers = read_number(row.field(3), MOST_TRANSFERS).ok_or(TextFault::BadRecord(
+        number, 4,
+    ))?;
+    let advance = read_number(row.field(4), MOST_DAYS).ok_or(TextFault::BadRecord(number, 5))?;
+    let min_stay = read_number(row.field(5), MOST_DAYS).ok_or(TextFault::BadRecord(number, 6))?;
+    let max_stay = read_number(row.field(6), MOST_DAYS).ok_or(TextFault::BadRecord(number, 7))?;
     let excess = read_excess(row.field(7)).ok_or(TextFault::BadRecord(number, 8))?;
     let units = read_names(alloc, row.field(8))?.ok_or(TextFault::BadRecord(number, 9))?;
     let ends = read_names(alloc, row.field(9))?.ok_or(TextFault::BadRecord(number, 10))?;

@@ -17,7 +17,7 @@ use crate::rows::{Row, Rows};
 use crate::text_fault::TextFault;
 use crate::version::Version;
 use fare_codes::Day;
-use fare_tariff::Record;
+use fare_tariff::{LAST_EDITION, Record};
 use std::alloc::Global;
 
 /// The record of a row that isn't END, by its first field.
@@ -96,7 +96,7 @@ fn is_head(row: &Row) -> bool
 #[tactic(auto, unfolding(crate::specs::Fields::Gives, crate::specs::Fields::GivesFault, crate::specs::TariffText::headed, crate::specs::TariffText::tariff_of))]
 pub(crate) fn read_filed(alloc: Global, bytes: &[u8]) -> Result<Filed, TextFault>
     ensures reading { Gives filed_tariff result (tariff_of (rows_of bytes.now)) }
-    ensures range { IfOk result (λ filed. (0 < filed.number) × (filed.number ≤ 99_999)) }
+    ensures range { IfOk result (λ filed. (0 < filed.number) × (filed.number ≤ LAST_EDITION)) }
 {
     let mut rows = Rows::new(alloc, bytes);
     let mut row = Row::new(alloc);

@@ -1,11 +1,11 @@
-ghost use Rattle.std.specs.Prelude.{◌≡◌, ◌<◌, ◌≤◌, ◌*◌, IfSome, None, if◌then◌else◌};
+ghost use Rattle.std.specs.Prelude.{◌≡◌, ◌<◌, ◌≤◌, ◌^◌, ◌*◌, IfSome, None, if◌then◌else◌};
 ghost use Rattle.fare_trip.specs.Itinerary.{count};
 ghost use Rattle.fare_rules.specs.Span.{is_stopover};
 ghost use Rattle.fare_rules.specs.Backhaul.{reference_to, greatest_reference, minimum_above, backhaul};
 
 use crate::indicators::indicator;
 use crate::references::reference;
-use fare_codes::{FARE_LIMIT, Nuc, greater};
+use fare_codes::{Nuc, greater};
 use fare_tariff::{Edition, FareRec};
 use fare_trip::Trip;
 
@@ -14,7 +14,7 @@ fn reference_to(edition: &Edition, trip: &Trip, a: usize, fare: &FareRec, j: usi
     requires rises { a < j }
     requires ends { j ≤ count trip.now }
     ensures value { result ≡ reference_to edition.now trip.now a fare.now j }
-    ensures bound { IfSome result (λ amount. amount < FARE_LIMIT) }
+    ensures bound { IfSome result (λ amount. amount < 10 ^ 9) }
 {
     let ind = indicator(edition, trip, a, j);
     let on = trip.sector(a + 1).day;
@@ -32,7 +32,7 @@ fn reference_to_stopover(
     requires rises { a < j }
     requires ends { j ≤ count trip.now }
     ensures value { result ≡ (if is_stopover trip.now j then reference_to edition.now trip.now a fare.now j else None) }
-    ensures bound { IfSome result (λ amount. amount < FARE_LIMIT) }
+    ensures bound { IfSome result (λ amount. amount < 10 ^ 9) }
 {
     if trip.sector(j).stop {
         reference_to(edition, trip, a, fare, j)
@@ -53,7 +53,7 @@ fn greatest_reference(
     requires rises { a < b }
     requires ends { b ≤ count trip.now }
     ensures value { result ≡ greatest_reference edition.now trip.now a b fare.now }
-    ensures bound { IfSome result (λ amount. amount < FARE_LIMIT) }
+    ensures bound { IfSome result (λ amount. amount < 10 ^ 9) }
 {
     let mut greatest = None;
     for j in a + 1..b {
@@ -64,10 +64,10 @@ fn greatest_reference(
 
 /// The minimum of a lower and a higher amount: the higher one and their difference; nothing where it isn't higher.
 fn minimum_above(low: Nuc, high: Nuc) -> Option<Nuc>
-    requires low { low < FARE_LIMIT }
-    requires high { high < FARE_LIMIT }
+    requires low { low < 10 ^ 9 }
+    requires high { high < 10 ^ 9 }
     ensures value { result ≡ minimum_above low high }
-    ensures bound { IfSome result (λ minimum. minimum < 2 * FARE_LIMIT) }
+    ensures bound { IfSome result (λ minimum. minimum < 2 * 10 ^ 9) }
 {
     let (low, high) = (low.hundredths(), high.hundredths());
     if low < high {
@@ -84,7 +84,7 @@ pub fn backhaul(edition: &Edition, trip: &Trip, a: usize, b: usize, fare: &FareR
     requires rises { a < b }
     requires ends { b ≤ count trip.now }
     ensures value { result ≡ backhaul edition.now trip.now a b fare.now }
-    ensures bound { IfSome result (λ minimum. minimum < 2 * FARE_LIMIT) }
+    ensures bound { IfSome result (λ minimum. minimum < 2 * 10 ^ 9) }
 {
     let high = greatest_reference(edition, trip, a, b, fare)?;
     minimum_above(fare.amount, high)

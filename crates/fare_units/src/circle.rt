@@ -3,7 +3,7 @@
 ghost use Rattle.std.specs.Prelude.{◌≡◌, ◌+◌, ◌*◌, ◌<◌, ◌≤◌, ◌^◌, IfSome, length, ◌++◌, ◌∷◌, [], option_map};
 ghost use Rattle.std.specs.List.{list_any};
 ghost use Rattle.fare_trip.specs.Itinerary.{count};
-ghost use Rattle.fare_rules.specs.Numbers.{greater, greatest_of};
+ghost use Rattle.fare_rules.specs.Numbers.{greatest_of};
 ghost use Rattle.fare_rules.specs.Span.{stopovers};
 ghost use Rattle.fare_rules.specs.Construction.{own};
 ghost use Rattle.fare_rules.specs.Circle.{holds_sector, is_own_sector, own_sectors, reference_from_origin, circle_reference, unit_circle_minimum, circle_minimum, twice};
@@ -16,25 +16,11 @@ use crate::own::{last_of, own};
 use crate::places::{end_of, start_of};
 use crate::shape::origin;
 use arrayvec::ArrayVec;
-use fare_codes::Nuc;
+use fare_codes::{Nuc, greater};
 use fare_points::{indicator_of, reference};
 use fare_rules::Part;
 use fare_tariff::{Edition, FareRec};
 use fare_trip::Trip;
-
-/// The greater of two amounts below ten million NUC, of which either may be missing.
-fn greater(a: Option<Nuc>, b: Option<Nuc>) -> Option<Nuc>
-    requires first { IfSome a (λ amount. amount < 10 ^ 9) }
-    requires second { IfSome b (λ amount. amount < 10 ^ 9) }
-    ensures value { result ≡ greater a b }
-    ensures bound { IfSome result (λ amount. amount < 10 ^ 9) }
-{
-    match (a, b) {
-        (None, b) => b,
-        (Some(a), None) => Some(a),
-        (Some(a), Some(b)) => Some(Nuc::new(a.hundredths().max(b.hundredths()))),
-    }
-}
 
 /// Twice an amount below ten million NUC, where there is one.
 fn twice(amount: Option<Nuc>) -> Option<Nuc>

@@ -5,7 +5,7 @@ ghost use Rattle.fare_rules.specs.Indicator.{country};
 ghost use Rattle.fare_rules.specs.Shape.{is_same_country, lie_together};
 
 use fare_codes::{City, Country};
-use fare_tariff::{Edition, same_countries};
+use fare_tariff::Edition;
 
 /// The country of a city.
 fn country(edition: &Edition, city: City) -> Option<Country>
@@ -22,7 +22,7 @@ fn is_same_country(a: Option<Country>, b: Option<Country>) -> bool
     ensures { result ≡ is_same_country a b }
 {
     match (a, b) {
-        (Some(a), Some(b)) => same_countries(a, b),
+        (Some(a), Some(b)) => a.is(b),
         _ => false,
     }
 }

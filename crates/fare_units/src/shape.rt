@@ -11,7 +11,7 @@ use crate::own::{first_of, last_of};
 use crate::places::{end_city, start_city};
 use fare_codes::City;
 use fare_rules::Part;
-use fare_tariff::{Edition, same_cities};
+use fare_tariff::Edition;
 use fare_trip::Trip;
 
 /// The origin of a unit: the city where its first part begins.
@@ -27,7 +27,7 @@ fn follows(trip: &Trip, parts: &[Part], before: usize, k: usize) -> bool
     requires { Advances trip.now parts.now }
     ensures { result ≡ follows trip.now parts.now before k }
 {
-    same_cities(start_city(trip, parts, k), end_city(trip, parts, before))
+    start_city(trip, parts, k).is(end_city(trip, parts, before))
 }
 
 /// Whether each part of a unit begins in the city where its previous one ends.
@@ -49,7 +49,7 @@ fn ends_in(trip: &Trip, parts: &[Part], city: City, k: usize) -> bool
     requires { Advances trip.now parts.now }
     ensures { result ≡ ends_in trip.now parts.now city k }
 {
-    same_cities(end_city(trip, parts, k), city)
+    end_city(trip, parts, k).is(city)
 }
 
 /// Whether the last part of a unit ends in its origin.
@@ -96,7 +96,7 @@ pub(crate) fn closes(trip: &Trip, parts: &[Part], own: &[usize]) -> bool
 fn is_only_gap(edition: &Edition, a: City, b: City, c: City, d: City) -> bool
     ensures { result ≡ is_only_gap edition.now a b c d }
 {
-    !same_cities(a, b) && lie_together(edition, a, b) && same_cities(c, d)
+    !a.is(b) && lie_together(edition, a, b) && c.is(d)
 }
 
 /// Whether a unit of just these two parts is an open jaw: between them or to its origin lies a gap, and no other.

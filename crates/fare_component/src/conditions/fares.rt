@@ -8,14 +8,14 @@ ghost use Rattle.fare_rules.specs.ComponentAmount.{is_filed_between, runs_betwee
 
 use fare_codes::{Cabin, Carrier, City, Kind};
 use fare_points::{every_carrier, indicator};
-use fare_tariff::{Edition, FareRec, same_carriers, same_cities, same_indicators};
+use fare_tariff::{Edition, FareRec};
 use fare_trip::Trip;
 
 /// Whether a fare is filed from a city to another.
 fn is_filed_between(fare: &FareRec, from: City, to: City) -> bool
     ensures { result ≡ is_filed_between fare.now from to }
 {
-    same_cities(fare.from, from) && same_cities(fare.to, to)
+    fare.from.is(from) && fare.to.is(to)
 }
 
 /// Whether a fare runs between the ends of a span: from its start, or from its end where it is priced back.
@@ -53,7 +53,7 @@ pub fn has_indicator(edition: &Edition, trip: &Trip, a: usize, b: usize, fare: &
     requires ends { b ≤ count trip.now }
     ensures { result ≡ has_indicator edition.now trip.now a b fare.now }
 {
-    same_indicators(fare.ind, indicator(edition, trip, a, b))
+    fare.ind.is(indicator(edition, trip, a, b))
 }
 
 /// The rank of a cabin, or of a class.
@@ -97,7 +97,7 @@ fn all_carried_by(trip: &Trip, carrier: Carrier, a: usize, b: usize) -> bool
     ensures { result ≡ list_all (is_carried_by trip.now carrier) (sectors a b) }
 {
     for i in a..b {
-        if !same_carriers(trip.sector(i + 1).carrier, carrier) {
+        if !trip.sector(i + 1).carrier.is(carrier) {
             return false;
         }
     }
@@ -110,7 +110,7 @@ pub fn covers_carriers(trip: &Trip, a: usize, b: usize, fare: &FareRec) -> bool
     requires { b ≤ count trip.now }
     ensures { result ≡ covers_carriers trip.now a b fare.now }
 {
-    same_carriers(fare.carrier, every_carrier()) || all_carried_by(trip, fare.carrier, a, b)
+    fare.carrier.is(every_carrier()) || all_carried_by(trip, fare.carrier, a, b)
 }
 
 /// Whether the season of a fare holds the day of the first sector of what begins at a point.

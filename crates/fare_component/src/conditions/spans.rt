@@ -5,7 +5,6 @@ ghost use Rattle.fare_trip.specs.Itinerary.{count};
 ghost use Rattle.fare_rules.specs.Span.{holds_surface, stopovers, transfers};
 ghost use Rattle.fare_rules.specs.ComponentAmount.{is_repeated, repeats_city};
 
-use fare_tariff::same_cities;
 use fare_trip::Trip;
 
 /// Whether a span holds a surface sector.
@@ -29,7 +28,7 @@ fn is_repeated(trip: &Trip, a: usize, i: usize) -> bool
     ensures { result ≡ is_repeated trip.now a i }
 {
     for j in a..i {
-        if same_cities(trip.point(i), trip.point(j)) {
+        if trip.point(i).is(trip.point(j)) {
             return true;
         }
     }

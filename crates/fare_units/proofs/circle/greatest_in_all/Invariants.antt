@@ -1,7 +1,8 @@
 -- the greatest so far and of what is left is the greatest of all
 use Rattle.std.proofs.Common.{◌≡◌, ◌<◌, ◌^◌, drop}
 use Rattle.std.specs.Prelude.{IfSome}
-use Rattle.fare_rules.specs.Numbers.{greater, greatest_of}
+use Rattle.fare_codes.specs.Amounts.{greater}
+use Rattle.fare_rules.specs.Numbers.{greatest_of}
 use Rattle.fare_units.specs.Turning.{greatest_without}
 use Rattle.fare_units.proofs.circle.greatest_in_all.Given as goal
 

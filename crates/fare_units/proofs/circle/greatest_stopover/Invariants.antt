@@ -1,7 +1,8 @@
 -- the greatest so far and of what is left is the greatest of all
 use Rattle.std.proofs.Common.{◌≡◌, ◌+◌, ◌<◌, ◌^◌, filter}
 use Rattle.std.specs.Prelude.{IfSome}
-use Rattle.fare_rules.specs.Numbers.{numbers, greater, greatest_of}
+use Rattle.fare_codes.specs.Amounts.{greater}
+use Rattle.fare_rules.specs.Numbers.{numbers, greatest_of}
 use Rattle.fare_rules.specs.Span.{is_stopover}
 use Rattle.fare_rules.specs.Circle.{circle_reference}
 use Rattle.fare_units.proofs.circle.greatest_stopover.Given as goal
