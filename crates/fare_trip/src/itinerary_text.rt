@@ -4,7 +4,8 @@ ghost use Rattle.std.specs.Prelude.{◌≡◌, ◌≤◌, ◌⊎◌, length, fal
 ghost use Rattle.serde_json.specs.Errors.{IsMemory};
 ghost use Rattle.serde_json.specs.View.{view, items_view};
 ghost use Rattle.fare_trip.specs.ItineraryText.{sector_members, sector_of, placed_sector, sectors_of, counted_trip, placed_trip, trip_members, trip_of, read_trip};
-ghost use Rattle.fare_trip.specs.Steps.{Gives, seen};
+ghost use Rattle.fare_outside.specs.Memory.{Gives};
+ghost use Rattle.fare_trip.specs.Steps.{seen};
 
 use crate::fault::{Member, TripFault};
 use crate::members::{cabin_at, carrier_at, city_at, day_at, flag_at, items_at, over_at};
@@ -131,7 +132,7 @@ pub fn trip_of(_alloc: Global, value: &Value) -> Result<Trip, TripFault>
 /// value. Want of memory may come for any text.
 #[tactic(auto, unfolding(crate::specs::ItineraryText::read_trip, crate::specs::ItineraryText::json_of))]
 pub fn read_trip(alloc: Global, bytes: &[u8]) -> Result<Trip, TripFault>
-    ensures { Gives result (read_trip bytes.now) }
+    ensures { Gives TripFault.Memory (λ trip. trip) result (read_trip bytes.now) }
 {
     match Value::from_slice(alloc, bytes) {
         Ok(value) => trip_of(alloc, &value),
