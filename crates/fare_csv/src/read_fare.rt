@@ -1,7 +1,8 @@
 //! FARE records.
 
 ghost use Rattle.std.specs.Prelude.{◌≡◌, ◌<◌, ◌^◌, IfSome};
-ghost use Rattle.fare_csv.specs.RecordText.{fare_key_of, fare_of, fare_one_of, fare_two_of, fare_with, read_amount, read_fare_rule};
+ghost use Rattle.fare_csv.specs.RecordText.{fare_key_of, fare_of, fare_one_of, fare_two_of, fare_with, read_amount};
+ghost use Rattle.fare_csv.specs.RecordText.{read_fare_rule};
 
 use crate::head::Version;
 use crate::read_record::counted;
