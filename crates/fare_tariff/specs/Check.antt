@@ -18,7 +18,7 @@ use Rattle.fare_tariff.specs.declared.records.fare_key.FareKey.{FareKey}
 use Rattle.fare_tariff.specs.declared.check.check_kind.CheckKind.{CheckKind}
 use Rattle.fare_tariff.specs.declared.check.check_kind.CheckKind.TheVariants.{Duplicate, UnknownCity, UnknownRule, UnknownCurrency, TooManyFares, SamePoint, ZeroMileage, OutOfLimit, Overlap}
 use Rattle.fare_tariff.specs.declared.check.check_fault.CheckFault.{CheckFault}
-use Rattle.fare_tariff.specs.declared.check.check_fault.CheckFault.TheVariants.{Memory, At}
+use Rattle.fare_tariff.specs.declared.check.check_fault.CheckFault.TheVariants.{At}
 use Rattle.fare_tariff.specs.Record.{FareRecord}
 use Rattle.fare_tariff.specs.Tariff.{Tariff}
 use Rattle.fare_tariff.specs.Lookup.{first_some, same_pair, same_via, city_in, currency_in, has_key, rule_in, mpm_in, tpm_in, number_at, is_fare_between}
@@ -176,12 +176,6 @@ unless (Some fault) value = Err fault
 abbrev pub check_edition : ℕ → Day → List Record → Result Tariff CheckFault
 check_edition number effective records =
     unless (first_fault records) (record { number = number; effective = effective; records = records })
-
--- a result is an answer, or memory ran out
-abbrev pub Gives : {A : Type 0} → Result A CheckFault → Result A CheckFault → Type 0
-Gives (Err Memory) answer = Unit {0}
-Gives (Err (At number kind)) answer = Err (At number kind) ≡ answer
-Gives (Ok value) answer = Ok value ≡ answer
 
 -- a fare that a record files is below 10,000,000.00
 abbrev pub has_amount_in_range : Record → Bool
