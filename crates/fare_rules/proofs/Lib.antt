@@ -19,6 +19,7 @@ pub mod MemberLemmas
 pub mod FirstPartLemmas
 pub mod RuleLemmas
 pub mod OneSectorLemmas
+pub mod OneWayLemmas
 pub mod CheapestLemmas
 pub mod PriceLemmas
 pub mod TotalLemmas

@@ -14,7 +14,8 @@ pub use broken::Broken;
 pub use laws::{
     best_is_one, best_of_one_sector, circle_minimum_takes_each_end, edition_is_valid,
     first_part_is_a_choice, free_rule_asks_nothing, lawful_in_words, no_reference_to_itself,
-    order_is_total, parts_have_amounts, price_is_bounded, whole_year_holds_each_day,
+    one_way_unit_costs_its_fare, order_is_total, parts_have_amounts, price_is_bounded,
+    whole_year_holds_each_day,
 };
 pub use miles::{Mileage, Miles};
 pub use part::Part;
