@@ -179,3 +179,47 @@ limited = edition (three_cities ++
     ∷ ticketed "PAR" "ROM" 750
     ∷ permitted "LON" "ROM" EH 1_000
     ∷ [])
+
+-- records 5 to 8: half round trips between London, Manchester and Paris, and 9 a fare from Paris to Manchester
+abbrev pub home_by_manchester : Tariff
+home_by_manchester = edition (
+    city "LON" "GB" Two
+    ∷ city "MAN" "GB" Two
+    ∷ city "PAR" "FR" Two
+    ∷ fare "LON" "PAR" EH "YY" Y HR free 10_000
+    ∷ fare "MAN" "PAR" EH "YY" Y HR free 9_000
+    ∷ fare "LON" "MAN" EH "YY" Y HR free 6_000
+    ∷ fare "MAN" "LON" EH "YY" Y HR free 4_000
+    ∷ fare "PAR" "MAN" EH "YY" Y HR free 7_000
+    ∷ [])
+
+-- records 6 to 10: half round trips round Paris and Rome, from Paris over the Atlantic, and from London to Rome by that ocean
+abbrev pub with_new_york : Tariff
+with_new_york = edition (
+    city "LON" "GB" Two
+    ∷ city "PAR" "FR" Two
+    ∷ city "ROM" "IT" Two
+    ∷ city "NYC" "US" One
+    ∷ fare "LON" "PAR" EH "YY" Y HR free 10_000
+    ∷ fare "PAR" "NYC" AT "YY" Y HR free 20_000
+    ∷ fare "PAR" "ROM" EH "YY" Y HR free 3_000
+    ∷ fare "LON" "ROM" EH "YY" Y HR free 15_000
+    ∷ fare "LON" "ROM" AT "YY" Y HR free 50_000
+    ∷ [])
+
+-- records 8 to 11: half round trips round Paris and Rome, of which that from London to Rome is dearer in April
+abbrev pub dear_in_april : Tariff
+dear_in_april = edition (three_cities ++
+    fare "LON" "PAR" EH "YY" Y HR free 10_000
+    ∷ fare "PAR" "ROM" EH "YY" Y HR free 1_000
+    ∷ seasonal "LON" "ROM" EH "YY" Y HR free "04-01" "04-30" 20_000
+    ∷ seasonal "LON" "ROM" EH "YY" Y HR free "05-01" "03-31" 12_000
+    ∷ [])
+
+-- record 8 is a carrier's fare to Rome, beside which its fare to Paris is one of the summer, and that of every carrier is not
+abbrev pub carrier_in_summer : Tariff
+carrier_in_summer = edition (three_cities ++
+    fare "LON" "ROM" EH "Q1" Y OW free 30_000
+    ∷ seasonal "LON" "PAR" EH "Q1" Y OW free "05-01" "10-31" 50_000
+    ∷ fare "LON" "PAR" EH "YY" Y OW free 35_000
+    ∷ [])

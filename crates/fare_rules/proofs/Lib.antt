@@ -7,6 +7,7 @@ pub mod WorkedMiles
 pub mod WorkedPrices
 pub mod BrokenRules
 pub mod SampledPrices
+pub mod FinerPrices
 pub mod NumberLemmas
 pub mod OrderLemmas
 pub mod LawfulLemmas

@@ -26,7 +26,8 @@ abbrev pub amount_on : Tariff → FareKey → Day → Option Nuc
 amount_on tariff key on =
     option_map (λ r. r.amount) (option_and_then (fare_at tariff) (fare_number tariff key (month_day_of on)))
 
--- the reference of a pair of cities and an indicator for a fare on a day: the amount by the fare's carrier, else by `YY`
+-- the reference of a pair of cities and an indicator for a fare on a day: the amount of the fare by its carrier that is in
+-- season on the day; where none is, even if that carrier files one of another season, of the one by `YY` that is
 unfoldable pub reference : Tariff → City → City → Indicator → FareRecord → Day → Option Nuc
 reference tariff from to ind fare on =
     option_or (amount_on tariff (key_by from to ind fare fare.carrier) on)
