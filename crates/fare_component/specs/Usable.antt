@@ -9,8 +9,8 @@ use Rattle.fare_rules.specs.Span.{holds_surface}
 use Rattle.fare_rules.specs.Terms.{stops_hold, transfers_hold, advance_holds}
 use Rattle.fare_rules.specs.ComponentAmount.{repeats_city, runs_between, may_be_priced, has_indicator, covers_cabins, covers_carriers, in_season}
 
--- a fare is for a span: the span can be a component, and the fare runs between its ends, has its indicator and covers its
--- cabins, its carriers and its day
+-- a fare is for a span: the span can be a component, and the fare runs between its ends, has its indicator and covers
+-- its cabins, its carriers and its day
 unfoldable pub is_for_span : Tariff → Itinerary → ℕ → ℕ → Bool → FareRecord → Bool
 is_for_span tariff trip a b back fare =
     not (holds_surface trip a b) && not (repeats_city trip a b)

@@ -91,8 +91,8 @@ fn fare_amount(
     }
 }
 
-/// What the fare of a record number costs from point `a` to point `b` of a trip, priced back or not: its base, surcharge
-/// and amount; nothing exactly where the fare may not be used there or the record files no fare.
+/// What the fare of a record number costs from point `a` to point `b` of a trip, priced back or not: its base,
+/// surcharge and amount; nothing exactly where the fare may not be used there or the record files no fare.
 #[tactic(auto, unfolding(fare_rules::specs::ComponentAmount::component_amount))]
 pub fn applicable(
     edition: &Edition,

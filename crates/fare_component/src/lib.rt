@@ -12,6 +12,3 @@ mod usable;
 
 pub use amounts::applicable;
 pub use fare_rules::Amount;
-
-#[cfg(test)]
-mod tests;

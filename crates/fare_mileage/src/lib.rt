@@ -13,6 +13,3 @@ mod steps;
 
 pub use fare_rules::{Mileage, Miles};
 pub use spans::mileage;
-
-#[cfg(test)]
-mod tests;

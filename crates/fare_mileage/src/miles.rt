@@ -1,4 +1,4 @@
-//! The ticketed miles of a span, and the allowance that is taken from them.
+//! The ticketed miles of a span, and the extra mileage allowance that is taken from them.
 
 ghost use Rattle.std.specs.Prelude.{◌≡◌, ◌<◌, ◌≤◌, IfSome};
 ghost use Rattle.fare_trip.specs.Itinerary.{count};

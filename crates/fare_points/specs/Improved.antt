@@ -10,7 +10,8 @@ abbrev pub amount_to_exceed : Nuc → Option Compared → Nuc
 amount_to_exceed amount None = amount
 amount_to_exceed amount (Some found) = found.2
 
--- the best pair once more pairs are compared: the highest of them where it exceeds the best so far, else the best so far
+-- the best pair once more pairs are compared: the highest of them where it exceeds the best so far, else the best so
+-- far
 unfoldable pub improved : Nuc → Option Compared → List Compared → Option Compared
 improved amount best pairs = option_or (highest (amount_to_exceed amount best) pairs) best
 

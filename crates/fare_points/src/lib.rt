@@ -21,6 +21,3 @@ pub use highers::higher;
 pub use indicators::{indicator, indicator_of};
 pub use places::placed;
 pub use references::{every_carrier, reference};
-
-#[cfg(test)]
-mod tests;

@@ -35,7 +35,8 @@ fn key_by(from: City, to: City, ind: Indicator, fare: &FareRec, carrier: Carrier
 
 /// The fare of a key on a day.
 fn fare_on<'a>(edition: &'a Edition, key: &FareKey, on: Day) -> Option<&'a FareRec>
-    ensures { option_copied result ≡ option_and_then (fare_at edition.now) (fare_number edition.now key.now (month_day_of on)) }
+    ensures { option_copied result ≡ option_and_then (fare_at edition.now)
+        (fare_number edition.now key.now (month_day_of on)) }
 {
     match edition.fare(key, on.month_day()) {
         None => None,

@@ -1,5 +1,4 @@
 -- Example editions: each is a list of records, of which the first has the record number 2.
-use Prim.Native.String.{String}
 use Rattle.std.specs.Prelude.{ℕ, List, [], ◌∷◌, ◌++◌, true, false}
 use Rattle.fare_codes.specs.declared.area.Area.TheVariants.{One, Two, Three}
 use Rattle.fare_codes.specs.declared.cabin.Cabin.TheVariants.{Y}
@@ -9,7 +8,7 @@ use Rattle.fare_codes.specs.declared.mode.Mode.TheVariants.{Up, Nearest}
 use Rattle.fare_tariff.specs.declared.names.Names.TheVariants.{All, Of}
 use Rattle.fare_tariff.specs.declared.record.Record.{Record}
 use Rattle.fare_tariff.specs.Tariff.{Tariff}
-use Rattle.fare_rules.proofs.Filed.{city, currency, rule, fare, seasonal, permitted, ticketed, allowed, edition, free, under}
+use Rattle.fare_rules.proofs.Filed.{city, currency, rule, fare, seasonal, permitted, ticketed, edition, free, under}
 
 -- records 2 to 7: London, Paris and Rome, and the currencies of their countries
 abbrev pub three_cities : List Record
@@ -31,14 +30,14 @@ through_fare amount miles = edition (three_cities ++
     ∷ permitted "LON" "ROM" EH 1_000
     ∷ [])
 
--- the same with an allowance by way of a city
-abbrev pub with_allowance : String → ℕ → Tariff
-with_allowance via miles = edition (three_cities ++
+-- the same with an extra mileage allowance
+abbrev pub with_allowance : Record → Tariff
+with_allowance allowance = edition (three_cities ++
     fare "LON" "ROM" EH "YY" Y OW free 40_000
     ∷ ticketed "LON" "PAR" 300
     ∷ ticketed "PAR" "ROM" 751
     ∷ permitted "LON" "ROM" EH 1_000
-    ∷ allowed "LON" "ROM" EH via miles
+    ∷ allowance
     ∷ city "FRA" "DE" Two
     ∷ [])
 

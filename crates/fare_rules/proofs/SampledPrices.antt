@@ -27,7 +27,7 @@ use Rattle.fare_codes.specs.Amounts.{surcharged}
 use Rattle.fare_codes.specs.Day.{day_number, days_since_1970}
 use Rattle.fare_codes.specs.Season.{season_holds}
 use Rattle.jiff_core.specs.Calendar.{days_of_months}
-use Rattle.fare_rules.proofs.Filed.{city, currency, fare, permitted, ticketed, allowed, edition, free, trip, stop, change, part}
+use Rattle.fare_rules.proofs.Filed.{city, currency, fare, permitted, ticketed, allowance, edition, free, trip, stop, change, part}
 use Rattle.fare_rules.proofs.Cases.{Case, case, found, expected, sheets, sheet, priced, broken}
 
 -- fares of half round trips and one way between Manchester, Paris and Milan, of one carrier and of every carrier
@@ -49,7 +49,7 @@ between_three_cities = edition (
     ∷ fare "MIL" "PAR" EH "Q2" Y OW free 10_000
     ∷ fare "PAR" "MIL" EH "Q2" Y HR free 20_000
     ∷ fare "MAN" "MIL" EH "YY" Y HR free 15_000
-    ∷ allowed "MAN" "MIL" EH "MAN" 901
+    ∷ allowance "MAN" "MIL" EH "MAN" 901
     ∷ fare "MIL" "MAN" EH "Q2" Y HR free 15_000
     ∷ fare "MIL" "MAN" EH "Q2" Y OW free 11_076
     ∷ fare "PAR" "MIL" EH "YY" Y OW free 28_446

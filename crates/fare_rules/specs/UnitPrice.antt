@@ -68,8 +68,8 @@ number_backhaul tariff trip a b number = option_and_then (backhaul tariff trip a
 abbrev pub raised_one_way : Tariff → Itinerary → ℕ → ℕ → ℕ → Amount → ℕ
 raised_one_way tariff trip a b number found = at_least found.amount (number_backhaul tariff trip a b number)
 
--- the price of the fare of a record number one way over a span: its component amount or its backhaul minimum, whichever is
--- greater; none where it may not be used there
+-- the price of the fare of a record number one way over a span: its component amount or its backhaul minimum, whichever
+-- is greater; none where it may not be used there
 unfoldable pub one_way_price : Tariff → Itinerary → ℕ → ℕ → ℕ → Option ℕ
 one_way_price tariff trip a b number =
     option_map (raised_one_way tariff trip a b number) (component_amount tariff trip a b number false)

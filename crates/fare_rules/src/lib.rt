@@ -23,7 +23,7 @@ pub use laws::{
     one_way_unit_costs_its_fare, order_is_total, parts_have_amounts, price_is_bounded,
     whole_year_holds_each_day,
 };
-pub use limits::{FARE_LIMIT, MOST_AMOUNT, MOST_MILES, MOST_SECTORS, MOST_SURCHARGE};
+pub use limits::{FARE_LIMIT, MOST_AMOUNT, MOST_MILES, MOST_SECTORS, MOST_SURCHARGE, PRICE_LIMIT};
 pub use miles::{Mileage, Miles};
 pub use part::Part;
 pub use unit_sheet::{UnitKind, UnitSheet};

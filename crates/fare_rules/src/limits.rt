@@ -12,5 +12,8 @@ pub const MOST_SURCHARGE: u32 = 25;
 /// The greatest ticketed point mileage of a pair of cities.
 pub const MOST_MILES: u32 = 99_999;
 
+/// Every lawful price is below this many hundredths of a NUC.
+pub const PRICE_LIMIT: u64 = 40_000_000_000;
+
 /// The most sectors of a trip.
 pub const MOST_SECTORS: usize = 16;
