@@ -94,5 +94,10 @@ broken_constructions =
 
 -- each breaks that rule first, there
 pub broken_rules : map found broken_constructions ≡ map expected broken_constructions
-unfolding greatest_reference backhaul compared_pairs base own_sectors circle_reference unit_circle_minimum repeats_city runs_between has_indicator covers_cabins covers_carriers in_season span_surcharge is_applicable fare_amount component_amount uncovered misnumbered unfiled own is_back_in indicator_of breaks first_broken lawful_price surcharge sum_of_miles compared_miles mileage reference crossed is_hr mixed closes is_open_jaw unchained unclosed stops_hold transfers_hold advance_holds part_amount unit_sum is_round_trip unit_kind unit_minimum unit_sheet price stay mistimed misfitted clashed day_number season_holds days_of_months days_since_1970 surcharged
+unfolding greatest_reference backhaul compared_pairs base own_sectors circle_reference unit_circle_minimum repeats_city
+    runs_between has_indicator covers_cabins covers_carriers in_season span_surcharge is_applicable fare_amount
+    component_amount uncovered misnumbered unfiled own is_back_in indicator_of breaks first_broken lawful_price
+    surcharge sum_of_miles compared_miles mileage reference crossed is_hr mixed closes is_open_jaw unchained unclosed
+    stops_hold transfers_hold advance_holds part_amount unit_sum is_round_trip unit_kind unit_minimum unit_sheet price
+    stay mistimed misfitted clashed day_number season_holds days_of_months days_since_1970 surcharged
 broken_rules = refl

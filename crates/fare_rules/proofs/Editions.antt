@@ -192,7 +192,8 @@ home_by_manchester = edition (
     ∷ fare "PAR" "MAN" EH "YY" Y HR free 7_000
     ∷ [])
 
--- records 6 to 10: half round trips round Paris and Rome, from Paris over the Atlantic, and from London to Rome by that ocean
+-- records 6 to 10: half round trips round Paris and Rome, from Paris over the Atlantic, and from London to Rome by that
+-- ocean
 abbrev pub with_new_york : Tariff
 with_new_york = edition (
     city "LON" "GB" Two
@@ -215,7 +216,8 @@ dear_in_april = edition (three_cities ++
     ∷ seasonal "LON" "ROM" EH "YY" Y HR free "05-01" "03-31" 12_000
     ∷ [])
 
--- record 8 is a carrier's fare to Rome, beside which its fare to Paris is one of the summer, and that of every carrier is not
+-- record 8 is a carrier's fare to Rome, beside which its fare to Paris is one of the summer, and that of every carrier
+-- is not
 abbrev pub carrier_in_summer : Tariff
 carrier_in_summer = edition (three_cities ++
     fare "LON" "ROM" EH "Q1" Y OW free 30_000

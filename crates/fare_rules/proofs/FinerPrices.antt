@@ -1,4 +1,5 @@
--- Directions, minimums and references of constructions that turn on a finer point of the rules, computed on the definitions.
+-- Directions, minimums and references of constructions that turn on a finer point of the rules, computed on the
+-- definitions.
 use Prim.Native.String.{String}
 use Rattle.std.specs.Prelude.{◌≡◌, refl, ℕ, List, [], ◌∷◌, Option, Some, None, true, false, codes, map, take, option_and_then}
 use Rattle.fare_codes.specs.declared.indicator.Indicator.TheVariants.{EH}
@@ -120,8 +121,8 @@ pub references_by_season :
 unfolding reference season_holds
 references_by_season = refl
 
--- one way a fare costs its backhaul minimum where Paris is a stopover, its amount where it is not, and nothing where it may
--- not be used
+-- one way a fare costs its backhaul minimum where Paris is a stopover, its amount where it is not, and nothing where it
+-- may not be used
 pub one_way_prices :
     (one_way_price (beside_paris 45_000 20_000) stopping_in_paris 0 2 8
     ∷ one_way_price (beside_paris 45_000 20_000) changing_in_paris 0 2 8

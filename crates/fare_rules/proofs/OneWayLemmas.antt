@@ -44,7 +44,10 @@ unit_below parts k (x ∷ xs) (inr h) = omega (arith, unit_below parts k xs h)
 
 module _ (tariff : Tariff) (trip : Itinerary) (parts : List Part) (k : ℕ) (way : is_ow tariff parts k ≡ true) where
   -- the sheet of a part alone, whose fare is one way
-  sheet_of_one_way : (found : Amount) → component_amount tariff trip (start_of trip parts k) (end_of parts k) (part_at parts k).fare (is_back_in tariff trip parts (k ∷ []) k) ≡ Some found → one_way_price tariff trip (start_of trip parts k) (end_of parts k) (part_at parts k).fare ≡ Some (unit_sheet tariff trip parts (k ∷ [])).price
+  sheet_of_one_way : (found : Amount) → component_amount tariff trip (start_of trip parts k) (end_of parts k)
+      (part_at parts k).fare (is_back_in tariff trip parts (k ∷ []) k) ≡ Some found
+      → one_way_price tariff trip (start_of trip parts k) (end_of parts k) (part_at parts k).fare
+      ≡ Some (unit_sheet tariff trip parts (k ∷ [])).price
   unfolding one_way_price unit_sheet unit_kind unit_minimum unit_sum part_amount is_back_in is_hr
   sheet_of_one_way found e =
       let out : component_amount tariff trip (start_of trip parts k) (end_of parts k) (part_at parts k).fare false ≡ Some found = rw way at e in
@@ -75,7 +78,10 @@ module _ (tariff : Tariff) (trip : Itinerary) (parts : List Part) (k : ℕ) (way
         lone_member k (own parts (unit_of parts k)) one_of_own few
 
 -- the unit of a one way fare costs the price of that fare
-pub one_way_unit : (tariff : Tariff) (trip : Itinerary) (parts : List Part) (price k : ℕ) → IsLawful tariff trip parts price → 1 ≤ k → k ≤ length parts → is_ow tariff parts k ≡ true → one_way_price tariff trip (start_of trip parts k) (end_of parts k) (part_at parts k).fare ≡ Some (unit_price tariff trip parts (unit_of parts k))
+pub one_way_unit : (tariff : Tariff) (trip : Itinerary) (parts : List Part) (price k : ℕ)
+    → IsLawful tariff trip parts price → 1 ≤ k → k ≤ length parts → is_ow tariff parts k ≡ true
+    → one_way_price tariff trip (start_of trip parts k) (end_of parts k) (part_at parts k).fare
+    ≡ Some (unit_price tariff trip parts (unit_of parts k))
 unfolding one_way_price unit_sheet
 one_way_unit tariff trip parts price k lawful low high way =
     let found = amount_of_lawful tariff trip parts price k lawful low high in

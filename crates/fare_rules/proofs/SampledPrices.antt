@@ -93,7 +93,12 @@ sampled_constructions =
     ∷ []
 
 pub sampled_prices : map found sampled_constructions ≡ map expected sampled_constructions
-unfolding greatest_reference backhaul compared_pairs base own_sectors circle_reference unit_circle_minimum repeats_city runs_between has_indicator covers_cabins covers_carriers in_season span_surcharge is_applicable fare_amount component_amount uncovered misnumbered unfiled own is_back_in indicator_of breaks first_broken lawful_price surcharge sum_of_miles compared_miles mileage single_fare reference crossed is_hr mixed closes is_open_jaw unchained unclosed stops_hold transfers_hold advance_holds part_amount unit_sum is_round_trip unit_kind unit_minimum unit_sheet price stay mistimed misfitted clashed day_number season_holds days_of_months days_since_1970 surcharged
+unfolding greatest_reference backhaul compared_pairs base own_sectors circle_reference unit_circle_minimum repeats_city
+    runs_between has_indicator covers_cabins covers_carriers in_season span_surcharge is_applicable fare_amount
+    component_amount uncovered misnumbered unfiled own is_back_in indicator_of breaks first_broken lawful_price
+    surcharge sum_of_miles compared_miles mileage single_fare reference crossed is_hr mixed closes is_open_jaw unchained
+    unclosed stops_hold transfers_hold advance_holds part_amount unit_sum is_round_trip unit_kind unit_minimum
+    unit_sheet price stay mistimed misfitted clashed day_number season_holds days_of_months days_since_1970 surcharged
 sampled_prices = refl
 
 -- the units of the lawful ones
@@ -106,5 +111,10 @@ pub sampled_sheets :
     ∷ (sheet unit.CT 55_821 (Some 36_882) 55_821 ∷ [])
     ∷ (sheet unit.OW 20_000 None 20_000 ∷ sheet unit.RT 44_760 None 44_760 ∷ sheet unit.OW 27_102 None 27_102 ∷ [])
     ∷ [])
-unfolding greatest_reference backhaul compared_pairs base own_sectors circle_reference unit_circle_minimum repeats_city runs_between has_indicator covers_cabins covers_carriers in_season span_surcharge is_applicable fare_amount component_amount uncovered misnumbered unfiled own is_back_in indicator_of breaks first_broken lawful_price surcharge sum_of_miles compared_miles mileage single_fare reference crossed is_hr mixed closes is_open_jaw unchained unclosed stops_hold transfers_hold advance_holds part_amount unit_sum is_round_trip unit_kind unit_minimum unit_sheet price stay mistimed misfitted clashed day_number season_holds days_of_months days_since_1970 surcharged
+unfolding greatest_reference backhaul compared_pairs base own_sectors circle_reference unit_circle_minimum repeats_city
+    runs_between has_indicator covers_cabins covers_carriers in_season span_surcharge is_applicable fare_amount
+    component_amount uncovered misnumbered unfiled own is_back_in indicator_of breaks first_broken lawful_price
+    surcharge sum_of_miles compared_miles mileage single_fare reference crossed is_hr mixed closes is_open_jaw unchained
+    unclosed stops_hold transfers_hold advance_holds part_amount unit_sum is_round_trip unit_kind unit_minimum
+    unit_sheet price stay mistimed misfitted clashed day_number season_holds days_of_months days_since_1970 surcharged
 sampled_sheets = refl

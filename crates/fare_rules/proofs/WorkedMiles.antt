@@ -123,7 +123,10 @@ pub through_amounts :
     ∷ amount 40_000 10 44_000
     ∷ None
     ∷ [])
-unfolding component_amount fare_amount is_applicable repeats_city runs_between has_indicator indicator_of covers_cabins covers_carriers in_season season_holds stops_hold transfers_hold advance_holds day_number days_of_months days_since_1970 surcharged span_surcharge mileage compared_miles surcharge sum_of_miles base compared_pairs reference
+unfolding component_amount fare_amount is_applicable repeats_city runs_between has_indicator indicator_of covers_cabins
+    covers_carriers in_season season_holds stops_hold transfers_hold advance_holds day_number days_of_months
+    days_since_1970 surcharged span_surcharge mileage compared_miles surcharge sum_of_miles base compared_pairs
+    reference
 through_amounts = refl
 
 -- the first parts that a construction can have
@@ -134,7 +137,10 @@ first_parts tariff = first_part_choices tariff stopping_in_paris
 pub first_parts_to_rome :
     map first_parts (through_fare 40_000 700 ∷ through_fare 40_000 951 ∷ without_miles ∷ [])
     ≡ (((2, 8) ∷ []) ∷ [] ∷ [] ∷ [])
-unfolding first_part_choices component_amount fare_amount is_applicable repeats_city runs_between has_indicator indicator_of covers_cabins covers_carriers in_season season_holds stops_hold transfers_hold advance_holds day_number days_of_months days_since_1970 surcharged span_surcharge mileage compared_miles surcharge sum_of_miles base compared_pairs reference
+unfolding first_part_choices component_amount fare_amount is_applicable repeats_city runs_between has_indicator
+    indicator_of covers_cabins covers_carriers in_season season_holds stops_hold transfers_hold advance_holds day_number
+    days_of_months days_since_1970 surcharged span_surcharge mileage compared_miles surcharge sum_of_miles base
+    compared_pairs reference
 first_parts_to_rome = refl
 
 -- the first city of a trip that an edition does not know

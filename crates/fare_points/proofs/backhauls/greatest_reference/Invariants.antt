@@ -8,6 +8,8 @@ use Rattle.fare_points.proofs.backhauls.greatest_reference.Given as goal
 
 abbrev pub invariant-loop-j : goal.invariant-loop-j
 invariant-loop-j l = record {
-  whole : greater l.greatest (greatest_of (reference_to l.edition l.trip l.a l.fare) (filter (is_stopover l.trip) (numbers l.j l.b))) ≡ greatest_of (reference_to l.edition l.trip l.a l.fare) (filter (is_stopover l.trip) (numbers (l.a + 1) l.b));
+  whole : greater l.greatest (greatest_of (reference_to l.edition l.trip l.a l.fare)
+      (filter (is_stopover l.trip) (numbers l.j l.b)))
+      ≡ greatest_of (reference_to l.edition l.trip l.a l.fare) (filter (is_stopover l.trip) (numbers (l.a + 1) l.b));
   bound : IfSome l.greatest (λ amount. amount < FARE_LIMIT);
 }
