@@ -11,12 +11,12 @@ use Rattle.fare_rules.specs.Construction.{start_of, end_of, fare_of}
 use Rattle.fare_rules.specs.Lawful.{fails}
 use Rattle.fare_rules.specs.Shape.{is_mixed, is_unchained, is_unclosed}
 use Rattle.fare_rules.specs.UnitRules.{is_mistimed, is_misfitted}
-use Rattle.fare_units.specs.declared.part_rules.FareRule.{FareRule}
-use Rattle.fare_units.specs.declared.part_rules.FareRule.TheVariants.{Indicator, Cabin, Carrier, Stops, Transfers, Advance, Excess}
-use Rattle.fare_units.specs.declared.part_rules.PartRule.{PartRule}
-use Rattle.fare_units.specs.declared.part_rules.PartRule.TheVariants.{Distinct, Fare, Mileage, Surface, Season}
-use Rattle.fare_units.specs.declared.unit_rules.UnitRule.{UnitRule}
-use Rattle.fare_units.specs.declared.unit_rules.UnitRule.TheVariants.{Alone, Chain, Close, Stay, Combine}
+use Rattle.fare_units.specs.declared.rules.part_rules.FareRule.{FareRule}
+use Rattle.fare_units.specs.declared.rules.part_rules.FareRule.TheVariants.{Indicator, Cabin, Carrier, Stops, Transfers, Advance, Excess}
+use Rattle.fare_units.specs.declared.rules.part_rules.PartRule.{PartRule}
+use Rattle.fare_units.specs.declared.rules.part_rules.PartRule.TheVariants.{Distinct, Fare, Mileage, Surface, Season}
+use Rattle.fare_units.specs.declared.rules.unit_rules.UnitRule.{UnitRule}
+use Rattle.fare_units.specs.declared.rules.unit_rules.UnitRule.TheVariants.{Alone, Chain, Close, Stay, Combine}
 
 -- what a rule asks of the fare of a span
 abbrev pub fare_passes : Tariff → Itinerary → ℕ → ℕ → FareRule → FareRecord → Bool
