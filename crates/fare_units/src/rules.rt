@@ -11,6 +11,7 @@
 pub(crate) mod combine;
 pub(crate) mod cover;
 pub(crate) mod crossing;
+pub(crate) mod first;
 pub(crate) mod lawful;
 pub(crate) mod part_rules;
 pub(crate) mod shape;

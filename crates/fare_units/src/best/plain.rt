@@ -10,7 +10,7 @@ ghost use Rattle.fare_units.specs.Walk.{Walks, Completes, GoesOn, AnyPart, EndsA
 use crate::best::order::earlier;
 use crate::construction::Construction;
 use crate::parts::fares::is_ow;
-use crate::parts::places::{end_of, greatest_below, is_same_unit, start_of};
+use crate::parts::places::{end_of, greatest_unit, is_same_unit, start_of};
 use crate::prices::priced::lawful_price;
 use crate::rules::crossing::is_crossed;
 use fare_component::applicable;
@@ -86,16 +86,10 @@ fn is_fruitless(edition: &Edition, parts: &[Part]) -> bool
 }
 
 /// Whether a part shares its unit with an earlier one, and the fare of one of the two is one way.
-#[tactic(auto, using(fare_rules::proofs::NumberLemmas::any_next, fare_rules::proofs::NumberLemmas::any_done))]
 fn mixes(edition: &Edition, parts: &[Part], k: usize) -> bool
     ensures { result ≡ mixes edition.now parts.now k }
 {
-    for j in 1..k {
-        if is_mixed_with(edition, parts, k, j) {
-            return true;
-        }
-    }
-    false
+    (1..k).any(|j| is_mixed_with(edition, parts, k, j))
 }
 
 /// Whether two parts share a unit, and the fare of one is one way.
@@ -174,7 +168,7 @@ fn walk_units(
     prove!(end <= sectors);
     let mut best = best;
     let parts = front.parts();
-    for unit in 1..greatest_below(parts, parts.len() + 1) + 2 {
+    for unit in 1..greatest_unit(parts) + 2 {
         let part = Part {
             end: end as u8,
             unit: unit as u8,

@@ -2,7 +2,7 @@
 
 ghost use Rattle.std.specs.Prelude.{◌≡◌, ◌+◌, ◌≤◌, ◌<◌, length};
 ghost use Rattle.fare_trip.specs.Itinerary.{count};
-ghost use Rattle.fare_rules.specs.Construction.{part_at, end_of, unit_of, greatest_unit, begin_after, start_of, start_city, end_city};
+ghost use Rattle.fare_rules.specs.Construction.{part_at, end_of, unit_of, places, greatest_unit, begin_after, start_of, start_city, end_city};
 ghost use Rattle.fare_rules.specs.Numbers.{numbers};
 ghost use Rattle.fare_rules.specs.Shape.{is_same_unit};
 ghost use Rattle.fare_units.specs.Advance.{Advances};
@@ -59,6 +59,14 @@ pub(crate) fn greatest_below(parts: &[Part], past: usize) -> usize
         greatest = greatest.max(unit_of(parts, k));
     }
     greatest
+}
+
+/// The greatest unit number of the parts; 0 where there is none.
+pub(crate) fn greatest_unit(parts: &[Part]) -> usize
+    ensures value { result ≡ greatest_unit parts.now (places parts.now) }
+    ensures small { result ≤ 255 }
+{
+    greatest_below(parts, parts.len() + 1)
 }
 
 /// Where what comes after a point begins: there, or one point later where a surface sector stands between.

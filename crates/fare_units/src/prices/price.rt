@@ -12,7 +12,7 @@ ghost use Rattle.fare_units.specs.Places.{IsPlace, ArePlaces};
 use crate::parts::direction::is_back_in;
 use crate::parts::fares::{fare_of, holds_ow};
 use crate::parts::own::{first_of, own};
-use crate::parts::places::{end_of, greatest_below, part_at, start_of};
+use crate::parts::places::{end_of, greatest_unit, part_at, start_of};
 use crate::prices::circle::unit_circle_minimum;
 use crate::rules::shape::{closes, is_open_jaw};
 use fare_codes::Nuc;
@@ -212,7 +212,7 @@ pub(crate) fn price(edition: &Edition, trip: &Trip, parts: &[Part]) -> u64
     ensures { result ≡ price edition.now trip.now parts.now }
 {
     let mut total = 0;
-    for unit in 1..greatest_below(parts, parts.len() + 1) + 1 {
+    for unit in 1..greatest_unit(parts) + 1 {
         total += unit_price(edition, trip, parts, unit);
     }
     total

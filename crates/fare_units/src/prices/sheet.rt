@@ -7,7 +7,7 @@ ghost use Rattle.fare_rules.specs.UnitPrice.{unit_sheet};
 
 use crate::construction::Construction;
 use crate::parts::own::own;
-use crate::parts::places::greatest_below;
+use crate::parts::places::greatest_unit;
 use crate::prices::price::sheet_of;
 use fare_rules::UnitSheet;
 use fare_tariff::Edition;
@@ -32,6 +32,5 @@ pub fn unit_count(c: &Construction) -> usize
     ensures value { result ≡ greatest_unit c.now (places c.now) }
     ensures small { result ≤ 255 }
 {
-    let parts = c.parts();
-    greatest_below(parts, parts.len() + 1)
+    greatest_unit(c.parts())
 }

@@ -6,6 +6,7 @@ ghost use Rattle.fare_rules.specs.UnitRules.{are_unit_mates, are_end_mates, is_m
 
 use crate::parts::fares::fare_of;
 use crate::parts::places::is_same_unit;
+use crate::rules::first::first_that;
 use fare_rules::Part;
 use fare_tariff::Edition;
 
@@ -37,16 +38,10 @@ fn is_misfit(edition: &Edition, parts: &[Part], k: usize, j: usize) -> bool
 }
 
 /// Whether a part has an earlier part of its unit with which it is not combinable.
-#[tactic(auto, using(fare_rules::proofs::NumberLemmas::any_next, fare_rules::proofs::NumberLemmas::any_done))]
 fn has_misfit(edition: &Edition, parts: &[Part], k: usize) -> bool
     ensures { result ≡ has_misfit edition.now parts.now k }
 {
-    for j in 1..k {
-        if is_misfit(edition, parts, k, j) {
-            return true;
-        }
-    }
-    false
+    (1..k).any(|j| is_misfit(edition, parts, k, j))
 }
 
 /// Whether two parts of a unit of some places are not combinable in it.
@@ -64,28 +59,16 @@ fn is_clash(edition: &Edition, parts: &[Part], k: usize, j: usize) -> bool
 }
 
 /// Whether a part has an earlier part of another unit with which it is not combinable end on end.
-#[tactic(auto, using(fare_rules::proofs::NumberLemmas::any_next, fare_rules::proofs::NumberLemmas::any_done))]
 fn clashes(edition: &Edition, parts: &[Part], k: usize) -> bool
     ensures { result ≡ clashes edition.now parts.now k }
 {
-    for j in 1..k {
-        if is_clash(edition, parts, k, j) {
-            return true;
-        }
-    }
-    false
+    (1..k).any(|j| is_clash(edition, parts, k, j))
 }
 
 /// The first part that is not combinable end on end with an earlier part of another unit.
-#[tactic(auto, using(fare_rules::proofs::NumberLemmas::find_next, fare_rules::proofs::NumberLemmas::find_done), unfolding(fare_rules::specs::UnitRules::clashed))]
 pub(crate) fn clashed(edition: &Edition, parts: &[Part]) -> Option<u8>
     requires { length parts.now ≤ 16 }
     ensures { result ≡ clashed edition.now parts.now }
 {
-    for k in 1..parts.len() + 1 {
-        if clashes(edition, parts, k) {
-            return Some(k as u8);
-        }
-    }
-    None
+    first_that(parts.len(), |k| clashes(edition, parts, k))
 }

@@ -1,10 +1,11 @@
 //! The rules of numbers: parts cover the trip, their units are numbered in order, and their fares are filed.
 
-ghost use Rattle.std.specs.Prelude.{◌≡◌, ◌≤◌, length};
-ghost use Rattle.fare_rules.specs.Construction.{is_misended, uncovered, is_misnumbered, misnumbered, is_unfiled, unfiled};
+ghost use Rattle.std.specs.Prelude.{◌≡◌, ◌≤◌, length, find};
+ghost use Rattle.fare_rules.specs.Construction.{places, is_misended, ends_early, uncovered, is_misnumbered, misnumbered, is_unfiled, unfiled};
 
 use crate::parts::fares::fare_of;
 use crate::parts::places::{end_of, greatest_below, start_of, unit_of};
+use crate::rules::first::first_that;
 use fare_rules::Part;
 use fare_tariff::Edition;
 use fare_trip::Trip;
@@ -16,21 +17,32 @@ pub(crate) fn is_misended(trip: &Trip, parts: &[Part], k: usize) -> bool
     end_of(parts, k) <= start_of(trip, parts, k) || trip.count() < end_of(parts, k)
 }
 
-/// Where the parts do not cover the trip.
-#[tactic(auto, using(fare_rules::proofs::NumberLemmas::find_next, fare_rules::proofs::NumberLemmas::find_done), unfolding(fare_rules::specs::Construction::uncovered))]
-pub(crate) fn uncovered(trip: &Trip, parts: &[Part]) -> Option<u8>
-    requires { length parts.now ≤ 16 }
-    ensures { result ≡ uncovered trip.now parts.now }
+/// The first part that does not end between its start and the trip's end.
+fn misended(trip: &Trip, parts: &[Part]) -> Option<u8>
+    requires few { length parts.now ≤ 16 }
+    ensures { result ≡ find (is_misended trip.now parts.now) (places parts.now) }
 {
-    for k in 1..parts.len() + 1 {
-        if is_misended(trip, parts, k) {
-            return Some(k as u8);
-        }
-    }
+    first_that(parts.len(), |k| is_misended(trip, parts, k))
+}
+
+/// The place behind the last part, where the parts do not end where the trip ends.
+fn ends_early(trip: &Trip, parts: &[Part]) -> Option<u8>
+    requires few { length parts.now ≤ 16 }
+    ensures { result ≡ ends_early trip.now parts.now }
+{
     if end_of(parts, parts.len()) == trip.count() {
         return None;
     }
     Some(parts.len() as u8 + 1)
+}
+
+/// Where the parts do not cover the trip.
+#[tactic(auto, unfolding(fare_rules::specs::Construction::uncovered))]
+pub(crate) fn uncovered(trip: &Trip, parts: &[Part]) -> Option<u8>
+    requires few { length parts.now ≤ 16 }
+    ensures { result ≡ uncovered trip.now parts.now }
+{
+    misended(trip, parts).or(ends_early(trip, parts))
 }
 
 /// Whether the unit number of a part is 0, or more than one above the greatest before it.
@@ -42,17 +54,11 @@ pub(crate) fn is_misnumbered(parts: &[Part], k: usize) -> bool
 }
 
 /// The first part whose unit number is out of order.
-#[tactic(auto, using(fare_rules::proofs::NumberLemmas::find_next, fare_rules::proofs::NumberLemmas::find_done), unfolding(fare_rules::specs::Construction::misnumbered))]
 pub(crate) fn misnumbered(parts: &[Part]) -> Option<u8>
     requires { length parts.now ≤ 16 }
     ensures { result ≡ misnumbered parts.now }
 {
-    for k in 1..parts.len() + 1 {
-        if is_misnumbered(parts, k) {
-            return Some(k as u8);
-        }
-    }
-    None
+    first_that(parts.len(), |k| is_misnumbered(parts, k))
 }
 
 /// Whether the number of a part's fare is that of no fare.
@@ -66,15 +72,9 @@ fn is_unfiled(edition: &Edition, parts: &[Part], k: usize) -> bool
 }
 
 /// The first part whose fare is not filed.
-#[tactic(auto, using(fare_rules::proofs::NumberLemmas::find_next, fare_rules::proofs::NumberLemmas::find_done), unfolding(fare_rules::specs::Construction::unfiled))]
 pub(crate) fn unfiled(edition: &Edition, parts: &[Part]) -> Option<u8>
     requires { length parts.now ≤ 16 }
     ensures { result ≡ unfiled edition.now parts.now }
 {
-    for k in 1..parts.len() + 1 {
-        if is_unfiled(edition, parts, k) {
-            return Some(k as u8);
-        }
-    }
-    None
+    first_that(parts.len(), |k| is_unfiled(edition, parts, k))
 }

@@ -14,6 +14,7 @@ ghost use Rattle.fare_units.specs.Tests.{fare_passes, span_breaks, part_breaks};
 use crate::parts::direction::is_back;
 use crate::parts::fares::fare_of;
 use crate::parts::places::{end_of, start_of};
+use crate::rules::first::first_that;
 use fare_component::conditions::{
     advance_holds, covers_cabins, covers_carriers, excess_holds, has_indicator, holds_surface,
     in_season, mileage_holds, repeats_city, runs_between, stops_hold, transfers_hold,
@@ -146,7 +147,6 @@ fn part_breaks(edition: &Edition, trip: &Trip, parts: &[Part], rule: PartRule, k
 }
 
 /// The first part that breaks a rule.
-#[tactic(auto, using(fare_rules::proofs::NumberLemmas::find_next, fare_rules::proofs::NumberLemmas::find_done))]
 pub(crate) fn first_part(
     edition: &Edition,
     trip: &Trip,
@@ -157,12 +157,7 @@ pub(crate) fn first_part(
     requires advances { Advances trip.now parts.now }
     ensures { result ≡ find (part_breaks edition.now trip.now parts.now rule) (places parts.now) }
 {
-    for k in 1..parts.len() + 1 {
-        if part_breaks(edition, trip, parts, rule, k) {
-            return Some(k as u8);
-        }
-    }
-    None
+    first_that(parts.len(), |k| part_breaks(edition, trip, parts, rule, k))
 }
 
 /// Whether a fare, where there is one, does not run between the ends of a span in a direction.
@@ -200,16 +195,10 @@ fn is_mispaired(edition: &Edition, trip: &Trip, parts: &[Part], k: usize) -> boo
 }
 
 /// The first part whose fare does not run between its ends in the part's direction.
-#[tactic(auto, using(fare_rules::proofs::NumberLemmas::find_next, fare_rules::proofs::NumberLemmas::find_done))]
 pub(crate) fn mispaired(edition: &Edition, trip: &Trip, parts: &[Part]) -> Option<u8>
     requires few { length parts.now ≤ 16 }
     requires advances { Advances trip.now parts.now }
     ensures { result ≡ find (is_mispaired edition.now trip.now parts.now) (places parts.now) }
 {
-    for k in 1..parts.len() + 1 {
-        if is_mispaired(edition, trip, parts, k) {
-            return Some(k as u8);
-        }
-    }
-    None
+    first_that(parts.len(), |k| is_mispaired(edition, trip, parts, k))
 }

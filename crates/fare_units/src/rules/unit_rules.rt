@@ -6,10 +6,11 @@ ghost use Rattle.fare_units.specs.Advance.{Advances};
 ghost use Rattle.fare_units.specs.Tests.{unit_breaks};
 
 use crate::parts::own::own;
-use crate::parts::places::greatest_below;
+use crate::parts::places::greatest_unit;
 use crate::rules::combine::is_misfitted_in;
 use crate::rules::shape::{is_mixed_in, is_unchained_in, is_unclosed_in};
 use crate::rules::stays::is_mistimed_in;
+use crate::rules::first::first_that;
 use fare_rules::Part;
 use fare_tariff::Edition;
 use fare_trip::Trip;
@@ -47,7 +48,6 @@ fn unit_breaks(edition: &Edition, trip: &Trip, parts: &[Part], rule: UnitRule, u
 }
 
 /// The first unit that breaks a rule.
-#[tactic(auto, using(fare_rules::proofs::NumberLemmas::find_next, fare_rules::proofs::NumberLemmas::find_done))]
 pub(crate) fn first_unit(
     edition: &Edition,
     trip: &Trip,
@@ -58,10 +58,5 @@ pub(crate) fn first_unit(
     requires advances { Advances trip.now parts.now }
     ensures { result ≡ find (unit_breaks edition.now trip.now parts.now rule) (units parts.now) }
 {
-    for unit in 1..greatest_below(parts, parts.len() + 1) + 1 {
-        if unit_breaks(edition, trip, parts, rule, unit) {
-            return Some(unit as u8);
-        }
-    }
-    None
+    first_that(greatest_unit(parts), |unit| unit_breaks(edition, trip, parts, rule, unit))
 }

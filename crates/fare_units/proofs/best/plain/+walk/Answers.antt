@@ -72,6 +72,6 @@ walk_units-loop-unit-preserved t c = units_more c.args.edition.now c.args.trip.n
 
 pub walk_units-returns : goal.walk_units-returns
 walk_units-returns t c =
-    let P : List Part → Type 0 = λ xs. c.greatest_below-unit-end.result ≡ greatest_unit xs (places xs) in
-    let most : c.greatest_below-unit-end.result ≡ greatest_unit c.args.front.now (places c.args.front.now) = subst P c.parts-parts.ensures.parts c.greatest_below-unit-end.ensures.value in
+    let P : List Part → Type 0 = λ xs. c.greatest_unit-unit-end.result ≡ greatest_unit xs (places xs) in
+    let most : c.greatest_unit-unit-end.result ≡ greatest_unit c.args.front.now (places c.args.front.now) = subst P c.parts-parts.ensures.parts c.greatest_unit-unit-end.ensures.value in
     units_all c.args.edition.now c.args.trip.now c.args.front.now c.args.end c.args.number c.loop-unit.unit c.args.best c.loop-unit.best (omega arith) c.loop-unit.invariant
