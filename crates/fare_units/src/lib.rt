@@ -1,7 +1,7 @@
 //! Constructions and their pricing units: whether a list of parts is lawful and what it costs, which of two constructions
 //! is before the other, and the best one of a trip, found by enumerating all.
 //!
-//! - `construction`: a list of at most 16 parts, in memory of its own;
+//! - `construction`: a list of at most `MOST_PARTS` parts, in memory of its own;
 //! - `parts`: the parts by their places, the places of a unit's parts, their fares and directions;
 //! - `rules`: the rules of a lawful construction, one file a subject, and the first that is broken;
 //! - `prices`: the minimum, sum, kind and price of a unit, and the price of a construction;
@@ -19,12 +19,13 @@ mod rules;
 pub use best::order::earlier;
 pub use best::plain::plain_best;
 pub use best::quoter::{PlainQuoter, Quoter};
-pub use construction::Construction;
+pub use construction::{Construction, MOST_PARTS};
 pub use fare_rules::{Broken, Part, UnitKind, UnitSheet};
 pub use parts::direction::{is_back, priced_back};
 pub use parts::places::{part_at, start_of};
 pub use prices::circle::circle_minimum;
-pub use prices::priced::{lawful_price, price_is_of_unbroken};
+pub use prices::price::MOST_UNIT_PRICE;
+pub use prices::priced::{PRICE_BOUND, first_parts_advance, lawful_price, price_is_of_unbroken};
 pub use prices::sheet::{unit_count, unit_sheet};
 
 #[cfg(test)]

@@ -102,7 +102,7 @@ fn is_mixed_with(edition: &Edition, parts: &[Part], k: usize, j: usize) -> bool
 /// Walks over all constructions that have these parts as their first ones.
 #[cycle(walk)]
 fn walk(edition: &Edition, trip: &Trip, front: &Construction, best: Found) -> Found
-    requires { IsFront trip.now front.now }
+    requires front { IsFront trip.now front.now }
     ensures { Walks edition.now trip.now (Completes front.now) best result }
 {
     let parts = front.parts();
@@ -115,7 +115,7 @@ fn walk(edition: &Edition, trip: &Trip, front: &Construction, best: Found) -> Fo
 /// Walks over those that go on with any part.
 #[cycle(walk)]
 fn walk_ends(edition: &Edition, trip: &Trip, front: &Construction, best: Found) -> Found
-    requires { IsFront trip.now front.now }
+    requires front { IsFront trip.now front.now }
     ensures { Walks edition.now trip.now (GoesOn front.now AnyPart) best result }
 {
     let mut best = best;

@@ -3,8 +3,9 @@
 ghost use Rattle.std.specs.Prelude.{◌≡◌, ◌≤◌, ◌&&◌, not, length};
 ghost use Rattle.fare_rules.specs.Direction.{heads_home, goes_back, priced_back, is_back_in, is_back};
 ghost use Rattle.fare_rules.specs.Shape.{lie_together};
-ghost use Rattle.fare_units.specs.Advance.{Advances};
+ghost use Rattle.fare_units.specs.Advance.{Advances, EndsWithin};
 
+use crate::construction::MOST_PARTS;
 use crate::parts::countries::lie_together;
 use crate::parts::fares::is_hr;
 use crate::parts::own::{last_of, origin, own};
@@ -23,7 +24,7 @@ fn comes_to_country(edition: &Edition, from: City, to: City, home: City) -> bool
 
 /// Whether a part ends in the country of its unit's origin and begins in another.
 fn heads_home(edition: &Edition, trip: &Trip, parts: &[Part], own: &[usize], k: usize) -> bool
-    requires { Advances trip.now parts.now }
+    requires ends { EndsWithin trip.now parts.now }
     ensures { result ≡ heads_home edition.now trip.now parts.now own.now k }
 {
     let from = start_city(trip, parts, k);
@@ -33,7 +34,7 @@ fn heads_home(edition: &Edition, trip: &Trip, parts: &[Part], own: &[usize], k: 
 
 /// Whether a part of a unit of half round trips is priced back: it is the unit's last, or heads home.
 fn goes_back(edition: &Edition, trip: &Trip, parts: &[Part], own: &[usize], k: usize) -> bool
-    requires { Advances trip.now parts.now }
+    requires ends { EndsWithin trip.now parts.now }
     ensures { result ≡ goes_back edition.now trip.now parts.now own.now k }
 {
     k == last_of(own) || heads_home(edition, trip, parts, own, k)
@@ -48,7 +49,7 @@ fn is_back_if(
     hr: bool,
     k: usize,
 ) -> bool
-    requires { Advances trip.now parts.now }
+    requires ends { EndsWithin trip.now parts.now }
     ensures { result ≡ (hr && goes_back edition.now trip.now parts.now own.now k) }
 {
     hr && goes_back(edition, trip, parts, own, k)
@@ -63,7 +64,7 @@ pub(crate) fn is_back_in(
     own: &[usize],
     k: usize,
 ) -> bool
-    requires { Advances trip.now parts.now }
+    requires ends { EndsWithin trip.now parts.now }
     ensures { result ≡ is_back_in edition.now trip.now parts.now own.now k }
 {
     is_back_if(edition, trip, parts, own, is_hr(edition, parts, own), k)
@@ -71,7 +72,7 @@ pub(crate) fn is_back_in(
 
 /// Whether a part is priced back in its unit.
 pub fn is_back(edition: &Edition, trip: &Trip, parts: &[Part], k: usize) -> bool
-    requires few { length parts.now ≤ 16 }
+    requires few { length parts.now ≤ MOST_PARTS }
     requires advances { Advances trip.now parts.now }
     ensures { result ≡ is_back edition.now trip.now parts.now k }
 {
@@ -83,7 +84,7 @@ pub fn is_back(edition: &Edition, trip: &Trip, parts: &[Part], k: usize) -> bool
 /// trips. Only ends and units are looked at.
 #[tactic(auto, unfolding(fare_rules::specs::Direction::priced_back))]
 pub fn priced_back(edition: &Edition, trip: &Trip, parts: &[Part], hr: bool, place: usize) -> bool
-    requires few { length parts.now ≤ 16 }
+    requires few { length parts.now ≤ MOST_PARTS }
     requires advances { Advances trip.now parts.now }
     ensures { result ≡ priced_back edition.now trip.now parts.now hr place }
 {

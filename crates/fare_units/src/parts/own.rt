@@ -2,9 +2,10 @@
 
 ghost use Rattle.std.specs.Prelude.{◌≡◌, ◌≤◌, length};
 ghost use Rattle.fare_rules.specs.Construction.{own, first_of, last_of, origin};
-ghost use Rattle.fare_units.specs.Advance.{Advances};
+ghost use Rattle.fare_units.specs.Advance.{EndsWithin};
 ghost use Rattle.fare_units.specs.Places.{ArePlaces};
 
+use crate::construction::MOST_PARTS;
 use crate::parts::places::{start_city, unit_of};
 use arrayvec::ArrayVec;
 use fare_codes::City;
@@ -12,12 +13,12 @@ use fare_rules::Part;
 use fare_trip::Trip;
 
 /// Places of parts.
-pub(crate) type Places = ArrayVec<usize, 16>;
+pub(crate) type Places = ArrayVec<usize, MOST_PARTS>;
 
 /// The places of the parts of a unit.
 #[tactic(auto, using(crate::proofs::OwnLemmas::own_more, crate::proofs::OwnLemmas::own_over, crate::proofs::OwnLemmas::own_all, crate::proofs::OwnLemmas::own_are_places), unfolding(fare_rules::specs::Construction::own))]
 pub(crate) fn own(parts: &[Part], unit: usize) -> Places
-    requires { length parts.now ≤ 16 }
+    requires few { length parts.now ≤ MOST_PARTS }
     ensures own { result.items ≡ own parts.now unit }
     ensures places { ArePlaces parts.now result.items }
 {
@@ -54,7 +55,7 @@ pub(crate) fn last_of(own: &[usize]) -> usize
 
 /// The origin of a unit: the city where its first part begins.
 pub(crate) fn origin(trip: &Trip, parts: &[Part], own: &[usize]) -> City
-    requires { Advances trip.now parts.now }
+    requires ends { EndsWithin trip.now parts.now }
     ensures { result ≡ origin trip.now parts.now own.now }
 {
     start_city(trip, parts, first_of(own))

@@ -5,7 +5,7 @@ ghost use Rattle.fare_trip.specs.Itinerary.{count};
 ghost use Rattle.fare_rules.specs.Construction.{part_at, end_of, unit_of, places, greatest_unit, begin_after, start_of, start_city, end_city};
 ghost use Rattle.fare_rules.specs.Numbers.{numbers};
 ghost use Rattle.fare_rules.specs.Shape.{is_same_unit};
-ghost use Rattle.fare_units.specs.Advance.{Advances};
+ghost use Rattle.fare_units.specs.Advance.{EndsWithin};
 
 use fare_codes::City;
 use fare_rules::Part;
@@ -71,7 +71,7 @@ pub(crate) fn greatest_unit(parts: &[Part]) -> usize
 
 /// Where what comes after a point begins: there, or one point later where a surface sector stands between.
 pub(crate) fn begin_after(trip: &Trip, e: usize) -> usize
-    requires { e ≤ 255 }
+    requires small { e ≤ 255 }
     ensures value { result ≡ begin_after trip.now e }
     ensures low { e ≤ result }
     ensures high { result ≤ e + 1 }
@@ -96,7 +96,7 @@ pub fn start_of(trip: &Trip, parts: &[Part], k: usize) -> usize
 
 /// The city where a part starts.
 pub(crate) fn start_city(trip: &Trip, parts: &[Part], k: usize) -> City
-    requires { Advances trip.now parts.now }
+    requires ends { EndsWithin trip.now parts.now }
     ensures { result ≡ start_city trip.now parts.now k }
 {
     trip.point(start_of(trip, parts, k))
@@ -104,7 +104,7 @@ pub(crate) fn start_city(trip: &Trip, parts: &[Part], k: usize) -> City
 
 /// The city where a part ends.
 pub(crate) fn end_city(trip: &Trip, parts: &[Part], k: usize) -> City
-    requires { Advances trip.now parts.now }
+    requires ends { EndsWithin trip.now parts.now }
     ensures { result ≡ end_city trip.now parts.now k }
 {
     trip.point(end_of(parts, k))

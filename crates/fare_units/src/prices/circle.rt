@@ -11,6 +11,7 @@ ghost use Rattle.fare_units.specs.Advance.{Advances};
 ghost use Rattle.fare_units.specs.Places.{IsPlace, ArePlaces};
 ghost use Rattle.fare_units.specs.Turning.{is_left_out, greatest_without};
 
+use crate::construction::MOST_PARTS;
 use crate::parts::fares::fare_of;
 use crate::parts::own::{last_of, origin, own};
 use crate::parts::places::{end_of, start_of};
@@ -63,8 +64,8 @@ fn is_own_sector(trip: &Trip, parts: &[Part], own: &[usize], number: usize) -> b
 
 /// A unit's own sectors up to a point.
 #[tactic(auto, using(crate::proofs::Ranges::filter_more, crate::proofs::Ranges::filter_over, crate::proofs::Ranges::filter_all), unfolding(fare_rules::specs::Circle::own_sectors))]
-fn own_sectors(trip: &Trip, parts: &[Part], own: &[usize], i: usize) -> ArrayVec<usize, 16>
-    requires { i ≤ 16 }
+fn own_sectors(trip: &Trip, parts: &[Part], own: &[usize], i: usize) -> ArrayVec<usize, MOST_PARTS>
+    requires few_sectors { i ≤ MOST_PARTS }
     ensures { result.items ≡ own_sectors trip.now parts.now own.now i }
 {
     let mut sectors = ArrayVec::new();
@@ -259,7 +260,7 @@ fn minimum_in_all(edition: &Edition, trip: &Trip, parts: &[Part], own: &[usize])
 /// The circle minimum over the parts that are given of a unit: twice the greatest reference from the unit's origin to an
 /// interior stopover or the end of one of these parts; nothing exactly where there is no such reference.
 pub fn circle_minimum(edition: &Edition, trip: &Trip, parts: &[Part], unit: u8) -> Option<Nuc>
-    requires few { length parts.now ≤ 16 }
+    requires few { length parts.now ≤ MOST_PARTS }
     requires advances { Advances trip.now parts.now }
     ensures { result ≡ circle_minimum edition.now trip.now parts.now (own parts.now unit) }
 {

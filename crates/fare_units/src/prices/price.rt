@@ -9,6 +9,7 @@ ghost use Rattle.fare_component.specs.Usable.{IsAmount};
 ghost use Rattle.fare_units.specs.Advance.{Advances};
 ghost use Rattle.fare_units.specs.Places.{IsPlace, ArePlaces};
 
+use crate::construction::MOST_PARTS;
 use crate::parts::direction::is_back_in;
 use crate::parts::fares::{fare_of, holds_ow};
 use crate::parts::own::{first_of, own};
@@ -21,6 +22,12 @@ use fare_points::backhaul;
 use fare_rules::{Amount, Part, UnitKind, UnitSheet};
 use fare_tariff::Edition;
 use fare_trip::Trip;
+
+/// What a part costs at most, in hundredths: 12,500,000.00, a base of ten million with the greatest surcharge.
+const MOST_PART_COST: u64 = 1_250_000_000;
+
+/// What a unit costs at most, in hundredths: 200,000,000.00, that of `MOST_PARTS` parts.
+pub const MOST_UNIT_PRICE: u64 = 20_000_000_000;
 
 /// The component amount of a part of a unit, in the part's direction.
 #[tactic(auto, unfolding(fare_rules::specs::UnitPrice::part_amount))]
@@ -47,7 +54,7 @@ fn part_cost(edition: &Edition, trip: &Trip, parts: &[Part], own: &[usize], k: u
     requires advances { Advances trip.now parts.now }
     requires place { IsPlace parts.now k }
     ensures value { result ≡ part_cost edition.now trip.now parts.now own.now k }
-    ensures bound { result ≤ 1_250_000_000 }
+    ensures bound { result ≤ MOST_PART_COST }
 {
     match part_amount(edition, trip, parts, own, k) {
         None => 0,
@@ -60,9 +67,9 @@ fn part_cost(edition: &Edition, trip: &Trip, parts: &[Part], own: &[usize], k: u
 fn unit_sum(edition: &Edition, trip: &Trip, parts: &[Part], own: &[usize]) -> u64
     requires advances { Advances trip.now parts.now }
     requires places { ArePlaces parts.now own.now }
-    requires few { length own.now ≤ 16 }
+    requires few_own { length own.now ≤ MOST_PARTS }
     ensures value { result ≡ unit_sum edition.now trip.now parts.now own.now }
-    ensures bound { result ≤ 20_000_000_000 }
+    ensures bound { result ≤ MOST_UNIT_PRICE }
 {
     let mut sum = 0;
     for i in 0..own.len() {
@@ -155,10 +162,10 @@ fn unit_minimum(
 
 /// The sheet of a kind, a sum and a minimum: the price is the greater of the two.
 fn sheet_from(kind: UnitKind, sum: u64, minimum: Option<Nuc>) -> UnitSheet
-    requires sum { sum ≤ 20_000_000_000 }
+    requires sum { sum ≤ MOST_UNIT_PRICE }
     requires minimum { IfSome minimum (λ minimum. minimum < 2 * 10 ^ 9) }
     ensures value { result ≡ sheet_from kind sum minimum }
-    ensures bound { result.price ≤ 20_000_000_000 }
+    ensures bound { result.price ≤ MOST_UNIT_PRICE }
 {
     match minimum {
         None => UnitSheet {
@@ -181,10 +188,10 @@ fn sheet_from(kind: UnitKind, sum: u64, minimum: Option<Nuc>) -> UnitSheet
 pub(crate) fn sheet_of(edition: &Edition, trip: &Trip, parts: &[Part], own: &[usize]) -> UnitSheet
     requires advances { Advances trip.now parts.now }
     requires places { ArePlaces parts.now own.now }
-    requires few { length own.now ≤ 16 }
+    requires few_own { length own.now ≤ MOST_PARTS }
     requires some { 1 ≤ length own.now }
     ensures value { result ≡ unit_sheet edition.now trip.now parts.now own.now }
-    ensures bound { result.price ≤ 20_000_000_000 }
+    ensures bound { result.price ≤ MOST_UNIT_PRICE }
 {
     let kind = unit_kind(edition, trip, parts, own);
     let sum = unit_sum(edition, trip, parts, own);
@@ -193,11 +200,11 @@ pub(crate) fn sheet_of(edition: &Edition, trip: &Trip, parts: &[Part], own: &[us
 
 /// The price of a unit.
 fn unit_price(edition: &Edition, trip: &Trip, parts: &[Part], unit: usize) -> u64
-    requires few { length parts.now ≤ 16 }
+    requires few { length parts.now ≤ MOST_PARTS }
     requires advances { Advances trip.now parts.now }
     requires some { 1 ≤ length (own parts.now unit) }
     ensures value { result ≡ unit_price edition.now trip.now parts.now unit }
-    ensures bound { result ≤ 20_000_000_000 }
+    ensures bound { result ≤ MOST_UNIT_PRICE }
 {
     let own = own(parts, unit);
     sheet_of(edition, trip, parts, own.as_slice()).price
@@ -206,7 +213,7 @@ fn unit_price(edition: &Edition, trip: &Trip, parts: &[Part], unit: usize) -> u6
 /// The price of a construction whose units are numbered in order: the sum of the prices of its units.
 #[tactic(auto, using(fare_rules::proofs::NumberLemmas::sum_next, fare_rules::proofs::NumberLemmas::sum_done, crate::proofs::UnitLemmas::unit_has_parts), unfolding(fare_rules::specs::UnitPrice::price))]
 pub(crate) fn price(edition: &Edition, trip: &Trip, parts: &[Part]) -> u64
-    requires few { length parts.now ≤ 16 }
+    requires few { length parts.now ≤ MOST_PARTS }
     requires advances { Advances trip.now parts.now }
     requires numbered { misnumbered parts.now ≡ None }
     ensures { result ≡ price edition.now trip.now parts.now }

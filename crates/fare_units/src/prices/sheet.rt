@@ -8,7 +8,7 @@ ghost use Rattle.fare_rules.specs.UnitPrice.{unit_sheet};
 use crate::construction::Construction;
 use crate::parts::own::own;
 use crate::parts::places::greatest_unit;
-use crate::prices::price::sheet_of;
+use crate::prices::price::{MOST_UNIT_PRICE, sheet_of};
 use fare_rules::UnitSheet;
 use fare_tariff::Edition;
 use fare_trip::Trip;
@@ -20,7 +20,7 @@ pub fn unit_sheet(edition: &Edition, trip: &Trip, c: &Construction, unit: u8) ->
     requires from_one { 1 ≤ unit }
     requires to_greatest { unit ≤ greatest_unit c.now (places c.now) }
     ensures sheet { result ≡ unit_sheet edition.now trip.now c.now (own c.now unit) }
-    ensures bound { result.price ≤ 20_000_000_000 }
+    ensures bound { result.price ≤ MOST_UNIT_PRICE }
 {
     let parts = c.parts();
     let own = own(parts, unit as usize);

@@ -4,6 +4,7 @@ ghost use Rattle.std.specs.Prelude.{◌≡◌, ◌≤◌, length};
 ghost use Rattle.std.specs.List.{list_any};
 ghost use Rattle.fare_rules.specs.UnitRules.{are_unit_mates, are_end_mates, is_misfit, has_misfit, is_clash, clashes, clashed};
 
+use crate::construction::MOST_PARTS;
 use crate::parts::fares::fare_of;
 use crate::parts::places::is_same_unit;
 use crate::rules::first::first_that;
@@ -67,7 +68,7 @@ fn clashes(edition: &Edition, parts: &[Part], k: usize) -> bool
 
 /// The first part that is not combinable end on end with an earlier part of another unit.
 pub(crate) fn clashed(edition: &Edition, parts: &[Part]) -> Option<u8>
-    requires { length parts.now ≤ 16 }
+    requires few { length parts.now ≤ MOST_PARTS }
     ensures { result ≡ clashed edition.now parts.now }
 {
     first_that(parts.len(), |k| clashes(edition, parts, k))

@@ -3,6 +3,7 @@
 ghost use Rattle.std.specs.Prelude.{◌≡◌, ◌≤◌, length, find};
 ghost use Rattle.fare_rules.specs.Construction.{places, is_misended, ends_early, uncovered, is_misnumbered, misnumbered, is_unfiled, unfiled};
 
+use crate::construction::MOST_PARTS;
 use crate::parts::fares::fare_of;
 use crate::parts::places::{end_of, greatest_below, start_of, unit_of};
 use crate::rules::first::first_that;
@@ -19,7 +20,7 @@ pub(crate) fn is_misended(trip: &Trip, parts: &[Part], k: usize) -> bool
 
 /// The first part that does not end between its start and the trip's end.
 fn misended(trip: &Trip, parts: &[Part]) -> Option<u8>
-    requires few { length parts.now ≤ 16 }
+    requires few { length parts.now ≤ MOST_PARTS }
     ensures { result ≡ find (is_misended trip.now parts.now) (places parts.now) }
 {
     first_that(parts.len(), |k| is_misended(trip, parts, k))
@@ -27,7 +28,7 @@ fn misended(trip: &Trip, parts: &[Part]) -> Option<u8>
 
 /// The place behind the last part, where the parts do not end where the trip ends.
 fn ends_early(trip: &Trip, parts: &[Part]) -> Option<u8>
-    requires few { length parts.now ≤ 16 }
+    requires few { length parts.now ≤ MOST_PARTS }
     ensures { result ≡ ends_early trip.now parts.now }
 {
     if end_of(parts, parts.len()) == trip.count() {
@@ -39,7 +40,7 @@ fn ends_early(trip: &Trip, parts: &[Part]) -> Option<u8>
 /// Where the parts do not cover the trip.
 #[tactic(auto, unfolding(fare_rules::specs::Construction::uncovered))]
 pub(crate) fn uncovered(trip: &Trip, parts: &[Part]) -> Option<u8>
-    requires few { length parts.now ≤ 16 }
+    requires few { length parts.now ≤ MOST_PARTS }
     ensures { result ≡ uncovered trip.now parts.now }
 {
     misended(trip, parts).or(ends_early(trip, parts))
@@ -55,7 +56,7 @@ pub(crate) fn is_misnumbered(parts: &[Part], k: usize) -> bool
 
 /// The first part whose unit number is out of order.
 pub(crate) fn misnumbered(parts: &[Part]) -> Option<u8>
-    requires { length parts.now ≤ 16 }
+    requires few { length parts.now ≤ MOST_PARTS }
     ensures { result ≡ misnumbered parts.now }
 {
     first_that(parts.len(), |k| is_misnumbered(parts, k))
@@ -73,7 +74,7 @@ fn is_unfiled(edition: &Edition, parts: &[Part], k: usize) -> bool
 
 /// The first part whose fare is not filed.
 pub(crate) fn unfiled(edition: &Edition, parts: &[Part]) -> Option<u8>
-    requires { length parts.now ≤ 16 }
+    requires few { length parts.now ≤ MOST_PARTS }
     ensures { result ≡ unfiled edition.now parts.now }
 {
     first_that(parts.len(), |k| is_unfiled(edition, parts, k))

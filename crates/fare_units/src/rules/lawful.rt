@@ -6,6 +6,7 @@ ghost use Rattle.fare_units.specs.Advance.{Advances};
 ghost use Rattle.fare_units.specs.Breaks.{breaks_from};
 ghost use Rattle.fare_rules.specs.Lawful.{broken_at, first_broken};
 
+use crate::construction::MOST_PARTS;
 use crate::rules::combine::clashed;
 use crate::rules::cover::{misnumbered, uncovered, unfiled};
 use crate::rules::crossing::crossed;
@@ -28,7 +29,7 @@ fn broken_at(rule: u8, place: u8) -> Broken
 /// The first broken one of the rules from Mileage on.
 #[tactic(auto, unfolding(fare_rules::specs::Lawful::breaks, fare_rules::specs::UnitRules::mistimed, fare_rules::specs::UnitRules::misfitted))]
 fn first_from_mileage(edition: &Edition, trip: &Trip, parts: &[Part]) -> Option<Broken>
-    requires few { length parts.now ≤ 16 }
+    requires few { length parts.now ≤ MOST_PARTS }
     requires advances { Advances trip.now parts.now }
     ensures { result ≡ first_given (breaks_from 16 edition.now trip.now parts.now) }
 {
@@ -59,7 +60,7 @@ fn first_from_mileage(edition: &Edition, trip: &Trip, parts: &[Part]) -> Option<
 /// The first broken one of the rules from Distinct on.
 #[tactic(auto, unfolding(fare_rules::specs::Lawful::breaks))]
 fn first_from_distinct(edition: &Edition, trip: &Trip, parts: &[Part]) -> Option<Broken>
-    requires few { length parts.now ≤ 16 }
+    requires few { length parts.now ≤ MOST_PARTS }
     requires advances { Advances trip.now parts.now }
     ensures { result ≡ first_given (breaks_from 8 edition.now trip.now parts.now) }
 {
@@ -93,7 +94,7 @@ fn first_from_distinct(edition: &Edition, trip: &Trip, parts: &[Part]) -> Option
 /// The first rule that a list of parts breaks, at its least place.
 #[tactic(auto, using(crate::proofs::UnitLemmas::advances_of_cover), unfolding(fare_rules::specs::Lawful::first_broken, fare_rules::specs::Lawful::breaks, fare_rules::specs::Shape::mixed, fare_rules::specs::Shape::unchained, fare_rules::specs::Shape::unclosed))]
 pub(crate) fn first_broken(edition: &Edition, trip: &Trip, parts: &[Part]) -> Option<Broken>
-    requires { length parts.now ≤ 16 }
+    requires few { length parts.now ≤ MOST_PARTS }
     ensures { result ≡ first_broken edition.now trip.now parts.now }
 {
     if let Some(k) = uncovered(trip, parts) {

@@ -9,8 +9,9 @@ ghost use Rattle.fare_rules.specs.Lawful.{fails, is_mispaired};
 ghost use Rattle.fare_rules.specs.ComponentAmount.{runs_between, in_season};
 ghost use Rattle.fare_units.specs.Advance.{Advances};
 ghost use Rattle.fare_units.specs.Places.{IsPlace};
-ghost use Rattle.fare_units.specs.Tests.{fare_passes, span_breaks, part_breaks};
+ghost use Rattle.fare_units.specs.Tests.{fare_passes, fare_fails, span_breaks, part_breaks};
 
+use crate::construction::MOST_PARTS;
 use crate::parts::direction::is_back;
 use crate::parts::fares::fare_of;
 use crate::parts::places::{end_of, start_of};
@@ -63,12 +64,12 @@ fn fare_passes(
     trip: &Trip,
     a: usize,
     b: usize,
-    rule: FareRule,
     fare: &FareRec,
+    rule: FareRule,
 ) -> bool
     requires rises { a < b }
     requires within { b ≤ count trip.now }
-    ensures { result ≡ fare_passes edition.now trip.now a b rule fare.now }
+    ensures { result ≡ fare_passes edition.now trip.now a b fare.now rule }
 {
     match rule {
         FareRule::Indicator => has_indicator(edition, trip, a, b, fare),
@@ -87,22 +88,22 @@ fn fare_fails(
     trip: &Trip,
     a: usize,
     b: usize,
-    rule: FareRule,
     fare: Option<&FareRec>,
+    rule: FareRule,
 ) -> bool
     requires rises { a < b }
     requires within { b ≤ count trip.now }
-    ensures { result ≡ fails (fare_passes edition.now trip.now a b rule) (option_copied fare.entry) }
+    ensures { result ≡ fare_fails edition.now trip.now a b (option_copied fare.entry) rule }
 {
     match fare {
         None => false,
-        Some(fare) => !fare_passes(edition, trip, a, b, rule, fare),
+        Some(fare) => !fare_passes(edition, trip, a, b, fare, rule),
     }
 }
 
 /// Whether the fare of what begins at a point is there and out of season.
 fn is_out_of_season(trip: &Trip, a: usize, fare: Option<&FareRec>) -> bool
-    requires { a < count trip.now }
+    requires before_end { a < count trip.now }
     ensures { result ≡ fails (in_season trip.now a) (option_copied fare.entry) }
 {
     match fare {
@@ -127,7 +128,7 @@ fn span_breaks(
     match rule {
         PartRule::Distinct => repeats_city(trip, a, b),
         PartRule::Fare(rule) => {
-            !holds_surface(trip, a, b) && fare_fails(edition, trip, a, b, rule, fare)
+            !holds_surface(trip, a, b) && fare_fails(edition, trip, a, b, fare, rule)
         }
         PartRule::Mileage => !holds_surface(trip, a, b) && !mileage_holds(edition, trip, a, b),
         PartRule::Surface => holds_surface(trip, a, b),
@@ -153,7 +154,7 @@ pub(crate) fn first_part(
     parts: &[Part],
     rule: PartRule,
 ) -> Option<u8>
-    requires few { length parts.now ≤ 16 }
+    requires few { length parts.now ≤ MOST_PARTS }
     requires advances { Advances trip.now parts.now }
     ensures { result ≡ find (part_breaks edition.now trip.now parts.now rule) (places parts.now) }
 {
@@ -161,7 +162,7 @@ pub(crate) fn first_part(
 }
 
 /// Whether a fare, where there is one, does not run between the ends of a span in a direction.
-fn runs_elsewhere(trip: &Trip, a: usize, b: usize, back: bool, fare: Option<&FareRec>) -> bool
+fn runs_elsewhere(trip: &Trip, a: usize, b: usize, fare: Option<&FareRec>, back: bool) -> bool
     requires rises { a < b }
     requires within { b ≤ count trip.now }
     ensures { result ≡ fails (runs_between trip.now a b back) (option_copied fare.entry) }
@@ -173,17 +174,17 @@ fn runs_elsewhere(trip: &Trip, a: usize, b: usize, back: bool, fare: Option<&Far
 }
 
 /// Whether a span holds no surface sector, and its fare does not run between its ends in a direction.
-fn is_mispaired_span(trip: &Trip, a: usize, b: usize, back: bool, fare: Option<&FareRec>) -> bool
+fn is_mispaired_span(trip: &Trip, a: usize, b: usize, fare: Option<&FareRec>, back: bool) -> bool
     requires rises { a < b }
     requires within { b ≤ count trip.now }
     ensures { result ≡ (not (holds_surface trip.now a b) && fails (runs_between trip.now a b back) (option_copied fare.entry)) }
 {
-    !holds_surface(trip, a, b) && runs_elsewhere(trip, a, b, back, fare)
+    !holds_surface(trip, a, b) && runs_elsewhere(trip, a, b, fare, back)
 }
 
 /// Whether the fare of a part does not run between its ends in the part's direction.
 fn is_mispaired(edition: &Edition, trip: &Trip, parts: &[Part], k: usize) -> bool
-    requires few { length parts.now ≤ 16 }
+    requires few { length parts.now ≤ MOST_PARTS }
     requires advances { Advances trip.now parts.now }
     requires place { IsPlace parts.now k }
     ensures { result ≡ is_mispaired edition.now trip.now parts.now k }
@@ -191,12 +192,12 @@ fn is_mispaired(edition: &Edition, trip: &Trip, parts: &[Part], k: usize) -> boo
     let a = start_of(trip, parts, k);
     let b = end_of(parts, k);
     let back = is_back(edition, trip, parts, k);
-    is_mispaired_span(trip, a, b, back, fare_of(edition, parts, k))
+    is_mispaired_span(trip, a, b, fare_of(edition, parts, k), back)
 }
 
 /// The first part whose fare does not run between its ends in the part's direction.
 pub(crate) fn mispaired(edition: &Edition, trip: &Trip, parts: &[Part]) -> Option<u8>
-    requires few { length parts.now ≤ 16 }
+    requires few { length parts.now ≤ MOST_PARTS }
     requires advances { Advances trip.now parts.now }
     ensures { result ≡ find (is_mispaired edition.now trip.now parts.now) (places parts.now) }
 {

@@ -3,7 +3,7 @@
 ghost use Rattle.std.specs.Prelude.{◌≡◌, ◌≤◌, ◌∷◌, [], ◌&&◌, ◌||◌, not, nat_lt, length};
 ghost use Rattle.fare_rules.specs.Construction.{origin};
 ghost use Rattle.fare_rules.specs.Shape.{follows, is_chained, ends_in, comes_home, comes_home_early, ends_at_home, closes, is_only_gap, is_jaw, is_open_jaw, must_close, holds_ow};
-ghost use Rattle.fare_units.specs.Advance.{Advances};
+ghost use Rattle.fare_units.specs.Advance.{EndsWithin};
 
 use crate::parts::countries::lie_together;
 use crate::parts::fares::{holds_ow, is_hr};
@@ -16,7 +16,7 @@ use fare_trip::Trip;
 
 /// Whether a part begins in the city where another one ends.
 fn follows(trip: &Trip, parts: &[Part], before: usize, k: usize) -> bool
-    requires { Advances trip.now parts.now }
+    requires ends { EndsWithin trip.now parts.now }
     ensures { result ≡ follows trip.now parts.now before k }
 {
     same_cities(start_city(trip, parts, k), end_city(trip, parts, before))
@@ -25,7 +25,7 @@ fn follows(trip: &Trip, parts: &[Part], before: usize, k: usize) -> bool
 /// Whether each part of a unit begins in the city where its previous one ends.
 #[tactic(auto, using(crate::proofs::ShapeLemmas::chained_next, crate::proofs::ShapeLemmas::chained_past))]
 fn is_chained(trip: &Trip, parts: &[Part], own: &[usize]) -> bool
-    requires { Advances trip.now parts.now }
+    requires ends { EndsWithin trip.now parts.now }
     ensures { result ≡ is_chained trip.now parts.now own.now }
 {
     for i in 0..own.len().saturating_sub(1) {
@@ -38,7 +38,7 @@ fn is_chained(trip: &Trip, parts: &[Part], own: &[usize]) -> bool
 
 /// Whether a part ends in a city.
 fn ends_in(trip: &Trip, parts: &[Part], city: City, k: usize) -> bool
-    requires { Advances trip.now parts.now }
+    requires ends { EndsWithin trip.now parts.now }
     ensures { result ≡ ends_in trip.now parts.now city k }
 {
     same_cities(end_city(trip, parts, k), city)
@@ -46,7 +46,7 @@ fn ends_in(trip: &Trip, parts: &[Part], city: City, k: usize) -> bool
 
 /// Whether the last part of a unit ends in its origin.
 fn comes_home(trip: &Trip, parts: &[Part], own: &[usize]) -> bool
-    requires { Advances trip.now parts.now }
+    requires ends { EndsWithin trip.now parts.now }
     ensures { result ≡ comes_home trip.now parts.now own.now }
 {
     ends_in(trip, parts, origin(trip, parts, own), last_of(own))
@@ -55,7 +55,7 @@ fn comes_home(trip: &Trip, parts: &[Part], own: &[usize]) -> bool
 /// Whether an earlier part of a unit ends in its origin.
 #[tactic(auto, using(crate::proofs::ShapeLemmas::earlier_next, crate::proofs::ShapeLemmas::earlier_past))]
 fn comes_home_early(trip: &Trip, parts: &[Part], own: &[usize]) -> bool
-    requires { Advances trip.now parts.now }
+    requires ends { EndsWithin trip.now parts.now }
     ensures { result ≡ comes_home_early trip.now parts.now own.now }
 {
     let home = origin(trip, parts, own);
@@ -69,7 +69,7 @@ fn comes_home_early(trip: &Trip, parts: &[Part], own: &[usize]) -> bool
 
 /// Whether a unit has two or more parts, of which the last ends in its origin and no earlier one does.
 fn ends_at_home(trip: &Trip, parts: &[Part], own: &[usize]) -> bool
-    requires { Advances trip.now parts.now }
+    requires ends { EndsWithin trip.now parts.now }
     ensures { result ≡ ends_at_home trip.now parts.now own.now }
 {
     2 <= own.len() && comes_home(trip, parts, own) && !comes_home_early(trip, parts, own)
@@ -78,7 +78,7 @@ fn ends_at_home(trip: &Trip, parts: &[Part], own: &[usize]) -> bool
 /// Whether a unit closes: it is chained, and comes home at its end and not before.
 #[tactic(auto, unfolding(fare_rules::specs::Shape::closes))]
 pub(crate) fn closes(trip: &Trip, parts: &[Part], own: &[usize]) -> bool
-    requires { Advances trip.now parts.now }
+    requires ends { EndsWithin trip.now parts.now }
     ensures { result ≡ closes trip.now parts.now own.now }
 {
     is_chained(trip, parts, own) && ends_at_home(trip, parts, own)
@@ -93,7 +93,7 @@ fn is_only_gap(edition: &Edition, a: City, b: City, c: City, d: City) -> bool
 
 /// Whether a unit of just these two parts is an open jaw: between them or to its origin lies a gap, and no other.
 fn is_jaw(edition: &Edition, trip: &Trip, parts: &[Part], k: usize, next: usize) -> bool
-    requires { Advances trip.now parts.now }
+    requires ends { EndsWithin trip.now parts.now }
     ensures { result ≡ is_jaw edition.now trip.now parts.now (k ∷ next ∷ []) }
 {
     let away = start_city(trip, parts, k);
@@ -114,7 +114,7 @@ fn has_one_gap(edition: &Edition, away: City, reached: City, left: City, home: C
 /// Whether a unit is an open jaw: it has two parts and one gap, in one country.
 #[tactic(auto, using(crate::proofs::ShapeLemmas::jaw_of_two, crate::proofs::ShapeLemmas::jaw_of_others), unfolding(fare_rules::specs::Shape::is_open_jaw))]
 pub(crate) fn is_open_jaw(edition: &Edition, trip: &Trip, parts: &[Part], own: &[usize]) -> bool
-    requires { Advances trip.now parts.now }
+    requires ends { EndsWithin trip.now parts.now }
     ensures { result ≡ is_open_jaw edition.now trip.now parts.now own.now }
 {
     if own.len() != 2 {
@@ -125,7 +125,7 @@ pub(crate) fn is_open_jaw(edition: &Edition, trip: &Trip, parts: &[Part], own: &
 
 /// Whether a unit must close: it is one of half round trips, and no open jaw.
 fn must_close(edition: &Edition, trip: &Trip, parts: &[Part], own: &[usize]) -> bool
-    requires { Advances trip.now parts.now }
+    requires ends { EndsWithin trip.now parts.now }
     ensures { result ≡ must_close edition.now trip.now parts.now own.now }
 {
     is_hr(edition, parts, own) && !is_open_jaw(edition, trip, parts, own)
@@ -140,7 +140,7 @@ pub(crate) fn is_mixed_in(edition: &Edition, parts: &[Part], own: &[usize]) -> b
 
 /// Whether a unit of some places must close and is not chained.
 pub(crate) fn is_unchained_in(edition: &Edition, trip: &Trip, parts: &[Part], own: &[usize]) -> bool
-    requires { Advances trip.now parts.now }
+    requires ends { EndsWithin trip.now parts.now }
     ensures { result ≡ (must_close edition.now trip.now parts.now own.now && not (is_chained trip.now parts.now own.now)) }
 {
     must_close(edition, trip, parts, own) && !is_chained(trip, parts, own)
@@ -148,7 +148,7 @@ pub(crate) fn is_unchained_in(edition: &Edition, trip: &Trip, parts: &[Part], ow
 
 /// Whether a unit of some places must close, and has one part or does not come home at its end alone.
 pub(crate) fn is_unclosed_in(edition: &Edition, trip: &Trip, parts: &[Part], own: &[usize]) -> bool
-    requires { Advances trip.now parts.now }
+    requires ends { EndsWithin trip.now parts.now }
     ensures { result ≡ (must_close edition.now trip.now parts.now own.now && not (ends_at_home trip.now parts.now own.now)) }
 {
     must_close(edition, trip, parts, own) && !ends_at_home(trip, parts, own)

@@ -5,12 +5,13 @@ ghost use Rattle.fare_rules.specs.Construction.{units};
 ghost use Rattle.fare_units.specs.Advance.{Advances};
 ghost use Rattle.fare_units.specs.Tests.{unit_breaks};
 
+use crate::construction::MOST_PARTS;
 use crate::parts::own::own;
 use crate::parts::places::greatest_unit;
 use crate::rules::combine::is_misfitted_in;
+use crate::rules::first::first_that;
 use crate::rules::shape::{is_mixed_in, is_unchained_in, is_unclosed_in};
 use crate::rules::stays::is_mistimed_in;
-use crate::rules::first::first_that;
 use fare_rules::Part;
 use fare_tariff::Edition;
 use fare_trip::Trip;
@@ -32,7 +33,7 @@ pub(crate) enum UnitRule {
 
 /// Whether a unit breaks a rule.
 fn unit_breaks(edition: &Edition, trip: &Trip, parts: &[Part], rule: UnitRule, unit: usize) -> bool
-    requires few { length parts.now ≤ 16 }
+    requires few { length parts.now ≤ MOST_PARTS }
     requires advances { Advances trip.now parts.now }
     ensures { result ≡ unit_breaks edition.now trip.now parts.now rule unit }
 {
@@ -54,9 +55,12 @@ pub(crate) fn first_unit(
     parts: &[Part],
     rule: UnitRule,
 ) -> Option<u8>
-    requires few { length parts.now ≤ 16 }
+    requires few { length parts.now ≤ MOST_PARTS }
     requires advances { Advances trip.now parts.now }
     ensures { result ≡ find (unit_breaks edition.now trip.now parts.now rule) (units parts.now) }
 {
-    first_that(greatest_unit(parts), |unit| unit_breaks(edition, trip, parts, rule, unit))
+    first_that(
+        greatest_unit(parts),
+        |unit| unit_breaks(edition, trip, parts, rule, unit),
+    )
 }

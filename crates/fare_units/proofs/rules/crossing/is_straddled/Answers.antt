@@ -8,4 +8,4 @@ pub returns-then-is_same_unit : goal.returns-then-is_same_unit
 returns-then-is_same_unit c =
     let same : is_same_unit c.args.parts.now c.args.d c.args.b ≡ true = sym c.is_same_unit.ensures ∙ c.if-is_same_unit.true in
     rw same (any_from_yields_List (is_begun_before c.args.parts.now c.args.b) _ _ c.any.result c.any.ensures.ran
-        (YieldsList-from_range (c.args.b + 1) c.args.d _ (cc) refl) (λ x b q k. search (rules, tests)))
+    (YieldsList-from_range (c.args.b + 1) c.args.d _ (cc) refl) (λ x b q k. search (rules, tests)))
