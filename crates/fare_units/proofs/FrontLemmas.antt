@@ -1,12 +1,12 @@
 -- Parts that others may follow, with one part more.
-use Rattle.std.proofs.Common.{◌≡◌, ℕ, zero, suc, ◌+◌, ◌-◌, ◌*◌, ◌<◌, ◌≤◌, cond, leb, max, List, [], ◌∷◌, ◌++◌, length, get_or, refl, ap, subst, sym, ◌∙◌, inl, inr, arith}
-use Rattle.std.proofs.lemmas.Bool.{le-leb, cases_lt}
+use Rattle.std.proofs.Common.{◌≡◌, ℕ, zero, suc, ◌+◌, ◌-◌, ◌*◌, ◌<◌, ◌≤◌, max, List, [], ◌∷◌, ◌++◌, length, get_or, ap, subst, sym, ◌∙◌, inl, inr, arith}
+use Rattle.std.proofs.lemmas.Bool.{cases_lt}
 use Rattle.std.proofs.Math.ListN.{get_or-append, length-append}
 use Rattle.std.proofs.Math.Seq.{get_or-append_right}
 use Rattle.fare_trip.specs.Itinerary.{Itinerary, count}
 use Rattle.fare_rules.specs.declared.part.Part.{Part}
 use Rattle.fare_rules.specs.Numbers.{numbers}
-use Rattle.fare_rules.specs.Construction.{no_part, end_of, start_of, unit_of, begin_after, greatest_unit, places}
+use Rattle.fare_rules.specs.Construction.{no_part, end_of, start_of, unit_of, greatest_unit, places}
 use Rattle.fare_rules.proofs.NumberLemmas.{numbers_more}
 use Rattle.fare_units.specs.Walk.{IsFront, next_start}
 use Rattle.fare_units.proofs.NextLemmas.{front_part, front_start, front_unit, greatest_same, next_part, start_by}

@@ -16,6 +16,7 @@ pub record Advances (trip : Itinerary) (parts : List Part) : Type 0 where
   pub ends : EndsWithin trip parts
   pub rises : (k : ℕ) → 1 ≤ k → k ≤ length parts → start_of trip parts k < end_of parts k
 
--- a list of parts meets the first three rules, Cover, Numbering and Record: the first rule that it breaks, if any, is a later one
+-- a list of parts meets the first three rules, Cover, Numbering and Record: the first rule that it breaks, if any, is a
+-- later one
 abbrev pub MeetsFirstThree : Tariff → Itinerary → List Part → Type 0
 MeetsFirstThree tariff trip parts = ForErr (lawful_price tariff trip parts) (λ broken. 3 < broken.rule)

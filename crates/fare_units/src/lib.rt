@@ -1,5 +1,5 @@
-//! Constructions and their pricing units: whether a list of parts is lawful and what it costs, which of two constructions
-//! is before the other, and the best one of a trip, found by enumerating all.
+//! Constructions and their pricing units: whether a list of parts is lawful and what it costs, which of two
+//! constructions is before the other, and the best one of a trip, found by enumerating all.
 //!
 //! - `construction`: a list of at most `MOST_PARTS` parts, in memory of its own;
 //! - `parts`: the parts by their places, the places of a unit's parts, their fares and directions;

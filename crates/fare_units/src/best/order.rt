@@ -20,7 +20,8 @@ fn compare_numbers(a: u32, b: u32) -> Ordering
     }
 }
 
-/// How two parts at one place lie to each other: by the greater end, then the lesser record number, then the lesser unit.
+/// How two parts at one place lie to each other: by the greater end, then the lesser record number, then the lesser
+/// unit.
 #[tactic(auto, unfolding(fare_rules::specs::Order::compare_parts))]
 fn compare_parts(x: &Part, y: &Part) -> Ordering
     ensures { result ≡ compare_parts x.now y.now }

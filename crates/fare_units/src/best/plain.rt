@@ -55,8 +55,8 @@ fn take(edition: &Edition, trip: &Trip, front: &Construction, best: Found) -> Fo
     }
 }
 
-/// Whether the fare of a number may serve a part that comes after some and ends at a point: in one of the two directions it
-/// has a component amount there.
+/// Whether the fare of a number may serve a part that comes after some and ends at a point: in one of the two
+/// directions it has a component amount there.
 #[tactic(auto, unfolding(crate::specs::Walk::may_serve))]
 fn may_serve(edition: &Edition, trip: &Trip, front: &Construction, end: usize, number: u32) -> bool
     requires rises { next_start trip.now front.now < end }

@@ -9,8 +9,8 @@ use fare_trip::Trip;
 use std::alloc::Global;
 use std::thread::Threads;
 
-/// What finds the best construction of a trip, with its price, or nothing exactly where none is lawful. Its one refusal is
-/// want of memory.
+/// What finds the best construction of a trip, with its price, or nothing exactly where none is lawful. Its one refusal
+/// is want of memory.
 pub trait Quoter {
     /// The best construction of a trip in an edition.
     fn quote<R: Threads + Sync>(

@@ -80,8 +80,8 @@ pub fn is_back(edition: &Edition, trip: &Trip, parts: &[Part], k: usize) -> bool
     is_back_in(edition, trip, parts, own.as_slice(), k)
 }
 
-/// Direction: whether the part at a place, from 1, is priced back, where `hr` says whether its unit is one of half round
-/// trips. Only ends and units are looked at.
+/// Direction: whether the part at a place, from 1, is priced back, where `hr` says whether its unit is one of half
+/// round trips. Only ends and units are looked at.
 #[tactic(auto, unfolding(fare_rules::specs::Direction::priced_back))]
 pub fn priced_back(edition: &Edition, trip: &Trip, parts: &[Part], hr: bool, place: usize) -> bool
     requires few { length parts.now ≤ MOST_PARTS }

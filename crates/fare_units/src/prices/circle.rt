@@ -141,7 +141,8 @@ fn greatest_stopover(
     requires place { IsPlace parts.now k }
     requires rises { a < b }
     requires within { b ≤ count trip.now }
-    ensures value { result ≡ greatest_of (circle_reference edition.now trip.now parts.now own.now k) (stopovers trip.now a b) }
+    ensures value { result
+        ≡ greatest_of (circle_reference edition.now trip.now parts.now own.now k) (stopovers trip.now a b) }
     ensures bound { IfSome result (λ amount. amount < 10 ^ 9) }
 {
     let mut found = None;
@@ -169,7 +170,8 @@ fn greatest_in_span(
     requires place { IsPlace parts.now k }
     requires rises { a < b }
     requires within { b ≤ count trip.now }
-    ensures value { result ≡ greatest_of (circle_reference edition.now trip.now parts.now own.now k) (stopovers trip.now a b ++ b ∷ []) }
+    ensures value { result
+        ≡ greatest_of (circle_reference edition.now trip.now parts.now own.now k) (stopovers trip.now a b ++ b ∷ []) }
     ensures bound { IfSome result (λ amount. amount < 10 ^ 9) }
 {
     let inside = greatest_stopover(edition, trip, parts, own, k, a, b);
@@ -257,8 +259,8 @@ fn minimum_in_all(edition: &Edition, trip: &Trip, parts: &[Part], own: &[usize])
     twice(greatest_in_all(edition, trip, parts, own, None))
 }
 
-/// The circle minimum over the parts that are given of a unit: twice the greatest reference from the unit's origin to an
-/// interior stopover or the end of one of these parts; nothing exactly where there is no such reference.
+/// The circle minimum over the parts that are given of a unit: twice the greatest reference from the unit's origin to
+/// an interior stopover or the end of one of these parts; nothing exactly where there is no such reference.
 pub fn circle_minimum(edition: &Edition, trip: &Trip, parts: &[Part], unit: u8) -> Option<Nuc>
     requires few { length parts.now ≤ MOST_PARTS }
     requires advances { Advances trip.now parts.now }

@@ -26,8 +26,8 @@ pub fn lawful_price(edition: &Edition, trip: &Trip, c: &Construction) -> Result<
     }
 }
 
-/// A law: a construction that has a price breaks no rule, its parts go on from part to part within the trip, and the price
-/// is below 400,000,000.00.
+/// A law: a construction that has a price breaks no rule, its parts go on from part to part within the trip, and the
+/// price is below 400,000,000.00.
 pub fn price_is_of_unbroken(edition: &Edition, trip: &Trip, c: &Construction, price: u64)
     requires { lawful_price edition.now trip.now c.now ≡ Ok price }
     ensures unbroken { first_broken edition.now trip.now c.now ≡ None }

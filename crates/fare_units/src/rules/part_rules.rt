@@ -177,7 +177,8 @@ fn runs_elsewhere(trip: &Trip, a: usize, b: usize, fare: Option<&FareRec>, back:
 fn is_mispaired_span(trip: &Trip, a: usize, b: usize, fare: Option<&FareRec>, back: bool) -> bool
     requires rises { a < b }
     requires within { b ≤ count trip.now }
-    ensures { result ≡ (not (holds_surface trip.now a b) && fails (runs_between trip.now a b back) (option_copied fare.entry)) }
+    ensures { result
+        ≡ (not (holds_surface trip.now a b) && fails (runs_between trip.now a b back) (option_copied fare.entry)) }
 {
     !holds_surface(trip, a, b) && runs_elsewhere(trip, a, b, fare, back)
 }

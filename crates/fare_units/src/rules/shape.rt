@@ -105,7 +105,8 @@ fn is_jaw(edition: &Edition, trip: &Trip, parts: &[Part], k: usize, next: usize)
 
 /// Whether of the way from a city to another and from a third one to a fourth just one of the two joints is a gap.
 fn has_one_gap(edition: &Edition, away: City, reached: City, left: City, home: City) -> bool
-    ensures { result ≡ (is_only_gap edition.now reached left home away || is_only_gap edition.now home away reached left) }
+    ensures { result
+        ≡ (is_only_gap edition.now reached left home away || is_only_gap edition.now home away reached left) }
 {
     is_only_gap(edition, reached, left, home, away)
         || is_only_gap(edition, home, away, reached, left)
@@ -141,7 +142,8 @@ pub(crate) fn is_mixed_in(edition: &Edition, parts: &[Part], own: &[usize]) -> b
 /// Whether a unit of some places must close and is not chained.
 pub(crate) fn is_unchained_in(edition: &Edition, trip: &Trip, parts: &[Part], own: &[usize]) -> bool
     requires ends { EndsWithin trip.now parts.now }
-    ensures { result ≡ (must_close edition.now trip.now parts.now own.now && not (is_chained trip.now parts.now own.now)) }
+    ensures { result
+        ≡ (must_close edition.now trip.now parts.now own.now && not (is_chained trip.now parts.now own.now)) }
 {
     must_close(edition, trip, parts, own) && !is_chained(trip, parts, own)
 }
@@ -149,7 +151,8 @@ pub(crate) fn is_unchained_in(edition: &Edition, trip: &Trip, parts: &[Part], ow
 /// Whether a unit of some places must close, and has one part or does not come home at its end alone.
 pub(crate) fn is_unclosed_in(edition: &Edition, trip: &Trip, parts: &[Part], own: &[usize]) -> bool
     requires ends { EndsWithin trip.now parts.now }
-    ensures { result ≡ (must_close edition.now trip.now parts.now own.now && not (ends_at_home trip.now parts.now own.now)) }
+    ensures { result
+        ≡ (must_close edition.now trip.now parts.now own.now && not (ends_at_home trip.now parts.now own.now)) }
 {
     must_close(edition, trip, parts, own) && !ends_at_home(trip, parts, own)
 }

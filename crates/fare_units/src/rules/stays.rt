@@ -71,7 +71,9 @@ fn forbids_own_stay(edition: &Edition, trip: &Trip, parts: &[Part], own: &[usize
 pub(crate) fn is_mistimed_in(edition: &Edition, trip: &Trip, parts: &[Part], own: &[usize]) -> bool
     requires advances { Advances trip.now parts.now }
     requires places { ArePlaces parts.now own.now }
-    ensures { result ≡ (is_hr edition.now parts.now own.now && list_any (forbids_stay edition.now parts.now (stay trip.now parts.now own.now)) own.now) }
+    ensures { result
+        ≡ (is_hr edition.now parts.now own.now
+        && list_any (forbids_stay edition.now parts.now (stay trip.now parts.now own.now)) own.now) }
 {
     is_hr(edition, parts, own) && forbids_own_stay(edition, trip, parts, own)
 }

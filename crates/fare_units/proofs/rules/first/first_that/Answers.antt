@@ -1,4 +1,4 @@
-use Rattle.std.proofs.Common.{◌≡◌, ℕ, ◌+◌, Bool, true, false, Some, find, refl, sym, ◌∙◌, arith}
+use Rattle.std.proofs.Common.{◌≡◌, ◌+◌, true, false, Some, find, refl, sym, ◌∙◌, arith}
 use Rattle.fare_rules.specs.Numbers.{numbers}
 use Rattle.fare_rules.proofs.NumberLemmas.{find_next}
 use Rattle.fare_units.proofs.rules.first.first_that.Goals as goal
