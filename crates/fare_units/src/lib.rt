@@ -25,7 +25,7 @@ pub use parts::direction::{is_back, priced_back};
 pub use parts::places::{part_at, start_of};
 pub use prices::circle::circle_minimum;
 pub use prices::price::MOST_UNIT_PRICE;
-pub use prices::priced::{PRICE_BOUND, first_parts_advance, lawful_price, price_is_of_unbroken};
+pub use prices::priced::{first_parts_advance, lawful_price, price_is_of_unbroken};
 pub use prices::sheet::{unit_count, unit_sheet};
 
 #[cfg(test)]

@@ -18,7 +18,7 @@ use crate::parts::places::{end_of, start_of};
 use arrayvec::ArrayVec;
 use fare_codes::Nuc;
 use fare_points::{indicator_of, reference};
-use fare_rules::Part;
+use fare_rules::{MOST_SECTORS, Part};
 use fare_tariff::{Edition, FareRec};
 use fare_trip::Trip;
 
@@ -65,7 +65,7 @@ fn is_own_sector(trip: &Trip, parts: &[Part], own: &[usize], number: usize) -> b
 /// A unit's own sectors up to a point.
 #[tactic(auto, using(crate::proofs::Ranges::filter_more, crate::proofs::Ranges::filter_over, crate::proofs::Ranges::filter_all), unfolding(fare_rules::specs::Circle::own_sectors))]
 fn own_sectors(trip: &Trip, parts: &[Part], own: &[usize], i: usize) -> ArrayVec<usize, MOST_PARTS>
-    requires few_sectors { i ≤ MOST_PARTS }
+    requires few_sectors { i ≤ MOST_SECTORS }
     ensures { result.items ≡ own_sectors trip.now parts.now own.now i }
 {
     let mut sectors = ArrayVec::new();

@@ -19,14 +19,11 @@ use crate::rules::shape::{closes, is_open_jaw};
 use fare_codes::Nuc;
 use fare_component::applicable;
 use fare_points::backhaul;
-use fare_rules::{Amount, Part, UnitKind, UnitSheet};
+use fare_rules::{Amount, MOST_AMOUNT, Part, UnitKind, UnitSheet};
 use fare_tariff::Edition;
 use fare_trip::Trip;
 
-/// What a part costs at most, in hundredths: 12,500,000.00, a base of ten million with the greatest surcharge.
-const MOST_PART_COST: u64 = 1_250_000_000;
-
-/// What a unit costs at most, in hundredths: 200,000,000.00, that of `MOST_PARTS` parts.
+/// What a unit costs at most, in hundredths of a NUC: as much as `MOST_PARTS` parts of the greatest amount.
 pub const MOST_UNIT_PRICE: u64 = 20_000_000_000;
 
 /// The component amount of a part of a unit, in the part's direction.
@@ -54,7 +51,7 @@ fn part_cost(edition: &Edition, trip: &Trip, parts: &[Part], own: &[usize], k: u
     requires advances { Advances trip.now parts.now }
     requires place { IsPlace parts.now k }
     ensures value { result ≡ part_cost edition.now trip.now parts.now own.now k }
-    ensures bound { result ≤ MOST_PART_COST }
+    ensures bound { result ≤ MOST_AMOUNT }
 {
     match part_amount(edition, trip, parts, own, k) {
         None => 0,

@@ -7,12 +7,9 @@ ghost use Rattle.fare_units.specs.Advance.{Advances, MeetsFirstThree};
 use crate::construction::{Construction, MOST_PARTS};
 use crate::prices::price::price;
 use crate::rules::lawful::first_broken;
-use fare_rules::{Broken, Part, edition_is_valid, price_is_bounded};
+use fare_rules::{Broken, PRICE_LIMIT, Part, edition_is_valid, price_is_bounded};
 use fare_tariff::Edition;
 use fare_trip::Trip;
-
-/// What no lawful construction costs, in hundredths: 400,000,000.00.
-pub const PRICE_BOUND: u64 = 40_000_000_000;
 
 /// The price of a lawful construction, or the first rule that it breaks: the least number, at the least place.
 #[tactic(auto, using(crate::proofs::UnitLemmas::advances_of_unbroken, crate::proofs::UnitLemmas::numbered_of_unbroken), unfolding(fare_rules::specs::Lawful::lawful_price))]
@@ -32,7 +29,7 @@ pub fn price_is_of_unbroken(edition: &Edition, trip: &Trip, c: &Construction, pr
     requires { lawful_price edition.now trip.now c.now ≡ Ok price }
     ensures unbroken { first_broken edition.now trip.now c.now ≡ None }
     ensures advances { Advances trip.now c.now }
-    ensures bound { price < PRICE_BOUND }
+    ensures bound { price < PRICE_LIMIT }
 {
     let _sectors = trip.count();
     edition_is_valid(edition);
