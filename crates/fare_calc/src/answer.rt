@@ -17,8 +17,8 @@ use fare_trip::Trip;
 use fare_units::Construction;
 use std::alloc::Global;
 
-/// The answer text: the line that names the edition, and then the calculation line of the best construction, which is lawful,
-/// with its worksheet; or `NO FARE` where there is none.
+/// The answer text: the line that names the edition, and then the calculation line of the best construction, which is
+/// lawful, with its worksheet; or `NO FARE` where there is none.
 #[tactic(auto, unfolding(crate::specs::Answer::answer_text))]
 pub fn answer_text(
     alloc: Global,
@@ -35,8 +35,8 @@ pub fn answer_text(
     Ok(text)
 }
 
-/// Appends the line that names an edition, `EDITION`, its number and its effective day. After want of memory the text may hold
-/// a part of it.
+/// Appends the line that names an edition: `EDITION`, its number and its effective day. After want of memory the text
+/// may hold a part of it.
 pub fn push_edition(text: &mut Vec<u8>, edition: &Edition) -> Result<(), NoMemory>
     ensures { OnOk result (text.new.items ≡ text.old.items ++ edition_line edition.now) }
 {
@@ -55,7 +55,8 @@ fn push_best(
     best: Option<&Construction>,
 ) -> Result<(), NoMemory>
     requires { IfSome best (λ c. first_broken edition.now trip.now c.now ≡ None) }
-    ensures { OnOk result (text.new.items ≡ text.old.items ++ best_text edition.now trip.now (option_copied best.entry)) }
+    ensures { OnOk result
+        (text.new.items ≡ text.old.items ++ best_text edition.now trip.now (option_copied best.entry)) }
 {
     match best {
         None => Ok(text.extend_from_slice(b"NO FARE\n")?),
@@ -75,7 +76,8 @@ fn push_line(
     c: &Construction,
 ) -> Result<(), NoMemory>
     requires { first_broken edition.now trip.now c.now ≡ None }
-    ensures { OnOk result (text.new.items ≡ text.old.items ++ line_text (line_of edition.now trip.now c.now) ++ codes "\n") }
+    ensures { OnOk result
+        (text.new.items ≡ text.old.items ++ line_text (line_of edition.now trip.now c.now) ++ codes "\n") }
 {
     let line = line_of(edition, trip, c);
     text.extend_from_slice(print_line(alloc, &line)?.as_slice())?;

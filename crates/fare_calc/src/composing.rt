@@ -22,8 +22,8 @@ use parts::line_parts;
 use sectors::flown_sectors;
 use units::plus_ups;
 
-/// The calculation line of a lawful construction: the trip's flown sectors, the parts with their fares, the plus-ups of its
-/// units, the price, and the rate of exchange of the country where the trip begins.
+/// The calculation line of a lawful construction: the trip's flown sectors, the parts with their fares, the plus-ups of
+/// its units, the price, and the rate of exchange of the country where the trip begins.
 #[tactic(auto, unfolding(crate::specs::LineOf::line_of, fare_line::specs::Line::is_line))]
 pub fn line_of(edition: &Edition, trip: &Trip, c: &Construction) -> Line
     requires { first_broken edition.now trip.now c.now ≡ None }

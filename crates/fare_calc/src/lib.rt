@@ -1,4 +1,4 @@
-//! What a quotation answers of a lawful construction: its calculation line, its worksheet, and the answer text with both.
+//! What a quotation answers of a lawful construction: its calculation line, its worksheet, and the text with both.
 //!
 //! - `composing`: the line of a construction, from its sectors, parts and units (`specs/LineOf`);
 //! - `worksheet`: how its parts, its units and its total come about, one line for each step (`specs/Worksheet`);

@@ -64,7 +64,8 @@ fn push_parts(
     c: &Construction,
 ) -> Result<(), NoMemory>
     requires { Advances trip.now c.now }
-    ensures { OnOk result (text.new.items ≡ text.old.items ++ flat_map (part_lines_of edition.now trip.now c.now) (places c.now)) }
+    ensures { OnOk result
+        (text.new.items ≡ text.old.items ++ flat_map (part_lines_of edition.now trip.now c.now) (places c.now)) }
 {
     for k in 0..c.parts().len() {
         push_part_of(text, edition, trip, c, k + 1)?;
@@ -98,7 +99,8 @@ fn push_units(
     c: &Construction,
 ) -> Result<(), NoMemory>
     requires { first_broken edition.now trip.now c.now ≡ None }
-    ensures { OnOk result (text.new.items ≡ text.old.items ++ flat_map (unit_line_of edition.now trip.now c.now) (units c.now)) }
+    ensures { OnOk result
+        (text.new.items ≡ text.old.items ++ flat_map (unit_line_of edition.now trip.now c.now) (units c.now)) }
 {
     for unit in 0..unit_count(c) {
         push_unit_of(text, edition, trip, c, unit as u8 + 1)?;

@@ -1,5 +1,6 @@
 pub mod PartLemmas
 pub mod Readers
+pub mod Choices
 pub mod Words
 pub mod Numerals
 pub mod Amounts

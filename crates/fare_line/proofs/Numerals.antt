@@ -1,5 +1,6 @@
 -- Numbers, amounts and rates, as they are read.
-use Rattle.std.proofs.Common.{◌≡◌, ◌∙◌, ◌<◌, ◌≤◌, ◌+◌, ◌-◌, ◌*◌, ◌/◌, ◌%◌, ◌^◌, ℕ, zero, suc, Bool, true, false, ◌&&◌, List, [], ◌∷◌, ◌++◌, length, get_or, nat_lt, nat_le, Option, Some, None, Ok, inl, inr, decimal, codes, refl, sym, ap, subst, arith, rules}
+use Rattle.std.proofs.Common.{◌≡◌, ◌∙◌, ◌<◌, ◌≤◌, ◌+◌, ◌-◌, ◌*◌, ◌/◌, ◌%◌, ◌^◌, ℕ, zero, suc, Bool, true, false, ◌&&◌, List, [], ◌∷◌, ◌++◌, length, get_or, nat_lt, nat_le, Option, Some, None, Result, Ok, Err, inl, inr, decimal, codes, refl, sym, ap, subst, arith, rules}
+use Rattle.std.specs.Prelude.{IfOk}
 use Rattle.std.proofs.lemmas.Bool.Decides.{nat_tests}
 use Rattle.std.proofs.lemmas.Bool.{ltb-true, lt-ltb}
 use Rattle.std.proofs.lemmas.Str.Parse.{IsNumeralModel, IsDigitsTest, numerals_by_value}
@@ -8,7 +9,7 @@ use Rattle.std.specs.List.{list_all}
 use Rattle.std.specs.Char.{is_ascii_digit, digit_value}
 use Rattle.std.specs.Str.Parse.{digits_value, digits_value_after}
 use Rattle.fare_line.specs.declared.reading.byte_kind.ByteKind.TheVariants.{Digit, Among}
-use Rattle.fare_line.specs.reader.Reading.{◌>>=◌, byte_at, scan, word_at, with_digit, counted_at, nought_at, whole_at, hundredths_at}
+use Rattle.fare_line.specs.reader.Reading.{◌>>=◌, Gives, byte_at, scan, word_at, with_digit, counted_at, nought_at, whole_at, hundredths_at}
 use Rattle.fare_line.proofs.Readers.{Reads, Joined, IsByte, Or, joined, same, reads_byte, reads_either}
 use Rattle.fare_line.proofs.Words.{IsWord, Mapped, both_tests, IsScanned, EndsAt, steps, steps_go, steps_none, none_is_not_some, some_is, mapped, reads_word, reads_scanned}
 
@@ -222,3 +223,9 @@ reads_hundredths =
       behind_is = record { origin = 48 + number % 10; is = record { of_kind = is_digit (48 + number % 10) (omega arith) (omega arith); alone = refl }; value = omega arith };
       whole = h.spelled;
     })
+
+-- a number that is read stays below ten times the limit
+pub whole_below : (limit : ℕ) (bytes rest : List ℕ) (found : Result ℕ ℕ) → 1 ≤ limit → limit ≤ 10 ^ 9
+    → Gives found rest (whole_at limit bytes) → IfOk found (λ (number : ℕ). number < 10 * limit)
+whole_below limit bytes rest (Ok number) least most gives = ((reads_whole limit least most).found bytes rest number gives).1.below
+whole_below limit bytes rest (Err left) least most gives = tt

@@ -249,7 +249,7 @@ both_stopped {A} L M bytes l m left one two e = elim (cases_lt l m) [
 ]
 
 -- how two readings make one
-either_ok : {A : Type 0} (r s : Result (A × List ℕ) ℕ) (x : A × List ℕ) → either r s ≡ Ok x → (r ≡ Ok x) ⊎ (s ≡ Ok x)
+pub either_ok : {A : Type 0} (r s : Result (A × List ℕ) ℕ) (x : A × List ℕ) → either r s ≡ Ok x → (r ≡ Ok x) ⊎ (s ≡ Ok x)
 either_ok (Ok y) s x e = inl e
 either_ok (Err l) (Ok y) x e = inr e
 either_ok (Err l) (Err m) x e = absurd cc

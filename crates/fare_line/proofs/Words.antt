@@ -1,18 +1,13 @@
 -- Words, one of some words, and bytes up to a last one.
-use Rattle.std.proofs.Common.{◌≡◌, ◌∙◌, ◌<◌, ◌≤◌, ℕ, zero, suc, Bool, true, false, ◌==◌, ◌&&◌, List, [], ◌∷◌, ◌++◌, length, get_or, append-nil, Option, Some, None, Result, Ok, Err, inl, inr, refl, sym, ap, subst, arith, if◌then◌else◌}
+use Rattle.std.proofs.Common.{◌≡◌, ◌∙◌, ◌<◌, ◌≤◌, ℕ, zero, suc, Bool, true, false, ◌==◌, ◌&&◌, List, [], ◌∷◌, ◌++◌, map, length, get_or, append-nil, Option, Some, None, Result, Ok, Err, inl, inr, refl, sym, ap, subst, arith, if◌then◌else◌}
+use Rattle.std.specs.Prelude.{IfOk}
 use Rattle.std.proofs.lemmas.Bool.{eq-eqb, eqb-true}
 use Rattle.std.proofs.lemmas.Grind.{common_steps}
 use Rattle.std.proofs.lemmas.List.Folds.{list_all_at}
 use Rattle.std.specs.List.{list_all}
 use Rattle.fare_line.specs.declared.reading.byte_kind.ByteKind.TheVariants.{This}
-use Rattle.fare_line.specs.reader.Reading.{◌>>=◌, byte_at, word_at, one_of, scan}
-use Rattle.fare_line.proofs.Readers.{done_is, stopped_is, ok_is_not_err, Reads, Stops, Joined, Empty, IsByte, Or, joined, same, reads_byte, reads_nothing, reads_either}
-
--- the first of some words is read
-pub one_of_first : (word : List ℕ) (others : List (List ℕ)) (bytes rest : List ℕ) → word_at word bytes ≡ Ok (tt, rest) → one_of word others bytes ≡ Ok (0, rest)
-unfolding one_of
-one_of_first word [] bytes rest e = rw e refl
-one_of_first word (next ∷ others) bytes rest e = rw e refl
+use Rattle.fare_line.specs.reader.Reading.{◌>>=◌, Gives, byte_at, later, word_at, one_of, scan}
+use Rattle.fare_line.proofs.Readers.{done_is, either_ok, stopped_is, ok_is_not_err, Reads, Stops, Joined, Empty, IsByte, Or, joined, same, reads_byte, reads_nothing, reads_either}
 
 -- ---- a value made of what is read
 
@@ -107,6 +102,30 @@ reads_one_of word (next ∷ others) h =
     one : (i : ℕ) (text : List ℕ) → IsOneOf word (next ∷ others) i text → Or (Mapped (IsWord word) (λ (u : Unit {0}). 0)) (Mapped (IsOneOf next others) (λ (k : ℕ). suc k)) i text
     one zero text o = inl (record { origin = tt; is = o.word_is; value = refl })
     one (suc k) text o = inr (record { origin = k; is = record { index = (let index = o.index in omega arith); word_is = o.word_is }; value = refl })
+
+-- the index of a word is one of theirs
+pub index_of_word : {A : Type 0} (f : A → List ℕ) (word : List ℕ) (others : List A) (bytes rest : List ℕ) (found : Result ℕ ℕ)
+    → Gives found rest (one_of word (map f others) bytes) → IfOk found (λ (i : ℕ). i ≤ length others)
+unfolding one_of
+index_of_word {A} f word others bytes rest (Err left) gives = tt
+index_of_word {A} f word others bytes rest (Ok i) gives = within others word i gives
+  where
+    at_first : (r : Result (Unit {0} × List ℕ) ℕ) (i : ℕ) → ◌>>=◌ {B = ℕ × List ℕ} r (λ x. Ok (0, x.1)) ≡ Ok (i, rest) → i ≡ 0
+    at_first (Ok x) i e = (done_is i 0 rest x.1 (sym e)).0
+    at_first (Err left) i e = absurd cc
+
+    at_later : (r : Result (ℕ × List ℕ) ℕ) (i : ℕ) → later r ≡ Ok (i, rest) → (j : ℕ) × (r ≡ Ok (j, rest)) × (i ≡ suc j)
+    at_later (Ok x) i e = let both = done_is i (suc x.0) rest x.1 (sym e) in (x.0, ap (λ (behind : List ℕ). Ok (x.0, behind)) (sym both.1), both.0)
+    at_later (Err left) i e = absurd cc
+
+    within : (others : List A) (word : List ℕ) (i : ℕ) → one_of word (map f others) bytes ≡ Ok (i, rest) → i ≤ length others
+    within [] word i e = omega (arith, at_first (word_at word bytes) i e)
+    within (next ∷ others) word i e =
+        elim (either_ok (◌>>=◌ {B = ℕ × List ℕ} (word_at word bytes) (λ x. Ok (0, x.1))) (later (one_of (f next) (map f others) bytes)) (i, rest) e) [
+          | inl first ↦ omega (arith, at_first (word_at word bytes) i first)
+          | inr behind ↦ let got = at_later (one_of (f next) (map f others) bytes) i behind in
+              let below : got.0 ≤ length others = within others (f next) got.0 got.1 in omega (arith, got.2)
+        ]
 
 -- ---- bytes up to a last one
 

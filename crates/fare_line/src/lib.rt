@@ -1,10 +1,11 @@
-//! The calculation line of a construction: what a line is, the one text of each, and the reader of that text. A contract sees
-//! a line as its first city, its flown sectors, its parts and plus-ups, its total and its rate.
+//! The calculation line of a construction: what a line is, the one text of each, and the reader of that text.
+//! A contract sees a line as its first city, its flown sectors, its parts and plus-ups, its total and its rate.
 //!
 //! - `line`: a line with its sectors, parts and plus-ups; by its type it is one that some text spells (`specs/Line`);
 //! - `printing`: the one text of a line, and of a letter and a fare's tag (`specs/LineText`);
-//! - `reading`: the line that a text spells, or how far the text could have become one (`specs/LongestFront`). Its modules go
-//!   from bytes over numbers, marks and pieces to the draft of a line; `specs/reader` has what each of them reads.
+//! - `reading`: the line that a text spells, or how far the text could have become one (`specs/LongestFront`).
+//!   It goes from bytes (`cursor`) over `numbers`, `marks` and `pieces` to the `next` piece of a `draft`;
+//!   `specs/reader` has what each of them reads.
 #![tactic(auto)]
 
 mod line;

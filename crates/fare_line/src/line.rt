@@ -38,9 +38,24 @@ impl Model for Line {
 
     ghost Value = { CalculationLine };
 
-    ghost view = { λ l. record { from = l.from; sectors = l.sectors.items; parts = l.parts.items; plus = l.plus.items; total = l.total; roe = l.roe } };
+    ghost view = { λ l. record {
+      from = l.from;
+      sectors = l.sectors.items;
+      parts = l.parts.items;
+      plus = l.plus.items;
+      total = l.total;
+      roe = l.roe;
+    } };
 
-    ghost invariant = { λ l. is_line (record { from = l.from; sectors = l.sectors.items; parts = l.parts.items; plus = l.plus.items; total = l.total; roe = l.roe }) ≡ true };
+    ghost invariant = { λ l. is_line (record {
+      from = l.from;
+      sectors = l.sectors.items;
+      parts = l.parts.items;
+      plus = l.plus.items;
+      total = l.total;
+      roe = l.roe;
+    })
+        ≡ true };
 }
 
 impl Line {

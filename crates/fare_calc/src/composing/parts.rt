@@ -93,7 +93,7 @@ pub(crate) fn line_parts(edition: &Edition, trip: &Trip, c: &Construction) -> Ar
     ensures led { is_led result.items ≡ true }
 {
     let _sectors = trip.count();
-    // A part of a line holds a rule and cities within options; the check learns from these calls where their types stand.
+    // A part holds a rule and cities within options; the check learns from these calls where their types stand.
     rule_has_form(None);
     gap_has_form(None);
     let mut parts = ArrayVec::new();

@@ -115,7 +115,9 @@ fn push_higher_line(text: &mut Vec<u8>, higher: Option<(City, City, Nuc)>) -> Re
 
 /// Appends the line of a pair in fare direction and its base.
 fn push_pair(text: &mut Vec<u8>, from: City, to: City, base: Nuc) -> Result<(), NoMemory>
-    ensures { OnOk result (text.new.items ≡ text.old.items ++ codes "HIP " ++ way_text from to ++ codes " " ++ nuc_text base ++ codes "\n") }
+    ensures { OnOk result
+        (text.new.items
+            ≡ text.old.items ++ codes "HIP " ++ way_text from to ++ codes " " ++ nuc_text base ++ codes "\n") }
 {
     text.extend_from_slice(b"HIP ")?;
     push_way(text, from, to)?;

@@ -75,28 +75,34 @@ Allowed d (End totals) = (is_amount totals.total ≡ true) × (is_rate totals.ro
 -- the line with a piece more
 abbrev pub with_piece : DraftLine → Piece → DraftLine
 with_piece d (Sector sector) = record d { pending = d.pending ++ sector ∷ [] }
-with_piece d (Part part) = record d { closed = d.closed ++ d.pending; parts = d.parts ++ part ∷ []; begun = part.end; gap = None; pending = [] }
+with_piece d (Part part) =
+    record d { closed = d.closed ++ d.pending; parts = d.parts ++ part ∷ []; begun = part.end; gap = None; pending = [] }
 with_piece d (Gap city) = record d { gap = Some city }
 with_piece d (Plus plus) = record d { plus = d.plus ++ plus ∷ [] }
 with_piece d (End totals) = d
 
 -- the whole line
 abbrev pub ended : DraftLine → Totals → CalculationLine
-ended d totals = record { from = d.from; sectors = d.closed; parts = d.parts; plus = d.plus; total = totals.total; roe = totals.roe }
+ended d totals =
+    record { from = d.from; sectors = d.closed; parts = d.parts; plus = d.plus; total = totals.total; roe = totals.roe }
 
--- a piece of each kind
+-- a sector, as a piece
 abbrev pub sector_piece : List ℕ → Result (Piece × List ℕ) ℕ
 sector_piece bytes = sector_at bytes >>= λ x. Ok (Sector x.0, x.1)
 
+-- the price of the part at hand, as a piece
 abbrev pub part_piece : DraftLine → List ℕ → Result (Piece × List ℕ) ℕ
 part_piece d bytes = price_at (count d) d.gap bytes >>= λ x. Ok (Part x.0, x.1)
 
+-- a gap, as a piece
 abbrev pub gap_piece : List ℕ → Result (Piece × List ℕ) ℕ
 gap_piece bytes = gap_at bytes >>= λ x. Ok (Gap x.0, x.1)
 
+-- a plus-up, as a piece
 abbrev pub plus_piece : List ℕ → Result (Piece × List ℕ) ℕ
 plus_piece bytes = plus_at bytes >>= λ x. Ok (Plus x.0, x.1)
 
+-- the total and the rate, as a piece
 abbrev pub end_piece : List ℕ → Result (Piece × List ℕ) ℕ
 end_piece bytes = totals_at bytes >>= λ x. Ok (End x.0, x.1)
 
@@ -126,7 +132,9 @@ piece_at d bytes =
     else (if nat_lt 0 (length d.plus) then closing_at d bytes else between_at d bytes))
 
 -- what follows a piece: the whole line behind the end, else what is read from then on
-abbrev pub behind : (DraftLine → List ℕ → Result (CalculationLine × List ℕ) ℕ) → DraftLine → Piece → List ℕ → Result (CalculationLine × List ℕ) ℕ
+abbrev pub behind :
+    (DraftLine → List ℕ → Result (CalculationLine × List ℕ) ℕ) → DraftLine → Piece → List ℕ
+    → Result (CalculationLine × List ℕ) ℕ
 behind on d (Sector sector) rest = on (with_piece d (Sector sector)) rest
 behind on d (Part part) rest = on (with_piece d (Part part)) rest
 behind on d (Gap city) rest = on (with_piece d (Gap city)) rest

@@ -4,6 +4,7 @@ use Rattle.std.specs.Char.{is_ascii_uppercase, is_ascii_digit}
 use Rattle.fare_codes.specs.Codes.{is_code_character}
 use Rattle.fare_codes.specs.declared.city.City.{City}
 use Rattle.fare_codes.specs.declared.carrier.Carrier.{Carrier}
+use Rattle.fare_line.specs.declared.reading.cursor.Cursor.{Cursor}
 use Rattle.fare_line.specs.declared.reading.byte_kind.ByteKind.{ByteKind}
 use Rattle.fare_line.specs.declared.reading.byte_kind.ByteKind.TheVariants.{Uppercase, CodeCharacter, Digit, This, Among}
 
@@ -11,6 +12,10 @@ use Rattle.fare_line.specs.declared.reading.byte_kind.ByteKind.TheVariants.{Uppe
 abbrev pub Gives : {X : Type 0} → Result X ℕ → List ℕ → Result (X × List ℕ) ℕ → Type 0
 Gives (Ok x) rest reading = reading ≡ Ok (x, rest)
 Gives (Err left) rest reading = reading ≡ Err left
+
+-- each way in which a call may end, with the cursor that it leaves, is what the reading gives
+abbrev pub AllGive : {X : Type 0} → (Result X ℕ → Cursor → Type 0) → Result (X × List ℕ) ℕ → Type 0
+AllGive {X} ends reading = (r : Result X ℕ) (left : Cursor) → ends r left → Gives r left.rest.now reading
 
 -- one reading, and one of the text behind it
 infixl 10 ◌>>=◌
@@ -42,11 +47,15 @@ unfoldable pub word_at : List ℕ → List ℕ → Result (Unit {0} × List ℕ)
 word_at [] bytes = Ok (tt, bytes)
 word_at (letter ∷ letters) bytes = byte_at (This letter) bytes >>= λ x. word_at letters x.1
 
+-- an index behind a first one
+abbrev pub later : Result (ℕ × List ℕ) ℕ → Result (ℕ × List ℕ) ℕ
+later index = index >>= λ x. Ok (suc x.0, x.1)
+
 -- one of some words, by its index
 unfoldable pub one_of : List ℕ → List (List ℕ) → List ℕ → Result (ℕ × List ℕ) ℕ
 one_of word [] bytes = word_at word bytes >>= λ x. Ok (0, x.1)
 one_of word (next ∷ others) bytes =
-    either (word_at word bytes >>= λ x. Ok (0, x.1)) (one_of next others bytes >>= λ x. Ok (suc x.0, x.1))
+    either (word_at word bytes >>= λ x. Ok (0, x.1)) (later (one_of next others bytes))
 
 -- bytes up to a last one, each of which leads from one value to the next
 unfoldable pub scan : {A : Type 0} → (A → ℕ → Option A) → ℕ → A → List ℕ → Result (A × List ℕ) ℕ

@@ -1,7 +1,8 @@
 //! The front of a text that is read: bytes, words and codes.
 
-ghost use Rattle.std.specs.Prelude.{◌≡◌};
-ghost use Rattle.fare_line.specs.reader.Reading.{Gives, byte_at, carrier_at, city_at, spaced_city_at, word_at};
+ghost use Rattle.std.specs.Prelude.{◌≡◌, ℕ, List, Result};
+ghost use Rattle.std.specs.Fn.{FnOnceReturnsAtMut};
+ghost use Rattle.fare_line.specs.reader.Reading.{AllGive, Gives, either, byte_at, carrier_at, city_at, spaced_city_at, word_at};
 
 use crate::reading::byte_kind::ByteKind;
 use fare_codes::{Carrier, City};
@@ -13,7 +14,7 @@ pub(crate) struct Cursor<'a> {
     pub(crate) rest: &'a [u8],
 }
 
-impl Cursor<'_> {
+impl<'a> Cursor<'a> {
     /// A byte of a kind.
     pub(crate) fn byte(&mut self, kind: ByteKind) -> Result<u8, usize>
         ensures { Gives result self.new.rest.now (byte_at kind self.old.rest.now) }
@@ -27,6 +28,32 @@ impl Cursor<'_> {
                 }
                 self.rest = behind;
                 Ok(*byte)
+            }
+        }
+    }
+
+    /// One of two readings: the first, or where that stops, the second from the same place. Where both stop, the one
+    /// that stops later says how many bytes are left.
+    pub(crate) fn either<T: Drop, F, G>(&mut self, first: F, second: G) -> Result<T, usize>
+    where
+        F: FnOnce(&mut Cursor<'a>) -> Result<T, usize>,
+        G: FnOnce(&mut Cursor<'a>) -> Result<T, usize>,
+        requires first { F.IsAlwaysCallable first }
+        requires second { G.IsAlwaysCallable second }
+        ensures { (a b : Result (T × List ℕ) ℕ) →
+            AllGive (FnOnceReturnsAtMut F.FnOnce first self.old) a →
+            AllGive (FnOnceReturnsAtMut G.FnOnce second self.old) b →
+            Gives result self.new.rest.now (either a b) }
+    {
+        let start = self.rest;
+        match first(self) {
+            Ok(found) => Ok(found),
+            Err(left) => {
+                self.rest = start;
+                match second(self) {
+                    Ok(found) => Ok(found),
+                    Err(more) => Err(left.min(more)),
+                }
             }
         }
     }

@@ -31,9 +31,25 @@ impl Model for Draft {
 
     ghost Value = { DraftLine };
 
-    ghost view = { λ d. record { from = d.from; closed = take d.closed d.sectors.items; parts = d.parts.items; begun = d.begun; gap = d.gap; pending = drop d.closed d.sectors.items; plus = d.plus.items } };
+    ghost view = { λ d. record {
+      from = d.from;
+      closed = take d.closed d.sectors.items;
+      parts = d.parts.items;
+      begun = d.begun;
+      gap = d.gap;
+      pending = drop d.closed d.sectors.items;
+      plus = d.plus.items;
+    } };
 
-    ghost invariant = { λ d. (d.closed ≤ length d.sectors.items) × IsDraft (record { from = d.from; closed = take d.closed d.sectors.items; parts = d.parts.items; begun = d.begun; gap = d.gap; pending = drop d.closed d.sectors.items; plus = d.plus.items }) };
+    ghost invariant = { λ d. (d.closed ≤ length d.sectors.items) × IsDraft (record {
+      from = d.from;
+      closed = take d.closed d.sectors.items;
+      parts = d.parts.items;
+      begun = d.begun;
+      gap = d.gap;
+      pending = drop d.closed d.sectors.items;
+      plus = d.plus.items;
+    }) };
 }
 
 impl Draft {

@@ -82,19 +82,13 @@ impl Cursor<'_> {
 
     /// What stands behind a letter.
     fn behind(&mut self, letter: Letter) -> Result<Mark, usize>
-        ensures { Gives result self.new.rest.now (either (paired_at letter self.old.rest.now) (unpaired_at letter self.old.rest.now)) }
+        ensures { Gives result self.new.rest.now
+            (either (paired_at letter self.old.rest.now) (unpaired_at letter self.old.rest.now)) }
     {
-        let start = self.rest;
-        match self.paired(letter) {
-            Ok(mark) => Ok(mark),
-            Err(left) => {
-                self.rest = start;
-                match self.unpaired(letter) {
-                    Ok(mark) => Ok(mark),
-                    Err(more) => Err(left.min(more)),
-                }
-            }
-        }
+        self.either(
+            |cursor| cursor.paired(letter),
+            |cursor| cursor.unpaired(letter),
+        )
     }
 
     /// A mark with a letter.
@@ -111,17 +105,10 @@ impl Cursor<'_> {
     pub(crate) fn mark(&mut self) -> Result<Mark, usize>
         ensures { Gives result self.new.rest.now (mark_at self.old.rest.now) }
     {
-        let start = self.rest;
-        match self.lettered() {
-            Ok(mark) => Ok(mark),
-            Err(left) => {
-                self.rest = start;
-                match self.unpaired(Letter::Bare) {
-                    Ok(mark) => Ok(mark),
-                    Err(more) => Err(left.min(more)),
-                }
-            }
-        }
+        self.either(
+            |cursor| cursor.lettered(),
+            |cursor| cursor.unpaired(Letter::Bare),
+        )
     }
 
     /// A class, by its index.

@@ -1,4 +1,4 @@
-//! The line that a text spells.
+//! The piece that stands next behind the pieces of a draft.
 
 ghost use Rattle.std.specs.Prelude.{nat_lt, if◌then◌else◌};
 ghost use Rattle.fare_line.specs.reader.Reading.{Gives};
@@ -58,17 +58,10 @@ impl Cursor<'_> {
         if draft.count() >= 16 {
             return self.part_piece(draft);
         }
-        let start = self.rest;
-        match self.sector_piece() {
-            Ok(piece) => Ok(piece),
-            Err(left) => {
-                self.rest = start;
-                match self.part_piece(draft) {
-                    Ok(piece) => Ok(piece),
-                    Err(more) => Err(left.min(more)),
-                }
-            }
-        }
+        self.either(
+            |cursor| cursor.sector_piece(),
+            |cursor| cursor.part_piece(draft),
+        )
     }
 
     /// Behind the parts: a plus-up, where there is room, or the end.
@@ -79,17 +72,7 @@ impl Cursor<'_> {
         if draft.plus_count() >= 16 {
             return self.end_piece();
         }
-        let start = self.rest;
-        match self.plus_piece() {
-            Ok(piece) => Ok(piece),
-            Err(left) => {
-                self.rest = start;
-                match self.end_piece() {
-                    Ok(piece) => Ok(piece),
-                    Err(more) => Err(left.min(more)),
-                }
-            }
-        }
+        self.either(|cursor| cursor.plus_piece(), |cursor| cursor.end_piece())
     }
 
     /// How a further part begins.
@@ -97,22 +80,13 @@ impl Cursor<'_> {
     fn further(&mut self) -> Result<Piece, usize>
         ensures { Gives result self.new.rest.now (further_at self.old.rest.now) }
     {
-        let start = self.rest;
-        match self.sector_piece() {
-            Ok(piece) => Ok(piece),
-            Err(left) => {
-                self.rest = start;
-                match self.gap_piece() {
-                    Ok(piece) => Ok(piece),
-                    Err(more) => Err(left.min(more)),
-                }
-            }
-        }
+        self.either(|cursor| cursor.sector_piece(), |cursor| cursor.gap_piece())
     }
 
     /// How a further part begins, with as many sectors as there is room for.
     fn begins(&mut self, draft: &Draft) -> Result<Piece, usize>
-        ensures { Gives result self.new.rest.now (if nat_lt (count draft.now) 15 then further_at self.old.rest.now else sector_piece self.old.rest.now) }
+        ensures { Gives result self.new.rest.now
+            (if nat_lt (count draft.now) 15 then further_at self.old.rest.now else sector_piece self.old.rest.now) }
     {
         if draft.count() < 15 {
             self.further()
@@ -129,17 +103,10 @@ impl Cursor<'_> {
         if draft.count() >= 16 {
             return self.closing(draft);
         }
-        let start = self.rest;
-        match self.begins(draft) {
-            Ok(piece) => Ok(piece),
-            Err(left) => {
-                self.rest = start;
-                match self.closing(draft) {
-                    Ok(piece) => Ok(piece),
-                    Err(more) => Err(left.min(more)),
-                }
-            }
-        }
+        self.either(
+            |cursor| cursor.begins(draft),
+            |cursor| cursor.closing(draft),
+        )
     }
 
     /// The piece that stands next.

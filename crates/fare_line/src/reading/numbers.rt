@@ -1,7 +1,7 @@
 //! Words of a choice and numbers at the front of a text.
 
-ghost use Rattle.std.specs.Prelude.{◌≡◌, ◌<◌, ◌*◌, ◌≤◌, ◌^◌, ℕ, List, [], map, length, codes, Ok, IfOk};
-ghost use Rattle.fare_line.specs.reader.Reading.{Gives, amount_at, counted_at, hundredths_at, later_units, nought_at, one_of, rate_at, scan, unit_at, whole_at, with_digit};
+ghost use Rattle.std.specs.Prelude.{◌≡◌, ◌<◌, ◌*◌, ◌≤◌, ◌^◌, ℕ, List, [], ◌∷◌, map, length, codes, Ok, IfOk};
+ghost use Rattle.fare_line.specs.reader.Reading.{Gives, amount_at, counted_at, hundredths_at, later, later_units, nought_at, one_of, rate_at, scan, unit_at, whole_at, with_digit};
 
 use crate::reading::byte_kind::ByteKind;
 use crate::reading::cursor::Cursor;
@@ -14,26 +14,53 @@ const LATER_UNITS: [&[u8]; 15] = [
 
 impl Cursor<'_> {
     /// One of a word and some others, by its index.
-    #[tactic(auto, using(crate::proofs::Words::one_of_first), unfolding(crate::specs::reader::Reading::one_of))]
+    #[cycle(one_word)]
+    #[tactic(auto, using(crate::proofs::Words::index_of_word), unfolding(crate::specs::reader::Reading::one_of))]
     pub(crate) fn one_of(&mut self, word: &[u8], others: &[&[u8]]) -> Result<usize, usize>
-        ensures reading { Gives result self.new.rest.now (one_of word.now (map (λ w. w.now) others.now) self.old.rest.now) }
+        ensures reading { Gives result self.new.rest.now
+            (one_of word.now (map (λ w. w.now) others.now) self.old.rest.now) }
         ensures index { IfOk result (λ i. i ≤ length others.now) }
     {
-        let start = self.rest;
-        let left = match self.word(word) {
-            Ok(()) => return Ok(0),
-            Err(left) => left,
-        };
         match others {
-            [] => Err(left),
-            [next, behind @ ..] => {
-                self.rest = start;
-                match self.one_of(next, behind) {
-                    Ok(i) => Ok(i + 1),
-                    Err(more) => Err(left.min(more)),
-                }
-            }
+            [] => self.first_word(word),
+            [next, behind @ ..] => self.first_or_later(word, next, behind),
         }
+    }
+
+    /// A word, as the first of some.
+    #[tactic(auto, unfolding(crate::specs::reader::Reading::one_of))]
+    fn first_word(&mut self, word: &[u8]) -> Result<usize, usize>
+        ensures reading { Gives result self.new.rest.now (one_of word.now [] self.old.rest.now) }
+        ensures index { IfOk result (λ i. i ≡ 0) }
+    {
+        self.word(word)?;
+        Ok(0)
+    }
+
+    /// A word, or one of some others behind it.
+    #[cycle(one_word)]
+    #[tactic(auto, unfolding(crate::specs::reader::Reading::one_of))]
+    fn first_or_later(&mut self, word: &[u8], next: &[u8], behind: &[&[u8]]) -> Result<usize, usize>
+        ensures { Gives result self.new.rest.now
+            (one_of word.now (next.now ∷ map (λ w. w.now) behind.now) self.old.rest.now) }
+    {
+        self.either(
+            |cursor| cursor.first_word(word),
+            |cursor|
+                ensures { Gives result cursor.new.rest.now
+                    (later (one_of next.entry.now (map (λ w. w.now) behind.entry.now) cursor.old.rest.now)) }
+            { cursor.later_word(next, behind) },
+        )
+    }
+
+    /// One of a word and some others, by its index behind a first one.
+    #[cycle(one_word)]
+    fn later_word(&mut self, word: &[u8], others: &[&[u8]]) -> Result<usize, usize>
+        ensures { Gives result self.new.rest.now
+            (later (one_of word.now (map (λ w. w.now) others.now) self.old.rest.now)) }
+    {
+        let i = self.one_of(word, others)?;
+        Ok(i + 1)
     }
 
     /// A unit and a space.
@@ -53,8 +80,8 @@ impl Cursor<'_> {
         self.one_of(b"1 ", &LATER_UNITS)
     }
 
-    #[tactic(auto, unfolding(crate::specs::reader::Reading::scan))]
     /// A number that goes on, up to its point, as long as it stays below ten times the limit.
+    #[tactic(auto, unfolding(crate::specs::reader::Reading::scan))]
     fn digits(&mut self, first: u64, limit: u64) -> Result<u64, usize>
         requires small { first < 10 * limit }
         requires limit { limit ≤ 10 ^ 9 }
@@ -97,25 +124,24 @@ impl Cursor<'_> {
         Ok(0)
     }
 
+    /// 0 or a number that isn't, below ten times the limit, and a point.
+    #[tactic(auto, unfolding(crate::specs::reader::Reading::whole_at))]
+    fn counted_or_nought(&mut self, limit: u64) -> Result<u64, usize>
+        requires some { 1 ≤ limit }
+        requires limit { limit ≤ 10 ^ 9 }
+        ensures { Gives result self.new.rest.now (whole_at limit self.old.rest.now) }
+    {
+        self.either(|cursor| cursor.counted(limit), |cursor| cursor.nought())
+    }
+
     /// A number below ten times the limit, and a point.
-    #[tactic(auto, unfolding(crate::specs::reader::Reading::whole_at, crate::specs::reader::Reading::nought_at))]
     fn whole(&mut self, limit: u64) -> Result<u64, usize>
         requires some { 1 ≤ limit }
         requires limit { limit ≤ 10 ^ 9 }
         ensures reading { Gives result self.new.rest.now (whole_at limit self.old.rest.now) }
         ensures bound { IfOk result (λ number. number < 10 * limit) }
     {
-        let start = self.rest;
-        match self.counted(limit) {
-            Ok(number) => Ok(number),
-            Err(left) => {
-                self.rest = start;
-                match self.nought() {
-                    Ok(_) => Ok(0),
-                    Err(more) => Err(left.min(more)),
-                }
-            }
-        }
+        self.counted_or_nought(limit)
     }
 
     /// Two digits.

@@ -1,4 +1,4 @@
-//! The pieces of a line at the front of a text: sectors, what stands behind those of a part, gaps, plus-ups and the end.
+//! The pieces of a line at the front of a text: sectors, prices of parts, gaps, plus-ups and the end.
 
 ghost use Rattle.std.specs.Prelude.{false};
 ghost use Rattle.fare_line.specs.reader.Reading.{Gives, either};
@@ -58,19 +58,13 @@ impl Cursor<'_> {
 
     /// A sector of a carrier.
     fn sector_of(&mut self, carrier: Carrier) -> Result<LineSector, usize>
-        ensures { Gives result self.new.rest.now (either (transfer_to carrier self.old.rest.now) (sector_to carrier false self.old.rest.now)) }
+        ensures { Gives result self.new.rest.now
+            (either (transfer_to carrier self.old.rest.now) (sector_to carrier false self.old.rest.now)) }
     {
-        let start = self.rest;
-        match self.transfer_to(carrier) {
-            Ok(sector) => Ok(sector),
-            Err(left) => {
-                self.rest = start;
-                match self.sector_to(carrier, false) {
-                    Ok(sector) => Ok(sector),
-                    Err(more) => Err(left.min(more)),
-                }
-            }
-        }
+        self.either(
+            |cursor| cursor.transfer_to(carrier),
+            |cursor| cursor.sector_to(carrier, false),
+        )
     }
 
     /// A sector.
