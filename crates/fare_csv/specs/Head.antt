@@ -4,12 +4,13 @@ use Rattle.std.specs.Str.{bytes_eq}
 use Rattle.fare_codes.specs.Day.{read_day}
 use Rattle.fare_codes.specs.Numbers.{read_number}
 use Rattle.fare_csv.specs.declared.text_fault.TextFault.{TextFault}
-use Rattle.fare_csv.specs.declared.version.Version.{Version}
-use Rattle.fare_csv.specs.declared.version.Version.TheVariants.{One, Two}
+use Rattle.fare_csv.specs.declared.head.Version.{Version}
+use Rattle.fare_csv.specs.declared.head.Version.TheVariants.{One, Two}
 use Rattle.fare_csv.specs.declared.head.Head.{Head}
 use Rattle.fare_csv.specs.Rows.{Fields}
 use Rattle.fare_csv.specs.Numbers.{above_zero}
-use Rattle.fare_csv.specs.Fields.{◌>>=◌, field, counted, in_form}
+use Rattle.fare_outside.specs.Memory.{◌>>=◌}
+use Rattle.fare_csv.specs.Fields.{field, counted, in_form}
 
 -- the version that bytes spell
 unfoldable pub read_version : List ℕ → Option Version

@@ -10,15 +10,16 @@ use Rattle.fare_codes.specs.declared.city.City.{City}
 use Rattle.fare_codes.specs.declared.rule_id.RuleId.{RuleId}
 use Rattle.fare_codes.specs.declared.season.Season.{Season}
 use Rattle.fare_tariff.specs.declared.fare_key.FareKey.{FareKey}
-use Rattle.fare_csv.specs.declared.version.Version.{Version}
-use Rattle.fare_csv.specs.declared.version.Version.TheVariants.{One, Two}
+use Rattle.fare_csv.specs.declared.head.Version.{Version}
+use Rattle.fare_csv.specs.declared.head.Version.TheVariants.{One, Two}
 use Rattle.fare_tariff.specs.declared.city_record.CityRec.{CityRec}
 use Rattle.fare_tariff.specs.Record.{CurrencyRecord, RuleRecord, FareRecord, MileageRecord, PairRecord, AllowanceRecord}
 use Rattle.fare_csv.specs.declared.text_fault.TextFault.{TextFault}
 use Rattle.fare_csv.specs.Rows.{Fields}
 use Rattle.fare_csv.specs.NameList.{read_names}
 use Rattle.fare_csv.specs.Numbers.{above_zero}
-use Rattle.fare_csv.specs.Fields.{◌>>=◌, field, counted, in_form}
+use Rattle.fare_outside.specs.Memory.{◌>>=◌}
+use Rattle.fare_csv.specs.Fields.{field, counted, in_form}
 
 -- CITY: the code, the country and the area
 unfoldable pub city_of : ℕ → Fields → Result CityRec TextFault

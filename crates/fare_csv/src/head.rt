@@ -7,14 +7,25 @@ use crate::numbers::read_edition_number;
 use crate::read_record::counted;
 use crate::rows::Row;
 use crate::text_fault::TextFault;
-use crate::version::Version;
 use fare_codes::Day;
 
-/// What HEAD says of the edition, and how the fares behind it are spelled.
+/// How the fares of a text are spelled.
+#[derive(Clone, Copy, Debug, PartialEq, Eq)]
+pub enum Version {
+    /// Without a season: each fare is filed for the whole year.
+    One,
+    /// With the first and the last day of its season.
+    Two,
+}
+
+/// What the first record of a text says.
 #[derive(Clone, Copy, Debug)]
-pub(crate) struct Head {
+pub struct Head {
+    /// How the fares behind it are spelled.
     pub version: Version,
+    /// The number of the edition, 1 to 99,999.
     pub number: u32,
+    /// The day from which the edition may be selected.
     pub effective: Day,
 }
 

@@ -1,12 +1,13 @@
 //! FARE records.
 
 ghost use Rattle.std.specs.Prelude.{◌≡◌, ◌<◌, ◌^◌, IfSome};
-ghost use Rattle.fare_csv.specs.RecordText.{fare_key_of, fare_of, fare_one_of, fare_two_of, fare_with, read_amount, read_fare_rule};
+ghost use Rattle.fare_csv.specs.RecordText.{fare_key_of, fare_of, fare_one_of, fare_two_of, fare_with, read_amount};
+ghost use Rattle.fare_csv.specs.RecordText.{read_fare_rule};
 
+use crate::head::Version;
 use crate::read_record::counted;
 use crate::rows::Row;
 use crate::text_fault::TextFault;
-use crate::version::Version;
 use fare_codes::{Cabin, Carrier, City, Indicator, Kind, MonthDay, Nuc, RuleId, Season};
 use fare_tariff::{FareKey, FareRec};
 

@@ -1,7 +1,7 @@
 //! RULE records.
 
 ghost use Rattle.std.specs.Prelude.{◌≡◌};
-ghost use Rattle.fare_csv.specs.Fields.{Gives};
+ghost use Rattle.fare_outside.specs.Memory.{Gives};
 ghost use Rattle.fare_csv.specs.RecordText.{read_excess, rule_of};
 
 use crate::name_list::read_names;
@@ -25,9 +25,9 @@ fn read_excess(bytes: &[u8]) -> Option<bool>
 }
 
 /// A RULE record.
-#[tactic(auto, unfolding(crate::specs::RecordText::rule_of, crate::specs::Fields::Gives, crate::specs::Fields::GivesFault))]
+#[tactic(auto, unfolding(crate::specs::RecordText::rule_of))]
 pub(crate) fn read_rule(alloc: Global, row: &Row, number: u32) -> Result<RuleRec, TextFault>
-    ensures { Gives (λ rule. rule) result (rule_of number row.now) }
+    ensures { Gives TextFault.Memory (λ rule. rule) result (rule_of number row.now) }
 {
     counted(row, number, 10)?;
     let id = RuleId::read(row.field(1)).ok_or(TextFault::BadRecord(number, 2))?;

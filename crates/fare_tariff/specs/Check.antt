@@ -173,12 +173,6 @@ unless (Some fault) value = Err fault
 abbrev pub check_edition : ℕ → Day → List Record → Result Tariff CheckFault
 check_edition number effective records = unless (first_fault records) (record { number = number; effective = effective; records = records })
 
--- a result is an answer, or memory ran out
-abbrev pub Gives : {A : Type 0} → Result A CheckFault → Result A CheckFault → Type 0
-Gives (Err Memory) answer = Unit {0}
-Gives (Err (At number kind)) answer = Err (At number kind) ≡ answer
-Gives (Ok value) answer = Ok value ≡ answer
-
 -- a fare that a record files is below 10,000,000.00
 abbrev pub is_in_form : Record → Bool
 is_in_form (filed.Fare r) = nat_lt r.amount (10 ^ 9)

@@ -1,5 +1,6 @@
 ghost use Rattle.std.specs.Prelude.{◌≡◌, ◌<◌, ◌≤◌, ℕ, Some, length};
-ghost use Rattle.fare_tariff.specs.Check.{Gives, IsEdition, check_edition};
+ghost use Rattle.fare_outside.specs.Memory.{Gives};
+ghost use Rattle.fare_tariff.specs.Check.{IsEdition, check_edition};
 ghost use Rattle.fare_tariff.specs.Filed.{IsFiledFare};
 ghost use Rattle.fare_tariff.specs.Lookup.{fare_at};
 ghost use Rattle.fare_tariff.specs.Record.{FareRecord};
@@ -42,7 +43,7 @@ impl Edition {
     ) -> Result<Edition, CheckFault>
         requires above_zero { 0 < number }
         requires in_range { number ≤ 99_999 }
-        ensures { Gives result (check_edition number effective records.items) }
+        ensures { Gives CheckFault.Memory (λ edition. edition) result (check_edition number effective records.items) }
     {
         hold_their_form(records.as_slice());
         match first_fault(records.as_slice()) {
