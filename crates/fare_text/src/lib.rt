@@ -10,5 +10,7 @@ mod short;
 #[cfg(test)]
 mod tests;
 
-pub use growing::{push_code, push_decimal, push_hundredths, push_labelled, push_number};
+pub use growing::{
+    push_code, push_decimal, push_hundredths, push_labelled, push_number, push_whole,
+};
 pub use short::{push_short_number, short_text};
