@@ -2,11 +2,11 @@
 //! sink, store, door and gate; `main` calls it over the real ones.
 #![tactic(auto)]
 
+mod command;
 mod exit;
 mod fault_line;
 mod input;
 mod price;
-mod quotation;
 mod quote;
 mod run;
 #[cfg(test)]
