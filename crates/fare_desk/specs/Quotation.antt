@@ -1,5 +1,5 @@
--- The quotation of a trip over a book of editions. Each definition looks at one thing, in the order in which the refusals
--- come: the edition that the sale day selects, the points of the trip, and the constructions.
+-- The quotation of a trip over a book of editions. Each definition looks at one thing, in the order in which the
+-- refusals come: the edition that the sale day selects, the points of the trip, and the constructions.
 use Rattle.std.specs.Prelude.{◌≡◌, ℕ, List, Option, option_map, Result, Ok, Err, MatchOption}
 use Rattle.fare_trip.specs.Itinerary.{Itinerary}
 use Rattle.fare_tariff.specs.Tariff.{Tariff}
@@ -19,8 +19,8 @@ Quotation = Result (List ℕ) QuoteFault
 abbrev pub construction_of : List Part × ℕ → List Part
 construction_of best = best.0
 
--- in an edition that knows all points of the trip: the answer text of the first least-priced lawful construction, or of none
--- where none is lawful
+-- in an edition that knows all points of the trip: the answer text of the first least-priced lawful construction, or
+-- of none where none is lawful
 abbrev pub QuotesPlaced : Tariff → Itinerary → List ℕ → Type 0
 QuotesPlaced tariff trip text =
     (best : Option (List Part × ℕ)) × IsBestAnswer tariff trip best

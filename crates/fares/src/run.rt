@@ -19,8 +19,8 @@ use std::thread::Threads;
 /// Where the source tells its bytes, the run ends in the answer that the words and those bytes define, or in want of
 /// memory, `ReadFault` or `WriteFault`; the last two come only where the source's and the sink's count rose in this
 /// call. All text is built before the first write, so the sink is left alone on every end but `Done` and `WriteFault`.
-/// Words that aren't taken end in `Usage`, and those that ask for what the program doesn't have yet in `NotYet`, both with
-/// the source left alone too.
+/// Words that aren't taken end in `Usage`, and those that ask for what the program doesn't have yet in `NotYet`, both
+/// with the source left alone too.
 pub fn run<R: Threads + Sync, S: Source, K: Sink, P: Keeper, D: Door, G: Gate>(
     rt: &R,
     alloc: Global,
