@@ -5,7 +5,8 @@ ghost use Rattle.std.specs.List.{list_all};
 ghost use Rattle.std.specs.Char.{is_ascii_digit};
 ghost use Rattle.std.specs.Str.Parse.{digits_value};
 ghost use Rattle.arrayvec.specs.ArrayString.{array_string_len};
-ghost use Rattle.fare_codes.specs.Numbers.{is_decimal, decimal_value, read_decimal, decimal_text, last_digits, read_rate, rate_text};
+ghost use Rattle.fare_codes.specs.Numbers.{is_decimal, decimal_value, read_decimal, decimal_text, last_digits};
+ghost use Rattle.fare_codes.specs.Numbers.{read_rate, rate_text};
 
 use crate::numbers::{is_number, value_after};
 use crate::texts::all_digits;

@@ -1,6 +1,7 @@
 //! Plain numbers: decimal digits with no zero in front.
 
-ghost use Rattle.std.specs.Prelude.{◌≡◌, ◌^◌, ◌<◌, ◌≤◌, ℕ, List, true, Some, None, IfSome, ◌&&◌, nat_le, length, decimal, if◌then◌else◌};
+ghost use Rattle.std.specs.Prelude.{◌≡◌, ◌^◌, ◌<◌, ◌≤◌, ℕ, List, true, Some, None, IfSome, ◌&&◌, nat_le, length};
+ghost use Rattle.std.specs.Prelude.{decimal, if◌then◌else◌};
 ghost use Rattle.std.specs.List.{list_all};
 ghost use Rattle.std.specs.Char.{is_ascii_digit};
 ghost use Rattle.std.specs.Str.Parse.{digits_value_after};

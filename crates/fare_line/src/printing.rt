@@ -4,7 +4,9 @@ ghost use Rattle.std.specs.Prelude.{◌≡◌, ◌++◌, ◌≤◌, ◌<◌, ◌
 ghost use Rattle.std.specs.List.{flat_map, list_all};
 ghost use Rattle.fare_codes.specs.Numbers.{nuc_text};
 ghost use Rattle.fare_line.specs.Line.{are_parts, gap_count, is_amount, is_line, is_plus, is_rate};
-ghost use Rattle.fare_line.specs.LineText.{gap_text, letter_text, line_text, mark_text, pair_text, part_text, parts_text, plus_text, price_text, rule_text, sector_text, spaced, tag_text, totals_text};
+ghost use Rattle.fare_line.specs.LineText.{gap_text, letter_text, line_text, mark_text, pair_text, part_text};
+ghost use Rattle.fare_line.specs.LineText.{parts_text, plus_text, price_text, rule_text, sector_text, spaced};
+ghost use Rattle.fare_line.specs.LineText.{tag_text, totals_text};
 
 use crate::line::Line;
 use crate::line::part::{Letter, LinePart};

@@ -3,7 +3,8 @@
 ghost use Rattle.std.specs.Prelude.{◌≡◌, ◌<◌, ◌≤◌, IfSome};
 ghost use Rattle.fare_trip.specs.Itinerary.{count};
 ghost use Rattle.fare_rules.specs.Span.{interior_cities};
-ghost use Rattle.fare_rules.specs.Mileage.{sector_miles, has_no_tpm, miles_of_sector, first_without_tpm, sum_of_miles, allowance_of};
+ghost use Rattle.fare_rules.specs.Mileage.{sector_miles, has_no_tpm, miles_of_sector, first_without_tpm};
+ghost use Rattle.fare_rules.specs.Mileage.{sum_of_miles, allowance_of};
 
 use arrayvec::ArrayVec;
 use fare_codes::{City, Indicator};

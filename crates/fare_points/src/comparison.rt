@@ -2,7 +2,8 @@
 
 ghost use Rattle.std.specs.Prelude.{◌≡◌, ◌<◌, ◌≤◌, ◌≢◌, ◌==◌, ◌&&◌, IfSome};
 ghost use Rattle.fare_trip.specs.Itinerary.{count};
-ghost use Rattle.fare_rules.specs.Base.{is_end_or_stopover, is_compared, reference_between, compared_reference, compared_pair};
+ghost use Rattle.fare_rules.specs.Base.{is_end_or_stopover, is_compared, reference_between, compared_reference};
+ghost use Rattle.fare_rules.specs.Base.{compared_pair};
 ghost use Rattle.fare_points.specs.Improved.{IsPairOf};
 
 use crate::indicators::indicator;

@@ -2,7 +2,8 @@
 
 ghost use Rattle.std.specs.Prelude.{◌≡◌, ◌≤◌, ◌||◌, ◌&&◌, true, false};
 ghost use Rattle.fare_trip.specs.Itinerary.{count, point};
-ghost use Rattle.fare_rules.specs.Indicator.{area, ocean, crossing, is_atlantic, is_pacific, is_first_area, crosses_atlantic, crosses_pacific, is_within_one, indicator_by};
+ghost use Rattle.fare_rules.specs.Indicator.{area, ocean, crossing, is_atlantic, is_pacific, is_first_area};
+ghost use Rattle.fare_rules.specs.Indicator.{crosses_atlantic, crosses_pacific, is_within_one, indicator_by};
 
 use fare_codes::{Area, City, Indicator, Over};
 use fare_tariff::Edition;

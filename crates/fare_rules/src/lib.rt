@@ -1,7 +1,8 @@
 //! The rule book: every rule of fare construction that more than one crate cites, as definitions in `specs/`, and the
 //! plain data that the rules speak of. It computes nothing itself; its public functions are the laws of the rules.
 //!
-//! - `part`, `amount`, `miles`, `unit_sheet`: a part of a construction, what it costs, its miles, and what a unit costs;
+//! - `part`, `amount`, `miles`, `unit_sheet`: a part of a construction, what it costs, its miles, and what a unit
+//!   costs;
 //! - `broken`: the first rule that a construction breaks;
 //! - `limits`: how great the numbers of the rules can be;
 //! - `laws`: what follows from the rules, each as the contract of a function that computes nothing.

@@ -28,7 +28,8 @@ impl Model for Trip {
 
     ghost view = { λ t. record { sale = t.sale; from = t.from; sectors = t.sectors.items } };
 
-    ghost invariant = { λ t. make_trip t.sale t.from t.sectors.items ≡ Ok (record { sale = t.sale; from = t.from; sectors = t.sectors.items }) };
+    ghost invariant = { λ t. make_trip t.sale t.from t.sectors.items
+        ≡ Ok (record { sale = t.sale; from = t.from; sectors = t.sectors.items }) };
 }
 
 impl Trip {

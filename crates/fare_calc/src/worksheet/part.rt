@@ -3,7 +3,8 @@
 ghost use Rattle.std.specs.Prelude.{◌≡◌, ◌++◌, OnOk, codes};
 ghost use Rattle.fare_codes.specs.Numbers.{nuc_text};
 ghost use Rattle.fare_line.specs.LineText.{letter_text};
-ghost use Rattle.fare_calc.specs.Worksheet.{amount_line, direction_text, filed_line, higher_line, measured_line, miles_line, miles_text, part_line, part_lines, way_text};
+ghost use Rattle.fare_calc.specs.Worksheet.{amount_line, direction_text, filed_line, higher_line, measured_line};
+ghost use Rattle.fare_calc.specs.Worksheet.{miles_line, miles_text, part_line, part_lines, way_text};
 
 use crate::part_sheet::PartSheet;
 use fare_codes::{City, Nuc};
@@ -117,7 +118,7 @@ fn push_higher_line(text: &mut Vec<u8>, higher: Option<(City, City, Nuc)>) -> Re
 fn push_pair(text: &mut Vec<u8>, from: City, to: City, base: Nuc) -> Result<(), NoMemory>
     ensures { OnOk result
         (text.new.items
-            ≡ text.old.items ++ codes "HIP " ++ way_text from to ++ codes " " ++ nuc_text base ++ codes "\n") }
+        ≡ text.old.items ++ codes "HIP " ++ way_text from to ++ codes " " ++ nuc_text base ++ codes "\n") }
 {
     text.extend_from_slice(b"HIP ")?;
     push_way(text, from, to)?;

@@ -5,7 +5,9 @@ ghost use Rattle.std.specs.Prelude.{◌≡◌, ◌<◌, ◌≤◌};
 ghost use Rattle.std.specs.List.{list_all};
 ghost use Rattle.fare_trip.specs.Itinerary.{count};
 ghost use Rattle.fare_rules.specs.Span.{sectors};
-ghost use Rattle.fare_rules.specs.ComponentAmount.{is_filed_between, runs_between, is_half_round_trip, may_be_priced, has_indicator, rank, covers_cabin, covers_cabins, is_carried_by, covers_carriers, in_season};
+ghost use Rattle.fare_rules.specs.ComponentAmount.{is_filed_between, runs_between, is_half_round_trip, may_be_priced};
+ghost use Rattle.fare_rules.specs.ComponentAmount.{has_indicator, rank, covers_cabin, covers_cabins, is_carried_by};
+ghost use Rattle.fare_rules.specs.ComponentAmount.{covers_carriers, in_season};
 
 use fare_codes::{Cabin, Carrier, City, Kind};
 use fare_points::{every_carrier, indicator};

@@ -2,7 +2,8 @@
 
 ghost use Rattle.std.specs.Prelude.{◌≡◌, ℕ, List, Result};
 ghost use Rattle.std.specs.Fn.{FnOnceReturnsAtMut};
-ghost use Rattle.fare_line.specs.reader.Reading.{AllGive, Gives, either, byte_at, carrier_at, city_at, spaced_city_at, word_at};
+ghost use Rattle.fare_line.specs.reader.Reading.{AllGive, Gives, either, byte_at, carrier_at, city_at};
+ghost use Rattle.fare_line.specs.reader.Reading.{spaced_city_at, word_at};
 
 use crate::reading::byte_kind::ByteKind;
 use fare_codes::{Carrier, City};

@@ -4,7 +4,9 @@ ghost use Rattle.std.specs.Prelude.{◌≡◌, ◌≤◌, ◌∷◌, [], true, l
 ghost use Rattle.std.specs.List.{list_all};
 ghost use Rattle.fare_codes.specs.Codes.{is_code_character};
 ghost use Rattle.fare_line.specs.reader.Reading.{Gives, either, one_of};
-ghost use Rattle.fare_line.specs.reader.Pieces.{class_at, kind_at, later_classes, later_kinds, later_letters, letter_at, lettered_at, mark_at, paired_at, rule_at, rule_of, tag_at, unpaired_at};
+ghost use Rattle.fare_line.specs.reader.Pieces.{class_at, kind_at, later_classes, later_kinds, later_letters};
+ghost use Rattle.fare_line.specs.reader.Pieces.{letter_at, lettered_at, mark_at, paired_at, rule_at, rule_of, tag_at};
+ghost use Rattle.fare_line.specs.reader.Pieces.{unpaired_at};
 
 use crate::line::part::Letter;
 use crate::reading::cursor::Cursor;

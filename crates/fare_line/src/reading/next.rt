@@ -2,7 +2,8 @@
 
 ghost use Rattle.std.specs.Prelude.{nat_lt, if◌then◌else◌};
 ghost use Rattle.fare_line.specs.reader.Reading.{Gives};
-ghost use Rattle.fare_line.specs.reader.Draft.{between_at, closing_at, count, end_piece, further_at, gap_piece, part_piece, piece_at, plus_piece, sector_piece, within_at};
+ghost use Rattle.fare_line.specs.reader.Draft.{between_at, closing_at, count, end_piece, further_at, gap_piece};
+ghost use Rattle.fare_line.specs.reader.Draft.{part_piece, piece_at, plus_piece, sector_piece, within_at};
 
 use crate::line::Line;
 use crate::reading::cursor::Cursor;

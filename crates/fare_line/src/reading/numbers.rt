@@ -1,7 +1,8 @@
 //! Words of a choice and numbers at the front of a text.
 
 ghost use Rattle.std.specs.Prelude.{◌≡◌, ◌<◌, ◌*◌, ◌≤◌, ◌^◌, ℕ, List, [], ◌∷◌, map, length, codes, Ok, IfOk};
-ghost use Rattle.fare_line.specs.reader.Reading.{Gives, amount_at, counted_at, hundredths_at, later, later_units, nought_at, one_of, rate_at, scan, unit_at, whole_at, with_digit};
+ghost use Rattle.fare_line.specs.reader.Reading.{Gives, amount_at, counted_at, hundredths_at, later, later_units};
+ghost use Rattle.fare_line.specs.reader.Reading.{nought_at, one_of, rate_at, scan, unit_at, whole_at, with_digit};
 
 use crate::reading::byte_kind::ByteKind;
 use crate::reading::cursor::Cursor;

@@ -2,7 +2,8 @@
 
 ghost use Rattle.std.specs.Prelude.{false};
 ghost use Rattle.fare_line.specs.reader.Reading.{Gives, either};
-ghost use Rattle.fare_line.specs.reader.Pieces.{gap_at, plus_at, price_at, sector_at, sector_to, totals_at, transfer_to};
+ghost use Rattle.fare_line.specs.reader.Pieces.{gap_at, plus_at, price_at, sector_at, sector_to, totals_at};
+ghost use Rattle.fare_line.specs.reader.Pieces.{transfer_to};
 
 use crate::line::part::LinePart;
 use crate::line::plus_up::PlusUp;

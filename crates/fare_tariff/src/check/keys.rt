@@ -1,7 +1,8 @@
 //! Records with the same key, and fares whose seasons overlap.
 
 ghost use Rattle.std.specs.Prelude.{◌≡◌, ◌<◌, ◌≤◌, length, position, IfSome};
-ghost use Rattle.fare_tariff.specs.Check.{key_of, is_fare_of, is_allowance_of, has_key_of, first_number, seasons_overlap, is_fare_over, overlap_of};
+ghost use Rattle.fare_tariff.specs.Check.{key_of, is_fare_of, is_allowance_of, has_key_of, first_number};
+ghost use Rattle.fare_tariff.specs.Check.{seasons_overlap, is_fare_over, overlap_of};
 
 use crate::check::seasons::seasons_overlap;
 use crate::limits::MOST_RECORDS;

@@ -1,9 +1,11 @@
 //! Fares, by their record numbers and their keys.
 
-ghost use Rattle.std.specs.Prelude.{◌≡◌, ◌+◌, ◌-◌, ◌<◌, ◌≤◌, length, nat_le, IfSome, OnSome, IsSomeAnd, option_map, option_and_then, position, slice_get, if◌then◌else◌, None};
+ghost use Rattle.std.specs.Prelude.{◌≡◌, ◌+◌, ◌-◌, ◌<◌, ◌≤◌, length, nat_le, IfSome, OnSome, IsSomeAnd, option_map};
+ghost use Rattle.std.specs.Prelude.{option_and_then, position, slice_get, if◌then◌else◌, None};
 ghost use Rattle.std.specs.Option.{option_copied};
 ghost use Rattle.fare_tariff.specs.Filed.{IsFiledFare, IsFareOn, IsFareBetween};
-ghost use Rattle.fare_tariff.specs.Lookup.{fare_in, has_key, is_fare_on, is_fare_between, number_at, numbers_from, fare_number, fare_at, nth_fare};
+ghost use Rattle.fare_tariff.specs.Lookup.{fare_in, has_key, is_fare_on, is_fare_between, number_at, numbers_from};
+ghost use Rattle.fare_tariff.specs.Lookup.{fare_number, fare_at, nth_fare};
 
 use crate::edition::Edition;
 use crate::limits::{MOST_FARES_BETWEEN, MOST_RECORDS};

@@ -2,7 +2,8 @@
 
 ghost use Rattle.std.specs.Prelude.{◌≡◌, ◌<◌, ◌≤◌, IfSome, bytes_eq};
 ghost use Rattle.std.specs.List.{list_any};
-ghost use Rattle.fare_tariff.specs.Lookup.{first_some, greatest, mpm_in, tpm_in, allowed_in, is_by_way_of, mpm, tpm, allowance};
+ghost use Rattle.fare_tariff.specs.Lookup.{first_some, greatest, mpm_in, tpm_in, allowed_in, is_by_way_of, mpm, tpm};
+ghost use Rattle.fare_tariff.specs.Lookup.{allowance};
 
 use crate::edition::Edition;
 use crate::limits::MOST_MILES;

@@ -4,7 +4,8 @@ ghost use Rattle.std.specs.Prelude.{◌≡◌, IfSome, option_map};
 ghost use Rattle.std.specs.Option.{option_copied};
 ghost use Rattle.std.specs.List.{list_any};
 ghost use Rattle.fare_tariff.specs.Filed.{AreInRange};
-ghost use Rattle.fare_tariff.specs.Lookup.{first_some, rule_in, rule_record, terms_of, free_terms, terms, lists, lists_in, same_rule, unit_names, end_names, unit_ok, ends_ok};
+ghost use Rattle.fare_tariff.specs.Lookup.{first_some, rule_in, rule_record, terms_of, free_terms, terms, lists};
+ghost use Rattle.fare_tariff.specs.Lookup.{lists_in, same_rule, unit_names, end_names, unit_ok, ends_ok};
 
 use crate::edition::Edition;
 use crate::limits::{MOST_STOPS, MOST_TRANSFERS};

@@ -5,7 +5,8 @@ ghost use Rattle.std.specs.Prelude.{◌≡◌, ◌+◌, ◌<◌, ◌≤◌, leng
 ghost use Rattle.fare_rules.specs.Best.{IsBestAnswer};
 ghost use Rattle.fare_trip.specs.Itinerary.{count};
 ghost use Rattle.fare_rules.specs.Construction.{greatest_unit, places};
-ghost use Rattle.fare_units.specs.Walk.{Walks, Completes, GoesOn, AnyPart, EndsAt, HasFare, IsPart, IsList, IsFront, TakesBetter, next_start, may_serve, is_mixed_with, mixes, is_fruitless};
+ghost use Rattle.fare_units.specs.Walk.{Walks, Completes, GoesOn, AnyPart, EndsAt, HasFare, IsPart, IsList, IsFront};
+ghost use Rattle.fare_units.specs.Walk.{TakesBetter, next_start, may_serve, is_mixed_with, mixes, is_fruitless};
 
 use crate::best::order::earlier;
 use crate::construction::Construction;

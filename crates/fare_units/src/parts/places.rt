@@ -2,7 +2,8 @@
 
 ghost use Rattle.std.specs.Prelude.{◌≡◌, ◌+◌, ◌≤◌, ◌<◌, length};
 ghost use Rattle.fare_trip.specs.Itinerary.{count};
-ghost use Rattle.fare_rules.specs.Construction.{part_at, end_of, unit_of, places, greatest_unit, begin_after, start_of, start_city, end_city};
+ghost use Rattle.fare_rules.specs.Construction.{part_at, end_of, unit_of, places, greatest_unit, begin_after};
+ghost use Rattle.fare_rules.specs.Construction.{start_of, start_city, end_city};
 ghost use Rattle.fare_rules.specs.Numbers.{numbers};
 ghost use Rattle.fare_rules.specs.Shape.{is_same_unit};
 ghost use Rattle.fare_units.specs.Advance.{EndsWithin};

@@ -4,7 +4,9 @@ ghost use Rattle.std.specs.Prelude.{◌≡◌, ◌+◌, ◌*◌, ◌<◌, ◌≤
 ghost use Rattle.std.specs.Option.{option_copied};
 ghost use Rattle.fare_trip.specs.Itinerary.{count};
 ghost use Rattle.fare_rules.specs.Construction.{own, misnumbered};
-ghost use Rattle.fare_rules.specs.UnitPrice.{part_amount, part_cost, unit_sum, are_two_equal, is_round_trip, unit_kind, part_backhaul, unit_minimum, at_least, sheet_from, sheet_of_kind, unit_sheet, unit_price, price};
+ghost use Rattle.fare_rules.specs.UnitPrice.{part_amount, part_cost, unit_sum, are_two_equal, is_round_trip};
+ghost use Rattle.fare_rules.specs.UnitPrice.{unit_kind, part_backhaul, unit_minimum, at_least, sheet_from};
+ghost use Rattle.fare_rules.specs.UnitPrice.{sheet_of_kind, unit_sheet, unit_price, price};
 ghost use Rattle.fare_component.specs.Usable.{IsAmount};
 ghost use Rattle.fare_units.specs.Advance.{Advances};
 ghost use Rattle.fare_units.specs.Places.{IsPlace, ArePlaces};

@@ -2,7 +2,8 @@
 
 ghost use Rattle.std.specs.Prelude.{◌≡◌, ◌≤◌, length};
 ghost use Rattle.std.specs.List.{list_any};
-ghost use Rattle.fare_rules.specs.UnitRules.{are_unit_mates, are_end_mates, is_misfit, has_misfit, is_clash, clashes, clashed};
+ghost use Rattle.fare_rules.specs.UnitRules.{are_unit_mates, are_end_mates, is_misfit, has_misfit, is_clash, clashes};
+ghost use Rattle.fare_rules.specs.UnitRules.{clashed};
 
 use crate::construction::MOST_PARTS;
 use crate::parts::fares::fare_of;

@@ -1,7 +1,8 @@
 //! The rules of numbers: parts cover the trip, their units are numbered in order, and their fares are filed.
 
 ghost use Rattle.std.specs.Prelude.{◌≡◌, ◌≤◌, length, find};
-ghost use Rattle.fare_rules.specs.Construction.{places, is_misended, ends_early, uncovered, is_misnumbered, misnumbered, is_unfiled, unfiled};
+ghost use Rattle.fare_rules.specs.Construction.{places, is_misended, ends_early, uncovered, is_misnumbered};
+ghost use Rattle.fare_rules.specs.Construction.{misnumbered, is_unfiled, unfiled};
 
 use crate::construction::MOST_PARTS;
 use crate::parts::fares::fare_of;

@@ -2,7 +2,8 @@
 
 ghost use Rattle.std.specs.Prelude.{◌≡◌, ◌≤◌, ◌∷◌, [], ◌&&◌, ◌||◌, not, nat_lt, length};
 ghost use Rattle.fare_rules.specs.Construction.{origin};
-ghost use Rattle.fare_rules.specs.Shape.{follows, is_chained, ends_in, comes_home, comes_home_early, ends_at_home, closes, is_only_gap, is_jaw, is_open_jaw, must_close, holds_ow};
+ghost use Rattle.fare_rules.specs.Shape.{follows, is_chained, ends_in, comes_home, comes_home_early, ends_at_home};
+ghost use Rattle.fare_rules.specs.Shape.{closes, is_only_gap, is_jaw, is_open_jaw, must_close, holds_ow};
 ghost use Rattle.fare_units.specs.Advance.{EndsWithin};
 
 use crate::parts::countries::lie_together;
