@@ -27,7 +27,7 @@ use Rattle.fare_rules.specs.Reference.{reference}
 use Rattle.fare_rules.specs.Shape.{is_hr, closes, is_open_jaw}
 use Rattle.fare_rules.specs.Terms.{stops_hold, transfers_hold, advance_holds}
 use Rattle.fare_rules.specs.UnitPrice.{part_amount, unit_sum, is_round_trip, unit_kind, unit_minimum, unit_sheet, price}
-use Rattle.fare_rules.proofs.Filed.{city, currency, fare, edition, free, part}
+use Rattle.fare_rules.proofs.Filed.{allowance, city, currency, fare, edition, free, part}
 use Rattle.fare_rules.proofs.Editions.{through_fare, with_allowance, beside_paris, pacific_circle, round_the_world, end_on_end, side_trip, paris_and_lyon}
 use Rattle.fare_rules.proofs.Trips.{straight_to_rome, stopping_in_paris, changing_in_paris, paris_twice, by_the_pacific, on_two_carriers, back_from_lyon}
 use Rattle.fare_calc.specs.PartSheets.{sheet_with}
@@ -132,8 +132,8 @@ worked_answers = refl
 
 -- a part with an allowance, and one whose allowance is more than its miles
 pub lines_of_allowances :
-    (part_lines_of (with_allowance "PAR" 60) stopping_in_paris (part 2 1 8 ∷ []) 1
-    ∷ part_lines_of (with_allowance "PAR" 2_000) stopping_in_paris (part 2 1 8 ∷ []) 1
+    (part_lines_of (with_allowance (allowance "LON" "ROM" EH "PAR" 60)) stopping_in_paris (part 2 1 8 ∷ []) 1
+    ∷ part_lines_of (with_allowance (allowance "LON" "ROM" EH "PAR" 2_000)) stopping_in_paris (part 2 1 8 ∷ []) 1
     ∷ [])
     ≡ (codes "PART 1 LON-ROM UNIT 1 OUT\nFARE 8 YYYOW 400.00\nMILES TPM 1051 EMA 60 NET 991 MPM 1000 M\nHIP NONE\nAF 400.00\n"
     ∷ codes "PART 1 LON-ROM UNIT 1 OUT\nFARE 8 YYYOW 400.00\nMILES TPM 1051 EMA 2000 NET 0 MPM 1000 M\nHIP NONE\nAF 400.00\n"
