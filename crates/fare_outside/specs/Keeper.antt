@@ -8,6 +8,13 @@ ToldAfter old None relation = ⊤
 ToldAfter None (Some new) relation = ⊥
 ToldAfter (Some old) (Some new) relation = relation old new
 
+-- where the bodies are told both before and after a call, this relation holds of them
+abbrev pub WhereTold : Option (List (List ℕ)) → Option (List (List ℕ))
+    → (List (List ℕ) → List (List ℕ) → Type 0) → Type 0
+WhereTold None new relation = ⊤
+WhereTold (Some old) None relation = ⊤
+WhereTold (Some old) (Some new) relation = relation old new
+
 -- the bodies are as before
 abbrev pub BodiesStay : List (List ℕ) → List (List ℕ) → Type 0
 BodiesStay old new = new ≡ old

@@ -2,7 +2,7 @@ ghost use Rattle.std.specs.Prelude.{◌≡◌, ◌≢◌, ◌<◌, length, IfSom
 ghost use Rattle.std.specs.Io.KnownBytes.{Appends, Keeps};
 ghost use Rattle.fare_outside.specs.Cause.{Rose};
 ghost use Rattle.fare_outside.specs.Sink.{AppendsPrefix};
-ghost use Rattle.fare_outside.specs.Keeper.{ToldAfter, BodyAppended};
+ghost use Rattle.fare_outside.specs.Keeper.{WhereTold, BodyAppended};
 
 use crate::*;
 use std::alloc::Global;
@@ -39,7 +39,7 @@ fn run_once<S: Source, K: Sink, P: Keeper, D: Door, G: Gate>(
     ensures written { result ≡ Ending.Done → IfSome (S.left src.old)
         (Appends (K.taken out.old) (K.taken out.new)) }
     ensures kept { result ≡ Ending.Done → IfSome (S.left src.old) (λ left.
-        ToldAfter (P.bodies store.old) (P.bodies store.new) (BodyAppended left)) }
+        WhereTold (P.bodies store.old) (P.bodies store.new) (BodyAppended left)) }
     ensures prefix { result ≡ Ending.WriteFault → IfSome (S.left src.old)
         (AppendsPrefix (K.taken out.old) (K.taken out.new)) }
     ensures silent { result ≢ Ending.Done → result ≢ Ending.WriteFault →
@@ -68,7 +68,7 @@ fn run_once<S: Source, K: Sink, P: Keeper, D: Door, G: Gate>(
 
 fn keep<P: Keeper>(alloc: Global, store: &mut P, body: &[u8]) -> Result<(), KeepFault>
     ensures ok { OnOk result
-        (ToldAfter (P.bodies store.old) (P.bodies store.new) (BodyAppended body.now)) }
+        (WhereTold (P.bodies store.old) (P.bodies store.new) (BodyAppended body.now)) }
     ensures cause { IsErrOf result KeepFault.Failed →
         Rose (P.faults store.old) (P.faults store.new) }
 {
