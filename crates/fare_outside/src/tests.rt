@@ -107,6 +107,34 @@ fn a_keeper_answers_by_place(rt: HostRuntime) -> Result<(), Fail> {
 }
 
 #[test]
+fn a_listed_call_of_a_keeper_fails(rt: HostRuntime) -> Result<(), Fail> {
+    let alloc = rt.alloc();
+    let mut fail = Vec::new(alloc);
+    fail.push(FailAt {
+        call: 1,
+        kept: false,
+    })?;
+    fail.push(FailAt {
+        call: 3,
+        kept: true,
+    })?;
+    fail.push(FailAt {
+        call: 4,
+        kept: false,
+    })?;
+    let mut store = MemKeeper::new(Bodies::new(alloc), fail);
+    assert_eq!(rt; store.open(alloc, "editions"), Err(KeepFault::Failed));
+    store.open(alloc, "editions")?;
+    assert_eq!(rt; store.append(alloc, b"one"), Err(KeepFault::Failed));
+    assert_eq!(rt; store.append(alloc, b"two"), Err(KeepFault::Failed));
+    store.append(alloc, b"three")?;
+    assert_eq!(rt; store.len(alloc)?, 2);
+    assert_eq!(rt; store.kept().get(0), Some(b"one".as_slice()));
+    assert_eq!(rt; store.load(alloc, 2)?.as_slice(), b"three".as_slice());
+    Ok(())
+}
+
+#[test]
 fn a_plain_door_stays_shut(rt: HostRuntime) {
     let mut door = PlainDoor::new();
     assert_eq!(rt; door.listen(80), Ok(()));
