@@ -46,7 +46,8 @@ with_body earlier body = with_edition earlier (read_behind earlier body)
 
 -- a list of editions, and then one that goes on from it: the first damage counts
 infixl 10 ◌>>=◌
-abbrev pub ◌>>=◌ : Result (List Tariff) DamageAt → (List Tariff → Result (List Tariff) DamageAt) → Result (List Tariff) DamageAt
+abbrev pub ◌>>=◌ : Result (List Tariff) DamageAt
+    → (List Tariff → Result (List Tariff) DamageAt) → Result (List Tariff) DamageAt
 (Ok editions) >>= next = next editions
 (Err found) >>= next = Err found
 

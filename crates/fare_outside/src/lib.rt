@@ -6,7 +6,8 @@
 //! - `reading`, `writing`: a whole source, and a whole text, over any source and sink;
 //! - `bytes`, `bodies`: lists that grow, or refuse and stay as they were;
 //! - `plain_*`: objects in memory that never fail; `mem_*`: the same with a list of failing calls;
-//! - `calls`, `failures`, `fail_at`, `count`, `room`: which calls of those fail, how failures are counted, and what fits;
+//! - `calls`, `failures`, `fail_at`, `count`, `room`: which calls of those fail, how failures are
+//!   counted, and what fits;
 //! - `std_*`: standard input and standard output.
 #![tactic(auto)]
 
