@@ -1,10 +1,9 @@
 -- How the steps of a publication make one.
-use Rattle.std.proofs.Common.{◌≡◌, inl, inr, ℕ, List, Some, None, Result, Ok, Err, true, false, Bool, MatchBool, refl}
+use Rattle.std.proofs.Common.{◌≡◌, ◌≢◌, inl, inr, ℕ, List, Some, None, Result, Ok, Err, true, false, Bool, MatchBool, refl}
 use Rattle.fare_outside.specs.Keeper.{ToldAfter, WhereTold, BodiesStay, BodyAppended, MayAppend}
 use Rattle.fare_tariff.specs.Tariff.{Tariff}
 use Rattle.fare_csv.specs.declared.text_fault.TextFault.{TextFault}
 use Rattle.fare_csv.specs.declared.text_fault.TextFault.TheVariants as tariff
-use Rattle.fare_csv.specs.Fields.{GivesFault}
 use Rattle.fare_csv.specs.TariffText.{edition_of}
 use Rattle.fare_csv.specs.CanonicalText.{canonical_text}
 use Rattle.fare_book.specs.declared.restore_fault.RestoreFault.{RestoreFault}
@@ -16,7 +15,6 @@ use Rattle.fare_book.specs.Editions.{DamageAt, editions_of}
 use Rattle.fare_book.specs.Faults.{reopening_fault, text_fault}
 use Rattle.fare_book.specs.Publish.{Answer, Offers, Publishes}
 use Rattle.fare_book.specs.Reopens.{Opens, OpensAs, Stay, Told}
-use Rattle.fare_book.proofs.Readings.{fault_of_reading}
 
 -- the bodies of a keeper, and what a call makes of them
 abbrev pub Change : Type 1
@@ -28,9 +26,9 @@ stay_same None = tt
 stay_same (Some bodies) = refl
 
 -- a reading's fault changes nothing
-pub malformed : (told : Told) (book : BookState) (bytes : List ℕ) (fault : TextFault) → GivesFault fault (edition_of bytes) → Publishes book book bytes (Err (text_fault fault)) told told
+pub malformed : (told : Told) (book : BookState) (bytes : List ℕ) (fault : TextFault) → (fault ≢ tariff.Memory → edition_of bytes ≡ Err fault) → Publishes book book bytes (Err (text_fault fault)) told told
 malformed told book bytes tariff.Memory gives = (inl refl, stay_same told)
-malformed told book bytes fault gives = (fault_of_reading fault (edition_of bytes) (λ e. cc) gives, refl, stay_same told)
+malformed told book bytes fault gives = (gives (λ e. cc), refl, stay_same told)
 
 -- an opening's fault changes nothing
 pub stopped : (before after : Told) (book new : BookState) (bytes : List ℕ) (edition : Tariff) (found : RestoreFault) → edition_of bytes ≡ Ok edition → Opens {A = Unit {0}} book new (Err found) before after → Stay before after → Publishes book new bytes (Err (reopening_fault found)) before after

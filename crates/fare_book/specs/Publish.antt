@@ -1,5 +1,6 @@
 -- What a call answers that publishes a text, and the book and the bodies that it leaves.
-use Rattle.std.specs.Prelude.{◌≡◌, ◌≢◌, ◌⊎◌, ◌≤◌, ◌<◌, ℕ, true, false, List, [], ◌∷◌, ◌++◌, length, Some, None, Result, Ok, Err}
+use Rattle.std.specs.Prelude.{◌≡◌, ◌≢◌, ◌⊎◌, ◌≤◌, ◌<◌, ℕ, true, false, List, [], ◌∷◌, ◌++◌, length, Some, None, Result}
+use Rattle.std.specs.Prelude.{Ok, Err}
 use Rattle.fare_outside.specs.Keeper.{ToldAfter, BodyAppended, MayAppend}
 use Rattle.fare_tariff.specs.Tariff.{Tariff}
 use Rattle.fare_csv.specs.TariffText.{edition_of}
@@ -7,7 +8,8 @@ use Rattle.fare_csv.specs.CanonicalText.{canonical_text}
 use Rattle.fare_book.specs.declared.published.Published.{Published}
 use Rattle.fare_book.specs.declared.published.Published.TheVariants.{New, Already}
 use Rattle.fare_book.specs.declared.publish_fault.PublishFault.{PublishFault}
-use Rattle.fare_book.specs.declared.publish_fault.PublishFault.TheVariants.{Memory, Malformed, Differs, Full, KeeperFault, Damaged}
+use Rattle.fare_book.specs.declared.publish_fault.PublishFault.TheVariants.{Memory, Malformed, Differs, Full}
+use Rattle.fare_book.specs.declared.publish_fault.PublishFault.TheVariants.{KeeperFault, Damaged}
 use Rattle.fare_book.specs.Book.{BookState, most_editions, numbered, settled, unsettled}
 use Rattle.fare_book.specs.Reopens.{OpensAs, Stay, Told}
 

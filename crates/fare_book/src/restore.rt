@@ -1,10 +1,12 @@
 //! A book from the bodies of a keeper.
 
-ghost use Rattle.std.specs.Prelude.{◌≡◌, ◌≢◌, ◌<◌, ◌≤◌, ◌+◌, [], length, true, None, position, IfOk, IfErr, IfSome, OnOk, IsErrOf, IsTrue, Err, option_map};
+ghost use Rattle.std.specs.Prelude.{◌≡◌, ◌≢◌, ◌<◌, ◌≤◌, ◌+◌, [], length, true, None, position, IfOk, IfErr, IfSome};
+ghost use Rattle.std.specs.Prelude.{OnOk, IsErrOf, IsTrue, Err, option_map};
 ghost use Rattle.fare_outside.specs.Cause.{Rose};
 ghost use Rattle.fare_csv.specs.TariffText.{edition_of};
 ghost use Rattle.fare_book.specs.Book.{has_number, numbered};
-ghost use Rattle.fare_book.specs.Editions.{DamageAt, edition_behind, editions_of, place_of, read_behind, with_body, with_bodies};
+ghost use Rattle.fare_book.specs.Editions.{DamageAt, edition_behind, editions_of, place_of, read_behind, with_body};
+ghost use Rattle.fare_book.specs.Editions.{with_bodies};
 ghost use Rattle.fare_book.specs.Reopens.{IsServed, Stay};
 ghost use Rattle.fare_book.specs.Restored.{CarriesDamage, Gives};
 
@@ -91,7 +93,7 @@ impl Book {
 }
 
 /// The edition that a body stands for behind others.
-#[tactic(auto, using(crate::proofs::Readings::fault_of_reading), unfolding(crate::specs::Editions::read_behind, fare_csv::specs::Fields::Gives))]
+#[tactic(auto, unfolding(crate::specs::Editions::read_behind))]
 fn read_behind<R: Threads + Sync>(
     rt: &R,
     alloc: Global,

@@ -1,5 +1,6 @@
 -- What the calls of a keeper do to its bodies, where they are told.
-use Rattle.std.specs.Prelude.{◌≡◌, ◌⊎◌, ℕ, ◌-◌, ◌≤◌, List, [], ◌∷◌, ◌++◌, Option, Some, None, length, slice_get, slice_set, ⊤}
+use Rattle.std.specs.Prelude.{◌≡◌, ◌⊎◌, ℕ, ◌-◌, ◌≤◌, List, [], ◌∷◌, ◌++◌, Option, Some, None, length, slice_get}
+use Rattle.std.specs.Prelude.{slice_set, ⊤}
 
 -- where the bodies are told after a call, they were told before it, and this relation holds of them
 abbrev pub ToldAfter : Option (List (List ℕ)) → Option (List (List ℕ))

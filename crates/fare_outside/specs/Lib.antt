@@ -7,3 +7,4 @@ pub mod Calls
 pub mod Failures
 pub mod Room
 pub mod Objects
+pub mod Memory

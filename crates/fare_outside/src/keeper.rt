@@ -1,8 +1,10 @@
-ghost use Rattle.std.specs.Prelude.{◌≡◌, ℕ, ◌≤◌, ◌||◌, Bool, List, Option, length, is_ok, IfOk, IfSome, OnOk, IsErrOf, IsTrue, Some};
+ghost use Rattle.std.specs.Prelude.{◌≡◌, ℕ, ◌≤◌, ◌||◌, Bool, List, Option, length, is_ok, IfOk, IfSome, OnOk, IsErrOf};
+ghost use Rattle.std.specs.Prelude.{IsTrue, Some};
 ghost use Rattle.std.specs.Option.{ForSome};
 ghost use Rattle.fare_outside.specs.declared.keeper.KeepFault.TheVariants.{Memory};
 ghost use Rattle.fare_outside.specs.Cause.{Rose};
-ghost use Rattle.fare_outside.specs.Keeper.{ToldAfter, WhereTold, BodiesStay, BodyAppended, MayAppend, BodyReplaced, MayReplace, HasPlace, body_at};
+ghost use Rattle.fare_outside.specs.Keeper.{ToldAfter, WhereTold, BodiesStay, BodyAppended, MayAppend, BodyReplaced};
+ghost use Rattle.fare_outside.specs.Keeper.{MayReplace, HasPlace, body_at};
 
 use crate::NoMemory;
 use std::alloc::{AllocError, AllocFailed, Global};

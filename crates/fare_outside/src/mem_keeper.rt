@@ -1,4 +1,5 @@
-ghost use Rattle.std.specs.Prelude.{false, ◌≡◌, ◌≤◌, ◌||◌, ◌↔◌, Some, length, is_ok, IfOk, OnOk, IsErr, IsErrOf, IsTrue, IsSome, IsSomeAnd};
+ghost use Rattle.std.specs.Prelude.{false, ◌≡◌, ◌≤◌, ◌||◌, ◌↔◌, Some, length, is_ok, IfOk, OnOk, IsErr, IsErrOf};
+ghost use Rattle.std.specs.Prelude.{IsTrue, IsSome, IsSomeAnd};
 ghost use Rattle.std.specs.Option.{ForSome};
 ghost use Rattle.fare_outside.specs.Cause.{Rose};
 ghost use Rattle.fare_outside.specs.Failures.{next_failure, answer_or};
