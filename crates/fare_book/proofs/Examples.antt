@@ -1,6 +1,7 @@
 -- Books of short editions, computed on the definitions.
 use Prim.Native.String.{String}
-use Rattle.std.specs.Prelude.{◌≡◌, refl, ⊤, ℕ, List, [], ◌∷◌, Option, Some, None, option_map, map, codes, false, Ok, Err}
+use Rattle.std.proofs.Common.{◌≡◌, ◌≢◌, refl, ℕ, List, [], ◌∷◌, Option, Some, None, map, length, Ok, Err, arith, ap}
+use Rattle.std.specs.Prelude.{⊤, option_map, codes}
 use Rattle.csv.proofs.OnLiterals.{csv_on_literals}
 use Rattle.std.specs.Fmt.{digits}
 use Rattle.jiff_core.specs.Calendar.{days_of_months}
@@ -10,7 +11,7 @@ use Rattle.fare_codes.specs.Words.{read_area, read_mode}
 use Rattle.fare_tariff.specs.Check.{first_fault_from, is_one_unknown, kind_of}
 use Rattle.fare_tariff.specs.Tariff.{Tariff}
 use Rattle.fare_csv.specs.declared.text_fault.TextFault.TheVariants.{NoHeader}
-use Rattle.fare_csv.specs.CanonicalText.{canonical_rows, record_row}
+use Rattle.fare_csv.specs.CanonicalText.{canonical_rows, canonical_text, record_row}
 use Rattle.fare_csv.specs.Fields.{counted}
 use Rattle.fare_csv.specs.Head.{head_of, read_version}
 use Rattle.fare_csv.specs.Lines.{line_of, lines_of}
@@ -21,11 +22,10 @@ use Rattle.fare_csv.specs.Rows.{rows_of}
 use Rattle.fare_csv.specs.TariffText.{edition_of, end_of, ended_by, followed_by, headed, nothing_after, record_of, record_of_kind, records_of, tariff_of}
 use Rattle.fare_book.specs.declared.damage.Damage.TheVariants.{Text, Repeat}
 use Rattle.fare_book.specs.declared.published.Published.TheVariants.{New, Already}
-use Rattle.fare_book.specs.declared.publish_fault.PublishFault.TheVariants.{Malformed, Differs, Full, Damaged}
-use Rattle.fare_book.specs.Book.{BookState}
+use Rattle.fare_book.specs.declared.publish_fault.PublishFault.TheVariants.{Differs, Full}
+use Rattle.fare_book.specs.Book.{settled}
 use Rattle.fare_book.specs.Editions.{editions_of, read_behind, with_bodies}
-use Rattle.fare_book.specs.Publish.{Answer, answer_beside, answer_to, publish, settled}
-use Rattle.fare_book.specs.SameEdition.{same_edition, same_record}
+use Rattle.fare_book.specs.Publish.{HasNoRoom, IsNewTo, Offers}
 use Rattle.fare_book.specs.Selected.{selected}
 
 -- what computes a reading and a spelling of a literal text
@@ -52,15 +52,12 @@ pub days_select :
 unfolding selected day_number days_since_1970 days_of_months three_editions
 days_select = refl
 
--- the same edition in either version, and one with another rounding unit
+-- the same edition in either version
 pub in_version_1 : List ℕ
 in_version_1 = codes "HEAD,1,1,2025-01-01\nCUR,GB,GBP,0.750000,0,1,U\nCITY,LON,GB,2\nEND\n"
 
 pub in_version_2 : List ℕ
 in_version_2 = codes "HEAD,2,1,2025-01-01\nCUR,GB,GBP,0.750000,0,1,U\nCITY,LON,GB,2\nEND\n"
-
-pub in_tens : List ℕ
-in_tens = codes "HEAD,1,1,2025-01-01\nCUR,GB,GBP,0.750000,0,10,U\nCITY,LON,GB,2\nEND\n"
 
 -- the damages of a body that is no tariff's text, and of a number that stands at an earlier place
 pub junk_is_damaged : editions_of (in_version_1 ∷ codes "junk" ∷ []) ≡ Err (record { place = 2; damage = Text NoHeader })
@@ -71,43 +68,18 @@ pub repeat_is_damaged : editions_of (in_version_1 ∷ in_version_2 ∷ []) ≡ E
 unfolding editions_of with_bodies read_behind texts_on_literals in_version_1 in_version_2
 repeat_is_damaged = refl
 
--- the book of no edition
-pub no_edition : BookState
-no_edition = settled []
+-- either version stands for the same edition, and its canonical text is in version 2
+pub either_version_is_one : edition_of in_version_1 ≡ edition_of in_version_2
+unfolding texts_on_literals in_version_1 in_version_2
+either_version_is_one = refl
 
--- a text is stored as its canonical text
-pub new_is_canonical : (publish no_edition [] in_version_1).bodies ≡ in_version_2 ∷ []
-unfolding publish answer_beside texts_on_literals no_edition in_version_1 in_version_2
-new_is_canonical = refl
+-- the edition 1 of those three is new to no edition, and becomes the one edition
+pub first_is_new : IsNewTo [] (effective_from 1 "2025-01-01")
+first_is_new = record { new = refl; room = omega arith }
 
--- what two texts are answered, published one after the other
-abbrev answers : List ℕ → List ℕ → Answer × Answer
-answers first second =
-    let made = publish no_edition [] first in (made.answer, (publish made.book made.bodies second).answer)
-
-pub either_version_is_already : answers in_version_1 in_version_2 ≡ (Ok (New 1), Ok (Already 1))
-unfolding publish answer_beside same_edition same_record texts_on_literals no_edition in_version_1 in_version_2
-either_version_is_already = refl
-
-pub other_unit_differs : answers in_version_1 in_tens ≡ (Ok (New 1), Err (Differs 1))
-unfolding publish answer_beside same_edition same_record texts_on_literals no_edition in_version_1 in_tens
-other_unit_differs = refl
-
-pub junk_is_malformed : answers in_version_1 (codes "junk") ≡ (Ok (New 1), Err (Malformed NoHeader))
-unfolding publish answer_beside texts_on_literals no_edition in_version_1
-junk_is_malformed = refl
-
--- a book that isn't settled is reopened before the edition is looked at
-pub unsettled_book : BookState
-unsettled_book = record { editions = []; settled = false }
-
-pub damage_before_the_edition : (publish unsettled_book (in_version_1 ∷ codes "junk" ∷ []) in_tens).answer ≡ Err (Damaged 2 (Text NoHeader))
-unfolding publish editions_of with_bodies read_behind texts_on_literals unsettled_book in_version_1 in_tens
-damage_before_the_edition = refl
-
-pub reopened_before_the_edition : (publish unsettled_book (in_version_1 ∷ []) in_version_2).answer ≡ Ok (Already 1)
-unfolding publish answer_beside editions_of with_bodies read_behind same_edition same_record texts_on_literals unsettled_book in_version_1 in_version_2
-reopened_before_the_edition = refl
+-- it stands in a book that has it already
+pub first_is_already : (bodies : List (List ℕ)) → Offers (effective_from 1 "2025-01-01" ∷ []) (effective_from 1 "2025-01-01") (Ok (Already 1)) (settled (effective_from 1 "2025-01-01" ∷ [])) (Some bodies) (Some bodies)
+first_is_already bodies = (refl, refl, refl, refl)
 
 -- 32 editions, and one more or one of these
 pub full_book : List Tariff
@@ -115,7 +87,7 @@ full_book =
     map (λ number. effective_from number "2025-01-01")
     (1 ∷ 2 ∷ 3 ∷ 4 ∷ 5 ∷ 6 ∷ 7 ∷ 8 ∷ 9 ∷ 10 ∷ 11 ∷ 12 ∷ 13 ∷ 14 ∷ 15 ∷ 16 ∷ 17 ∷ 18 ∷ 19 ∷ 20 ∷ 21 ∷ 22 ∷ 23 ∷ 24 ∷ 25 ∷ 26 ∷ 27 ∷ 28 ∷ 29 ∷ 30 ∷ 31 ∷ 32 ∷ [])
 
-pub full_for_a_new_number :
-    map (λ number. answer_to full_book (effective_from number "2025-01-01")) (33 ∷ 1 ∷ []) ≡ (Err Full ∷ Ok (Already 1) ∷ [])
-unfolding answer_beside same_edition same_record full_book
-full_for_a_new_number = refl
+-- there is no room for one of another number
+pub full_for_a_new_number : HasNoRoom full_book (effective_from 33 "2025-01-01")
+unfolding full_book
+full_for_a_new_number = record { new = refl; full = omega arith }

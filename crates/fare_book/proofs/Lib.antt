@@ -3,10 +3,10 @@ pub mod Numbers
 pub mod Places
 pub mod Bodies
 pub mod SameEditions
-pub mod Answers
+pub mod EditionLists
 pub mod Publications
-pub mod Untold
 pub mod Standing
 pub mod Repeats
+pub mod WordsOfBodies
 pub mod Examples
 pub mod Latest

@@ -1,173 +1,178 @@
--- A text of an edition that stands is published already.
-use Rattle.std.proofs.Common.{◌≡◌, ◌≢◌, ◌<◌, ◌+◌, ◌==◌, ℕ, suc, zero, inl, inr, List, [], ◌∷◌, ◌++◌, ◌⊎◌, length, get_or, Option, Some, None, option_map, Result, Ok, Err, true, false, Bool, arith, refl, ap, eq-eqb}
-use Rattle.std.specs.List.{AllPairs, Contains, position}
-use Rattle.std.proofs.lemmas.Bool.Decides.{nat_tests}
-use Rattle.std.proofs.lemmas.List.Elements.{Contains-append_left}
-use Rattle.std.proofs.lemmas.List.Quantifiers.{all_pairs_push}
+-- An edition that stands in a book still does after publications, and a text of it is published already.
+use Rattle.std.proofs.Common.{◌≡◌, ◌≢◌, ◌⊎◌, ◌<◌, ℕ, suc, zero, inl, inr, List, [], ◌∷◌, ◌++◌, length, get_or, Some, Ok, Err, arith, refl, sym, ◌∙◌, ap, eq-eqb, length-append}
+use Rattle.std.specs.List.{Contains, filter}
+use Rattle.std.proofs.Math.ListN.{get_or-append}
+use Rattle.std.proofs.lemmas.List.Elements.{Contains-append_left, Contains-push}
 use Rattle.fare_tariff.specs.Tariff.{Tariff}
-use Rattle.fare_csv.specs.declared.text_fault.TextFault.{TextFault}
 use Rattle.fare_csv.specs.TariffText.{edition_of}
-use Rattle.fare_book.specs.declared.damage.Damage.{Damage}
 use Rattle.fare_book.specs.declared.published.Published.TheVariants.{New, Already}
-use Rattle.fare_book.specs.declared.publish_fault.PublishFault.TheVariants.{Memory, KeeperFault}
-use Rattle.fare_book.specs.Book.{BookState, HaveOtherNumbers, has_number, numbered}
-use Rattle.fare_book.specs.Editions.{DamageAt, at_place, edition_behind, editions_of, place_of, read_behind, unrepeated, with_body, with_bodies, with_edition}
-use Rattle.fare_book.specs.SameEdition.{same_edition}
-use Rattle.fare_book.specs.Publish.{Answer, answer_beside, answer_to, editions_after, publish, publish_reading, reopened}
-use Rattle.fare_book.specs.Publishes.{AppendFails, MayReopen, Publishes, ReopeningFails}
+use Rattle.fare_book.specs.declared.publish_fault.PublishFault.TheVariants.{Memory, Malformed, Differs, Full, KeeperFault, Damaged}
+use Rattle.fare_book.specs.Book.{BookState, has_number, numbered}
+use Rattle.fare_book.specs.Editions.{DamageAt, editions_of}
+use Rattle.fare_book.specs.Publish.{Answer, IsOffered, MayOpen, Offers, Publishes}
+use Rattle.fare_book.specs.Repeats.{IsCutOff, IsNewOf, IsRun, Publication, PublishesAll, StandsOnce}
+use Rattle.fare_book.specs.Reopens.{Told}
 use Rattle.fare_book.specs.Stands.{Stands}
-use Rattle.fare_book.proofs.Numbers.{none_has}
-use Rattle.fare_book.proofs.Places.{numbered_nowhere}
-use Rattle.fare_book.proofs.SameEditions.{edition_is}
-use Rattle.fare_book.proofs.Standing.{editions_one_by_one, went_on}
+use Rattle.fare_book.proofs.EditionLists.{AreDistinct, editions_distinct, numbered_of, other_number}
+use Rattle.fare_book.proofs.Standing.{no_damage, opened_is, publishes_stands}
 
--- editions of which no two have one number
-abbrev pub AreDistinct : List Tariff → Type 0
-AreDistinct editions = AllPairs HaveOtherNumbers editions
+-- what a book that stands opens as has the editions of the book
+opened_contains : (old : BookState) (before : List (List ℕ)) (editions : List Tariff) (kept : Tariff) → Stands old before → editions_of before ≡ Ok editions → Contains old.editions kept → Contains editions kept
+opened_contains old before editions kept (inl e) is there = let same : old.editions ≡ editions = cc in rw same at there
+opened_contains old before editions kept (inr w) is there =
+    let e = w.1.1 in
+    let same : old.editions ++ w.1.0 ∷ [] ≡ editions = cc in
+    rw same at (Contains-append_left old.editions (w.1.0 ∷ []) kept there)
 
-other_number : (a b : ℕ) → a ≢ b → (a == b) ≡ false
-other_number a b apart = grind (arith, nat_tests)
+-- an offer keeps each edition
+offer_keeps : (editions : List Tariff) (edition kept : Tariff) (answer : Answer) (new : BookState) (before after : Told) → Offers editions edition answer new before after → Contains editions kept → Contains new.editions kept
+offer_keeps editions edition kept (Ok (New number)) new before after offers there = rw offers.2 (Contains-append_left editions (edition ∷ []) kept there)
+offer_keeps editions edition kept (Ok (Already number)) new before after offers there = rw offers.2 there
+offer_keeps editions edition kept (Err (Differs number)) new before after offers there = rw offers.2 there
+offer_keeps editions edition kept (Err Full) new before after offers there = rw offers.1 there
+offer_keeps editions edition kept (Err KeeperFault) new before after offers there = rw offers.1 there
+offer_keeps editions edition kept (Err Memory) new before after offers there = rw offers.0 there
+offer_keeps editions edition kept (Err (Malformed fault)) new before after offers there = absurd offers
+offer_keeps editions edition kept (Err (Damaged place damage)) new before after offers there = absurd offers
 
--- an edition is the one of its number
-numbered_at : (editions : List Tariff) (edition : Tariff) (k : ℕ) → AreDistinct editions → k < length editions → get_or editions k edition ≡ edition → numbered edition.number editions ≡ Some edition
-numbered_at [] edition k distinct within at = absurd (omega arith)
-numbered_at (one ∷ others) edition zero distinct within at =
-    let yes = eq-eqb one.number edition.number (ap (λ (e : Tariff). e.number) at) in rw yes (ap Some at)
-numbered_at (one ∷ others) edition (suc k) distinct within at =
-    let apart : one.number ≢ edition.number = rw at at (distinct 0 (suc k) edition (omega arith) within) in
-    let other = other_number one.number edition.number apart in
-    rw other (numbered_at others edition k (λ i j d before inside. distinct (suc i) (suc j) d (omega arith) (omega arith)) (omega arith) at)
+offered_keeps : (old new : BookState) (bytes : List ℕ) (answer : Answer) (before after : List (List ℕ)) (kept : Tariff) → Stands old before → IsOffered old new bytes answer (Some before) (Some after) → Contains old.editions kept → Contains new.editions kept
+offered_keeps old new bytes answer before after kept stands made there =
+    let is = opened_is old before after (Ok made.editions) old.settled refl made.opened stands in
+    offer_keeps made.editions made.edition kept answer new (Some before) (Some after) made.offers (opened_contains old before made.editions kept stands is there)
 
-pub numbered_of : (editions : List Tariff) (edition : Tariff) → AreDistinct editions → Contains editions edition → numbered edition.number editions ≡ Some edition
-numbered_of editions edition distinct there = numbered_at editions edition there.0 distinct there.1 there.2
+memory_keeps : (old new : BookState) (before after : List (List ℕ)) (kept : Tariff) → Stands old before → MayOpen old new (Some before) (Some after) → Contains old.editions kept → Contains new.editions kept
+memory_keeps old new before after kept stands (inl same) there = rw same there
+memory_keeps old new before after kept stands (inr opens) there =
+    opened_contains old before new.editions kept stands (opened_is old before after (Ok new.editions) old.settled refl opens.1 stands) there
 
--- what is read behind others repeats none of their numbers
-no_place : (place : Option ℕ) (one edition : Tariff) → unrepeated one place ≡ Ok edition → (place ≡ None) × (one ≡ edition)
-no_place None one edition e = (refl, cc)
-no_place (Some place) one edition e = absurd cc
-
-no_index : (index : Option ℕ) → option_map (λ i. i + 1) index ≡ None → index ≡ None
-no_index None e = refl
-no_index (Some index) e = absurd cc
-
-behind_is_new : (earlier : List Tariff) (reading : Result Tariff TextFault) (edition : Tariff) → edition_behind earlier reading ≡ Ok edition → numbered edition.number earlier ≡ None
-behind_is_new earlier (Err fault) edition e = absurd cc
-behind_is_new earlier (Ok one) edition e =
-    let found = no_place (place_of one.number earlier) one edition e in
-    let none = numbered_nowhere one.number earlier (no_index (position (has_number one.number) earlier) found.0) in
-    rw found.1 at none
-
-placed_ok : (place : ℕ) (found : Result Tariff Damage) (edition : Tariff) → at_place place found ≡ Ok edition → found ≡ Ok edition
-placed_ok place (Ok one) edition e = let is : one ≡ edition = cc in ap Ok is
-placed_ok place (Err damage) edition e = absurd cc
-
-added_ok : (earlier editions : List Tariff) (found : Result Tariff DamageAt) → with_edition earlier found ≡ Ok editions → (edition : Tariff) × (found ≡ Ok edition) × (earlier ++ edition ∷ [] ≡ editions)
-added_ok earlier editions (Ok edition) e = (edition, refl, cc)
-added_ok earlier editions (Err found) e = absurd cc
-
--- a body keeps the numbers apart
-body_distinct : (earlier editions : List Tariff) (body : List ℕ) → AreDistinct earlier → with_body earlier body ≡ Ok editions → AreDistinct editions
-unfolding read_behind
-body_distinct earlier editions body distinct e =
-    let added = added_ok earlier editions (read_behind earlier body) e in
-    let found = placed_ok (length earlier + 1) (edition_behind earlier (edition_of body)) added.0 added.1 in
-    let new = behind_is_new earlier (edition_of body) added.0 found in
-    rw added.2 at (all_pairs_push HaveOtherNumbers earlier added.0 distinct (none_has added.0.number earlier new))
-
--- and so do bodies
-bodies_distinct : (earlier editions : List Tariff) (bodies : List (List ℕ)) → AreDistinct earlier → with_bodies earlier bodies ≡ Ok editions → AreDistinct editions
-unfolding with_bodies
-bodies_distinct earlier editions [] distinct e = let is : earlier ≡ editions = cc in rw is at distinct
-bodies_distinct earlier editions (body ∷ bodies) distinct e =
-    let step = went_on (with_body earlier body) (λ middle. with_bodies middle bodies) editions e in
-    bodies_distinct step.0 editions bodies (body_distinct earlier step.0 body distinct step.1) step.2
-
-pub editions_distinct : (bodies : List (List ℕ)) (editions : List Tariff) → editions_of bodies ≡ Ok editions → AreDistinct editions
-editions_distinct bodies editions e =
-    bodies_distinct [] editions bodies (λ i j d before within. absurd (omega arith)) (editions_one_by_one bodies editions e)
-
--- the editions in which a publication in a book that stands goes on
-record GoesOn (book : BookState) (bodies : List (List ℕ)) (kept : Tariff) : Type 0 where
-  editions : List Tariff
-  opened : reopened book bodies ≡ Ok editions
-  contains : Contains editions kept
-  distinct : AreDistinct editions
-
-goes_on : (book : BookState) (bodies : List (List ℕ)) (kept : Tariff) (flag : Bool) → book.settled ≡ flag → Stands book bodies → Contains book.editions kept → GoesOn book bodies kept
-goes_on book bodies kept true flag (inl e) there = record {
-  editions = book.editions;
-  opened = rw flag refl;
-  contains = there;
-  distinct = editions_distinct bodies book.editions e;
-}
-goes_on book bodies kept true flag (inr w) there = let off = w.0 in absurd cc
-goes_on book bodies kept false flag (inl e) there = record {
-  editions = book.editions;
-  opened = rw flag e;
-  contains = there;
-  distinct = editions_distinct bodies book.editions e;
-}
-goes_on book bodies kept false flag (inr w) there = record {
-  editions = book.editions ++ w.1.0 ∷ [];
-  opened = rw flag w.1.1;
-  contains = Contains-append_left book.editions (w.1.0 ∷ []) kept there;
-  distinct = editions_distinct bodies (book.editions ++ w.1.0 ∷ []) w.1.1;
-}
-
--- the answer to an edition that stands
-answer_to_kept : (editions : List Tariff) (edition : Tariff) → AreDistinct editions → Contains editions edition → answer_to editions edition ≡ Ok (Already edition.number)
-unfolding answer_beside
-answer_to_kept editions edition distinct there =
-    let found = numbered_of editions edition distinct there in
-    let same : same_edition edition edition ≡ true = (edition_is edition edition).1 refl in
-    rw (found, same) refl
-
--- a repeat
-pub publish_again : (book : BookState) (bodies : List (List ℕ)) (bytes : List ℕ) (edition : Tariff) → Stands book bodies → Contains book.editions edition → edition_of bytes ≡ Ok edition → ((publish book bodies bytes).answer ≡ Ok (Already edition.number)) × ((publish book bodies bytes).bodies ≡ bodies)
-unfolding publish
-publish_again book bodies bytes edition stands there e =
-    let on = goes_on book bodies edition book.settled refl stands there in
-    let opened = on.opened in
-    let answer = answer_to_kept on.editions edition on.distinct on.contains in
-    (rw (e, opened, answer) refl, rw (e, opened, answer) refl)
-
--- an answer keeps each edition
-answer_keeps : (answer : Answer) (editions : List Tariff) (edition kept : Tariff) → Contains editions kept → Contains (editions_after answer editions edition) kept
-answer_keeps (Ok (New number)) editions edition kept there = Contains-append_left editions (edition ∷ []) kept there
-answer_keeps (Ok (Already number)) editions edition kept there = there
-answer_keeps (Err fault) editions edition kept there = there
-
-reading_keeps : (reading : Result Tariff TextFault) (book : BookState) (bodies : List (List ℕ)) (kept : Tariff) → Stands book bodies → Contains book.editions kept → Contains (publish_reading reading book bodies).book.editions kept
-reading_keeps (Err fault) book bodies kept stands there = there
-reading_keeps (Ok edition) book bodies kept stands there =
-    let on = goes_on book bodies kept book.settled refl stands there in
-    let opened = on.opened in
-    rw opened (answer_keeps (answer_to on.editions edition) on.editions edition kept on.contains)
+keeper_keeps : (old new : BookState) (bytes : List ℕ) (before after : List (List ℕ)) (kept : Tariff) → Stands old before → Publishes old new bytes (Err KeeperFault) (Some before) (Some after) → Contains old.editions kept → Contains new.editions kept
+keeper_keeps old new bytes before after kept stands (inl fails) there = let same = fails.book in rw same there
+keeper_keeps old new bytes before after kept stands (inr made) there = offered_keeps old new bytes (Err KeeperFault) before after kept stands made there
 
 -- a publication keeps each edition
-pub publish_keeps : (book : BookState) (bodies : List (List ℕ)) (bytes : List ℕ) (kept : Tariff) → Stands book bodies → Contains book.editions kept → Contains (publish book bodies bytes).book.editions kept
-unfolding publish
-publish_keeps book bodies bytes kept stands there = reading_keeps (edition_of bytes) book bodies kept stands there
+publishes_keeps : (old new : BookState) (bytes : List ℕ) (answer : Answer) (before after : List (List ℕ)) (kept : Tariff) → Stands old before → Publishes old new bytes answer (Some before) (Some after) → Contains old.editions kept → Contains new.editions kept
+publishes_keeps old new bytes (Err Memory) before after kept stands made there = memory_keeps old new before after kept stands made.0 there
+publishes_keeps old new bytes (Err (Malformed fault)) before after kept stands made there = rw made.1 there
+publishes_keeps old new bytes (Err (Damaged place damage)) before after kept stands made there = rw made.2 there
+publishes_keeps old new bytes (Err KeeperFault) before after kept stands made there = keeper_keeps old new bytes before after kept stands made there
+publishes_keeps old new bytes answer before after kept stands made there = offered_keeps old new bytes answer before after kept stands made there
 
--- the editions of a book that stands are among those in which a publication goes on
-opened_keeps : (old : BookState) (before : List (List ℕ)) (editions : List Tariff) (kept : Tariff) → Stands old before → reopened old before ≡ Ok editions → Contains old.editions kept → Contains editions kept
-opened_keeps old before editions kept stands opened there =
-    let on = goes_on old before kept old.settled refl stands there in
-    let here = on.opened in
-    let same : on.editions ≡ editions = cc in
-    rw same at on.contains
+-- a new edition is in the book
+publishes_new : (old new : BookState) (bytes : List ℕ) (number : ℕ) (before after : Told) (edition : Tariff) → Publishes old new bytes (Ok (New number)) before after → edition_of bytes ≡ Ok edition → Contains new.editions edition
+publishes_new old new bytes number before after edition made e =
+    let read = made.readable in
+    let same : edition ≡ made.edition = cc in
+    rw (made.offers.2, same) (Contains-push made.editions made.edition)
 
-memory_keeps : (old new : BookState) (before : List (List ℕ)) (kept : Tariff) → Stands old before → MayReopen old new before → Contains old.editions kept → Contains new.editions kept
-memory_keeps old new before kept stands (inl same) there = rw same there
-memory_keeps old new before kept stands (inr w) there =
-    let opened : reopened old before ≡ Ok new.editions = rw w.0 w.1 in opened_keeps old before new.editions kept stands opened there
+-- the answer to an edition that stands
+offer_again : (editions : List Tariff) (edition : Tariff) (answer : Answer) (new : BookState) (before after : List (List ℕ)) → numbered edition.number editions ≡ Some edition → Offers editions edition answer new (Some before) (Some after) → IsCutOff answer ⊎ ((answer ≡ Ok (Already edition.number)) × (after ≡ before))
+offer_again editions edition (Ok (New number)) new before after found offers = let none = offers.1.new in absurd cc
+offer_again editions edition (Ok (Already number)) new before after found offers = inr (rw offers.0 refl, offers.3)
+offer_again editions edition (Err (Differs number)) new before after found offers =
+    let other = offers.1.1 in
+    let same : offers.1.0 ≡ edition = cc in absurd (offers.1.2 same)
+offer_again editions edition (Err Full) new before after found offers = let none = offers.0.new in absurd cc
+offer_again editions edition (Err KeeperFault) new before after found offers = inl (inr refl)
+offer_again editions edition (Err Memory) new before after found offers = inl (inl refl)
+offer_again editions edition (Err (Malformed fault)) new before after found offers = absurd offers
+offer_again editions edition (Err (Damaged place damage)) new before after found offers = absurd offers
 
-failure_keeps : (old new : BookState) (bytes : List ℕ) (before after : List (List ℕ)) (kept : Tariff) → Stands old before → ReopeningFails old new bytes before after ⊎ AppendFails old new bytes before after → Contains old.editions kept → Contains new.editions kept
-failure_keeps old new bytes before after kept stands (inl fails) there = let same = fails.book in rw same there
-failure_keeps old new bytes before after kept stands (inr fails) there = opened_keeps old before new.editions kept stands fails.editions there
+offered_again : (old new : BookState) (bytes : List ℕ) (answer : Answer) (before after : List (List ℕ)) (edition : Tariff) → Stands old before → Contains old.editions edition → edition_of bytes ≡ Ok edition → IsOffered old new bytes answer (Some before) (Some after) → IsCutOff answer ⊎ ((answer ≡ Ok (Already edition.number)) × (after ≡ before))
+offered_again old new bytes answer before after edition stands there e made =
+    let is = opened_is old before after (Ok made.editions) old.settled refl made.opened stands in
+    let in_open = opened_contains old before made.editions edition stands is there in
+    let found = numbered_of made.editions edition (editions_distinct before made.editions is) in_open in
+    let read = made.readable in
+    let same : made.edition ≡ edition = cc in
+    offer_again made.editions edition answer new before after found (rw same at made.offers)
 
--- a call that publishes keeps each edition, whatever it answers
-pub call_keeps : (old new : BookState) (bytes : List ℕ) (answer : Answer) (before after : List (List ℕ)) (kept : Tariff) → Stands old before → Publishes old new bytes answer before after → Contains old.editions kept → Contains new.editions kept
-call_keeps old new bytes (Err Memory) before after kept stands made there = memory_keeps old new before kept stands made.1 there
-call_keeps old new bytes (Err KeeperFault) before after kept stands made there = failure_keeps old new bytes before after kept stands made there
-call_keeps old new bytes answer before after kept stands made there = rw made at (publish_keeps old before bytes kept stands there)
+-- a text of an edition that stands is published already, and leaves the bodies
+pub publishes_again : (old new : BookState) (bytes : List ℕ) (answer : Answer) (before after : List (List ℕ)) (edition : Tariff) → Stands old before → Contains old.editions edition → edition_of bytes ≡ Ok edition → Publishes old new bytes answer (Some before) (Some after) → IsCutOff answer ⊎ ((answer ≡ Ok (Already edition.number)) × (after ≡ before))
+publishes_again old new bytes (Err Memory) before after edition stands there e made = inl (inl refl)
+publishes_again old new bytes (Err KeeperFault) before after edition stands there e made = inl (inr refl)
+publishes_again old new bytes (Err (Malformed fault)) before after edition stands there e made = let bad = made.0 in absurd cc
+publishes_again old new bytes (Err (Damaged place damage)) before after edition stands there e made =
+    let found : DamageAt = record { place = place; damage = damage } in
+    absurd (no_damage old before found stands (opened_is old before after (Err found) old.settled refl made.1 stands))
+publishes_again old new bytes answer before after edition stands there e made = offered_again old new bytes answer before after edition stands there e made
+
+-- no edition has a number that none of these has
+filter_none : (number : ℕ) (editions : List Tariff) → ((k : ℕ) (d : Tariff) → k < length editions → (get_or editions k d).number ≢ number) → filter (has_number number) editions ≡ []
+filter_none number [] apart = refl
+filter_none number (one ∷ others) apart =
+    let other = other_number one.number number (apart zero one (omega arith)) in
+    rw other (filter_none number others (λ k d within. apart (suc k) d (omega arith)))
+
+filter_at : (editions : List Tariff) (edition : Tariff) (k : ℕ) → AreDistinct editions → k < length editions → get_or editions k edition ≡ edition → filter (has_number edition.number) editions ≡ edition ∷ []
+filter_at [] edition k distinct within at = absurd (omega arith)
+filter_at (one ∷ others) edition zero distinct within at =
+    let number = ap (λ (e : Tariff). e.number) at in
+    let yes = eq-eqb one.number edition.number number in
+    let none = filter_none edition.number others (λ j d inside same. distinct zero (suc j) d (omega arith) (omega arith) (let e = number in e ∙ sym same)) in
+    rw (yes, none) (ap (λ (e : Tariff). e ∷ []) at)
+filter_at (one ∷ others) edition (suc k) distinct within at =
+    let apart : one.number ≢ edition.number = rw at at (distinct 0 (suc k) edition (omega arith) within) in
+    let other = other_number one.number edition.number apart in
+    rw other (filter_at others edition k (λ i j d before inside. distinct (suc i) (suc j) d (omega arith) (omega arith)) (omega arith) at)
+
+-- the editions in front of one more have different numbers too
+front_distinct : (editions : List Tariff) (more : Tariff) → AreDistinct (editions ++ more ∷ []) → AreDistinct editions
+front_distinct editions more distinct i j d before within =
+    let longer = length-append editions (more ∷ []) in
+    let inside : i < length editions = omega arith in
+    let here : i < j = before in
+    let apart = distinct i j d before (omega arith) in
+    rw (get_or-append editions (more ∷ []) d i inside, get_or-append editions (more ∷ []) d j within) at apart
+
+-- an edition of a book that stands is the one of its number
+stands_distinct : (book : BookState) (bodies : List (List ℕ)) → Stands book bodies → (kept : Tariff) → Contains book.editions kept → StandsOnce book.editions kept
+stands_distinct book bodies (inl e) kept there = filter_at book.editions kept there.0 (editions_distinct bodies book.editions e) there.1 there.2
+stands_distinct book bodies (inr w) kept there =
+    let whole = editions_distinct bodies (book.editions ++ w.1.0 ∷ []) w.1.1 in
+    filter_at book.editions kept there.0 (front_distinct book.editions w.1.0 whole) there.1 there.2
+
+-- publications leave a book that stands
+pub run_stands : (start last : BookState) (first left : List (List ℕ)) (calls : List Publication) → Stands start first → PublishesAll start first calls last left → Stands last left
+unfolding PublishesAll
+run_stands start last first left [] stands run = rw (run.0, run.1) stands
+run_stands start last first left (made ∷ others) stands run =
+    let step = publishes_stands start run.0 made.text made.answer first run.1 run.2 stands in
+    run_stands run.0 last run.1 left others step.0 run.3
+
+-- publications keep each edition
+run_contains : (start last : BookState) (first left : List (List ℕ)) (calls : List Publication) (kept : Tariff) → Stands start first → PublishesAll start first calls last left → Contains start.editions kept → Contains last.editions kept
+unfolding PublishesAll
+run_contains start last first left [] kept stands run there = rw run.0 there
+run_contains start last first left (made ∷ others) kept stands run there =
+    let step = publishes_stands start run.0 made.text made.answer first run.1 run.2 stands in
+    let here = publishes_keeps start run.0 made.text made.answer first run.1 kept stands run.2 there in
+    run_contains run.0 last run.1 left others kept step.0 run.3 here
+
+-- an edition that was new at one of them is in the last book
+run_new : (start last : BookState) (first left : List (List ℕ)) (calls : List Publication) (made : Publication) (edition : Tariff) (k : ℕ) → Stands start first → PublishesAll start first calls last left → k < length calls → get_or calls k made ≡ made → IsNewOf made edition → Contains last.editions edition
+unfolding PublishesAll
+run_new start last first left [] made edition k stands run within at new = absurd (omega arith)
+run_new start last first left (one ∷ others) made edition zero stands run within at new =
+    let step = publishes_stands start run.0 one.text one.answer first run.1 run.2 stands in
+    let text = ap (λ (made : Publication). made.text) at in
+    let answer = ap (λ (made : Publication). made.answer) at in
+    let first_made : Publishes start run.0 made.text (Ok (New edition.number)) (Some first) (Some run.1) = rw (text, answer, new.0) at run.2 in
+    let here = publishes_new start run.0 made.text edition.number (Some first) (Some run.1) edition first_made new.1 in
+    run_contains run.0 last run.1 left others edition step.0 run.3 here
+run_new start last first left (one ∷ others) made edition (suc k) stands run within at new =
+    let step = publishes_stands start run.0 one.text one.answer first run.1 run.2 stands in
+    run_new run.0 last run.1 left others made edition k step.0 run.3 (omega arith) at new
+
+pub run_once : (start last : BookState) (first left : List (List ℕ)) (calls : List Publication) (made : Publication) (edition : Tariff) → IsRun start first calls last left → Contains calls made → IsNewOf made edition → StandsOnce last.editions edition
+run_once start last first left calls made edition run there new =
+    stands_distinct last left (run_stands start last first left calls run.stands run.made) edition (run_new start last first left calls made edition there.0 run.stands run.made there.1 there.2 new)
+
+pub run_keeps : (start last : BookState) (first left : List (List ℕ)) (calls : List Publication) (edition : Tariff) → IsRun start first calls last left → Contains start.editions edition → StandsOnce last.editions edition
+run_keeps start last first left calls edition run there =
+    stands_distinct last left (run_stands start last first left calls run.stands run.made) edition (run_contains start last first left calls edition run.stands run.made there)
+
+pub run_again : (start last later : BookState) (first left bodies : List (List ℕ)) (calls : List Publication) (made again : Publication) (edition : Tariff) → IsRun start first calls last left → Contains calls made → IsNewOf made edition → edition_of again.text ≡ Ok edition → Publishes last later again.text again.answer (Some left) (Some bodies) → IsCutOff again.answer ⊎ ((again.answer ≡ Ok (Already edition.number)) × (bodies ≡ left))
+run_again start last later first left bodies calls made again edition run there new e published =
+    let stands = run_stands start last first left calls run.stands run.made in
+    let in_last = run_new start last first left calls made edition there.0 run.stands run.made there.1 there.2 new in
+    publishes_again last later again.text again.answer left bodies edition stands in_last e published

@@ -1,5 +1,5 @@
 -- A book of published editions.
-use Rattle.std.specs.Prelude.{ℕ, ◌≤◌, ◌≢◌, ◌==◌, Bool, List, Option, length}
+use Rattle.std.specs.Prelude.{ℕ, true, false, ◌≤◌, ◌≢◌, ◌==◌, Bool, List, Option, length}
 use Rattle.std.specs.List.{AllPairs, find}
 use Rattle.fare_tariff.specs.Tariff.{Tariff}
 
@@ -7,6 +7,14 @@ use Rattle.fare_tariff.specs.Tariff.{Tariff}
 pub record BookState : Type 0 where
   pub editions : List Tariff
   pub settled : Bool
+
+-- a settled book of these editions
+abbrev pub settled : List Tariff → BookState
+settled editions = record { editions = editions; settled = true }
+
+-- a book of these editions that isn't settled
+abbrev pub unsettled : List Tariff → BookState
+unsettled editions = record { editions = editions; settled = false }
 
 -- the most editions that a book holds
 abbrev pub most_editions : ℕ

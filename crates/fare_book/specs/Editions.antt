@@ -1,5 +1,6 @@
 -- The editions that stored bodies stand for.
-use Rattle.std.specs.Prelude.{ℕ, ◌+◌, List, [], ◌∷◌, ◌++◌, length, position, Option, Some, None, option_map, Result, Ok, Err, nat_lt, if◌then◌else◌}
+use Rattle.std.specs.Prelude.{ℕ, ◌+◌, List, [], ◌∷◌, ◌++◌, length, position, Option, Some, None, option_map, Result, Ok}
+use Rattle.std.specs.Prelude.{Err, nat_lt, if◌then◌else◌}
 use Rattle.fare_tariff.specs.Tariff.{Tariff}
 use Rattle.fare_csv.specs.declared.text_fault.TextFault.{TextFault}
 use Rattle.fare_csv.specs.TariffText.{edition_of}
@@ -46,7 +47,8 @@ with_body earlier body = with_edition earlier (read_behind earlier body)
 
 -- a list of editions, and then one that goes on from it: the first damage counts
 infixl 10 ◌>>=◌
-abbrev pub ◌>>=◌ : Result (List Tariff) DamageAt → (List Tariff → Result (List Tariff) DamageAt) → Result (List Tariff) DamageAt
+abbrev pub ◌>>=◌ : Result (List Tariff) DamageAt
+    → (List Tariff → Result (List Tariff) DamageAt) → Result (List Tariff) DamageAt
 (Ok editions) >>= next = next editions
 (Err found) >>= next = Err found
 

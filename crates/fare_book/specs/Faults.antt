@@ -5,7 +5,8 @@ use Rattle.fare_csv.specs.declared.text_fault.TextFault.TheVariants as tariff
 use Rattle.fare_book.specs.declared.restore_fault.RestoreFault.{RestoreFault}
 use Rattle.fare_book.specs.declared.restore_fault.RestoreFault.TheVariants as restoring
 use Rattle.fare_book.specs.declared.publish_fault.PublishFault.{PublishFault}
-use Rattle.fare_book.specs.declared.publish_fault.PublishFault.TheVariants.{Memory, Malformed, Differs, Full, KeeperFault, Damaged}
+use Rattle.fare_book.specs.declared.publish_fault.PublishFault.TheVariants.{Memory, Malformed, Differs, Full}
+use Rattle.fare_book.specs.declared.publish_fault.PublishFault.TheVariants.{KeeperFault, Damaged}
 use Rattle.fare_book.specs.Restored.{IsDamage}
 
 -- a fault of the reopening keeps its kind

@@ -5,9 +5,10 @@ pub mod DamageText
 pub mod Book
 pub mod Selected
 pub mod Editions
+pub mod BodiesInWords
 pub mod Restored
 pub mod Faults
-pub mod SameEdition
+pub mod Reopens
 pub mod Publish
-pub mod Publishes
 pub mod Stands
+pub mod Repeats

@@ -1,78 +1,99 @@
--- What a publication answers, and the book and the bodies after it.
-use Rattle.std.specs.Prelude.{ℕ, true, List, [], ◌∷◌, ◌++◌, length, Option, Some, None, Result, Ok, Err, nat_le, if◌then◌else◌}
+-- What a call answers that publishes a text, and the book and the bodies that it leaves.
+use Rattle.std.specs.Prelude.{◌≡◌, ◌≢◌, ◌⊎◌, ◌≤◌, ◌<◌, ℕ, true, false, List, [], ◌∷◌, ◌++◌, length, Some, None, Result}
+use Rattle.std.specs.Prelude.{Ok, Err}
+use Rattle.fare_outside.specs.Keeper.{ToldAfter, BodyAppended, MayAppend}
 use Rattle.fare_tariff.specs.Tariff.{Tariff}
-use Rattle.fare_csv.specs.declared.text_fault.TextFault.{TextFault}
 use Rattle.fare_csv.specs.TariffText.{edition_of}
 use Rattle.fare_csv.specs.CanonicalText.{canonical_text}
 use Rattle.fare_book.specs.declared.published.Published.{Published}
 use Rattle.fare_book.specs.declared.published.Published.TheVariants.{New, Already}
 use Rattle.fare_book.specs.declared.publish_fault.PublishFault.{PublishFault}
-use Rattle.fare_book.specs.declared.publish_fault.PublishFault.TheVariants.{Malformed, Differs, Full, Damaged}
-use Rattle.fare_book.specs.Book.{BookState, numbered, most_editions}
-use Rattle.fare_book.specs.SameEdition.{same_edition}
-use Rattle.fare_book.specs.Editions.{DamageAt, editions_of}
+use Rattle.fare_book.specs.declared.publish_fault.PublishFault.TheVariants.{Memory, Malformed, Differs, Full}
+use Rattle.fare_book.specs.declared.publish_fault.PublishFault.TheVariants.{KeeperFault, Damaged}
+use Rattle.fare_book.specs.Book.{BookState, most_editions, numbered, settled, unsettled}
+use Rattle.fare_book.specs.Reopens.{OpensAs, Stay, Told}
 
 -- the answer to a publication
 abbrev pub Answer : Type 0
 Answer = Result Published PublishFault
 
--- a publication: its answer, and the book and the bodies that it leaves
-pub record Publication : Type 0 where
-  pub answer : Answer
-  pub book : BookState
-  pub bodies : List (List ℕ)
+-- no edition among these has this one's number, and there is room for one more
+pub record IsNewTo (editions : List Tariff) (edition : Tariff) : Type 0 where
+  pub new : numbered edition.number editions ≡ None
+  pub room : length editions < most_editions
 
--- an edition whose number stands in the book is published already where it is the same one, and else it differs; a
--- book of 32 is full for a new number
-unfoldable pub answer_beside : Option Tariff → List Tariff → Tariff → Answer
-answer_beside (Some kept) editions edition =
-    if same_edition kept edition then Ok (Already edition.number) else Err (Differs edition.number)
-answer_beside None editions edition =
-    if nat_le most_editions (length editions) then Err Full else Ok (New edition.number)
+-- another edition of this one's number stands among these: another effective day, or other records
+abbrev pub HasOther : List Tariff → Tariff → Type 0
+HasOther editions edition = (kept : Tariff) × (numbered edition.number editions ≡ Some kept) × (kept ≢ edition)
 
--- the answer to an edition that is offered to a settled book
-abbrev pub answer_to : List Tariff → Tariff → Answer
-answer_to editions edition = answer_beside (numbered edition.number editions) editions edition
+-- no edition among these has this one's number, and they are as many as a book holds
+pub record HasNoRoom (editions : List Tariff) (edition : Tariff) : Type 0 where
+  pub new : numbered edition.number editions ≡ None
+  pub full : most_editions ≤ length editions
 
--- a new edition is the last of the list; any other answer leaves the list
-abbrev pub editions_after : Answer → List Tariff → Tariff → List Tariff
-editions_after (Ok (New number)) editions edition = editions ++ edition ∷ []
-editions_after (Ok (Already number)) editions edition = editions
-editions_after (Err fault) editions edition = editions
+-- the edition's canonical text is read back as the edition, and was put behind the bodies
+abbrev pub Stores : Tariff → Told → Told → Type 0
+Stores edition before after =
+    (edition_of (canonical_text edition) ≡ Ok edition) × ToldAfter before after (BodyAppended (canonical_text edition))
 
--- the canonical text of a new edition is the last body; any other answer leaves the bodies
-abbrev pub bodies_after : Answer → List (List ℕ) → Tariff → List (List ℕ)
-bodies_after (Ok (New number)) bodies edition = bodies ++ canonical_text edition ∷ []
-bodies_after (Ok (Already number)) bodies edition = bodies
-bodies_after (Err fault) bodies edition = bodies
+-- the edition's canonical text is read back as the edition, and was put behind the bodies or not
+abbrev pub MayStore : Tariff → Told → Told → Type 0
+MayStore edition before after =
+    (edition_of (canonical_text edition) ≡ Ok edition) × ToldAfter before after (MayAppend (canonical_text edition))
 
--- a settled book of these editions
-abbrev pub settled : List Tariff → BookState
-settled editions = record { editions = editions; settled = true }
+-- the answer to an edition that is offered to an open book of these editions, and what it leaves: a new edition becomes
+-- the last; every other answer leaves the editions, and only a failed append leaves the book unsettled
+abbrev pub Offers : List Tariff → Tariff → Answer → BookState → Told → Told → Type 0
+Offers editions edition (Ok (New number)) new before after =
+    (number ≡ edition.number) × IsNewTo editions edition × (new ≡ settled (editions ++ edition ∷ []))
+    × Stores edition before after
+Offers editions edition (Ok (Already number)) new before after =
+    (number ≡ edition.number) × (numbered edition.number editions ≡ Some edition) × (new ≡ settled editions)
+    × Stay before after
+Offers editions edition (Err (Differs number)) new before after =
+    (number ≡ edition.number) × HasOther editions edition × (new ≡ settled editions) × Stay before after
+Offers editions edition (Err Full) new before after =
+    HasNoRoom editions edition × (new ≡ settled editions) × Stay before after
+Offers editions edition (Err KeeperFault) new before after =
+    IsNewTo editions edition × (new ≡ unsettled editions) × MayStore edition before after
+Offers editions edition (Err Memory) new before after = (new ≡ settled editions) × Stay before after
+Offers editions edition (Err (Malformed fault)) new before after = ⊥
+Offers editions edition (Err (Damaged place damage)) new before after = ⊥
 
--- what an answer makes of a settled book and its bodies
-abbrev pub published_as : Answer → List Tariff → List (List ℕ) → Tariff → Publication
-published_as answer editions bodies edition =
-    record { answer = answer; book = settled (editions_after answer editions edition); bodies = bodies_after answer bodies edition }
+-- a text is read, the book is opened, and the text's edition is offered to it
+pub record IsOffered (old new : BookState) (bytes : List ℕ) (answer : Answer) (before after : Told) : Type 0 where
+  pub edition : Tariff
+  pub editions : List Tariff
+  pub readable : edition_of bytes ≡ Ok edition
+  pub opened : OpensAs old before after (Ok editions)
+  pub offers : Offers editions edition answer new before after
 
--- the editions of a book, which are read again from the bodies where it isn't settled
-abbrev pub reopened : BookState → List (List ℕ) → Result (List Tariff) DamageAt
-reopened book bodies = if book.settled then Ok book.editions else editions_of bodies
+-- a book is as it was, or opened and settled
+abbrev pub MayOpen : BookState → BookState → Told → Told → Type 0
+MayOpen old new before after =
+    (new ≡ old) ⊎ ((new.settled ≡ true) × OpensAs old before after (Ok new.editions))
 
--- a refusal that changes nothing
-abbrev pub refused : PublishFault → BookState → List (List ℕ) → Publication
-refused fault book bodies = record { answer = Err fault; book = book; bodies = bodies }
+-- a text stands for an edition
+abbrev pub IsReadable : List ℕ → Type 0
+IsReadable bytes = (edition : Tariff) × (edition_of bytes ≡ Ok edition)
 
--- an edition is offered to the editions that a book has once it is reopened; damaged bodies change nothing
-abbrev pub offered_to : Result (List Tariff) DamageAt → BookState → List (List ℕ) → Tariff → Publication
-offered_to (Err found) book bodies edition = refused (Damaged found.place found.damage) book bodies
-offered_to (Ok editions) book bodies edition = published_as (answer_to editions edition) editions bodies edition
+-- the keeper failed while a book that isn't settled was opened for a readable text, and nothing changed
+pub record OpeningFails (old new : BookState) (bytes : List ℕ) (before after : Told) : Type 0 where
+  pub readable : IsReadable bytes
+  pub unsettled : old.settled ≡ false
+  pub book : new ≡ old
+  pub bodies : Stay before after
 
--- a text that stands for no edition changes nothing
-abbrev pub publish_reading : Result Tariff TextFault → BookState → List (List ℕ) → Publication
-publish_reading (Err fault) book bodies = refused (Malformed fault) book bodies
-publish_reading (Ok edition) book bodies = offered_to (reopened book bodies) book bodies edition
-
--- a text is published in a book over these bodies
-unfoldable pub publish : BookState → List (List ℕ) → List ℕ → Publication
-publish book bodies bytes = publish_reading (edition_of bytes) book bodies
+-- what each answer to a text says: its first fault, or what is wrong with the bodies of a book that isn't settled, and
+-- then nothing changed; a failure of the keeper, while the book was opened or at the append; want of memory, in a book
+-- that is opened or not; and every other answer is that to the text's edition in the open book
+abbrev pub Publishes : BookState → BookState → List ℕ → Answer → Told → Told → Type 0
+Publishes old new bytes (Err (Malformed fault)) before after =
+    (edition_of bytes ≡ Err fault) × (new ≡ old) × Stay before after
+Publishes old new bytes (Err (Damaged place damage)) before after =
+    IsReadable bytes × OpensAs old before after (Err (record { place = place; damage = damage })) × (new ≡ old)
+    × Stay before after
+Publishes old new bytes (Err KeeperFault) before after =
+    OpeningFails old new bytes before after ⊎ IsOffered old new bytes (Err KeeperFault) before after
+Publishes old new bytes (Err Memory) before after = MayOpen old new before after × Stay before after
+Publishes old new bytes answer before after = IsOffered old new bytes answer before after

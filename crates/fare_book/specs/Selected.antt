@@ -1,5 +1,6 @@
 -- The edition that a day selects.
-use Rattle.std.specs.Prelude.{Bool, ◌==◌, ◌&&◌, ◌||◌, List, Option, Some, None, fold, filter, nat_le, nat_lt, if◌then◌else◌}
+use Rattle.std.specs.Prelude.{Bool, ◌==◌, ◌&&◌, ◌||◌, List, Option, Some, None, fold, filter, nat_le, nat_lt}
+use Rattle.std.specs.Prelude.{if◌then◌else◌}
 use Rattle.fare_codes.specs.declared.day.Day.{Day}
 use Rattle.fare_codes.specs.Day.{day_number}
 use Rattle.fare_tariff.specs.Tariff.{Tariff}

@@ -1,8 +1,7 @@
 -- How a book and the stored bodies belong together.
 use Rattle.std.specs.Prelude.{◌≡◌, ◌⊎◌, ℕ, ⊤, List, [], ◌∷◌, ◌++◌, false, Ok, Err}
 use Rattle.fare_tariff.specs.Tariff.{Tariff}
-use Rattle.fare_book.specs.declared.published.Published.TheVariants.{New, Already}
-use Rattle.fare_book.specs.declared.publish_fault.PublishFault.TheVariants.{KeeperFault, Damaged}
+use Rattle.fare_book.specs.declared.publish_fault.PublishFault.TheVariants.{Damaged}
 use Rattle.fare_book.specs.Book.{BookState}
 use Rattle.fare_book.specs.Editions.{editions_of}
 use Rattle.fare_book.specs.Publish.{Answer}
@@ -24,10 +23,3 @@ IsUndamaged answer = ⊤
 -- a call that finds a book that stands leaves one that stands, and tells of no damage
 abbrev pub KeepsStanding : BookState → BookState → Answer → List (List ℕ) → List (List ℕ) → Type 0
 KeepsStanding old new answer before after = Stands old before → Stands new after × IsUndamaged answer
-
--- after an answer a new text may be the last body
-abbrev pub MayHaveStored : Answer → Type 0
-MayHaveStored (Ok (New number)) = ⊤
-MayHaveStored (Ok (Already number)) = ⊥
-MayHaveStored (Err KeeperFault) = ⊤
-MayHaveStored (Err fault) = ⊥

@@ -51,9 +51,12 @@ impl Book {
 
     /// Puts an edition of a new number last.
     pub(crate) fn add(&mut self, edition: Edition)
-        requires room { length self.old.editions < 32 }
+        requires room { length self.old.editions < MOST_EDITIONS }
         requires new { numbered edition.number self.old.editions ≡ None }
-        ensures { self.new ≡ record { editions = self.old.editions ++ edition ∷ []; settled = self.old.settled } }
+        ensures { self.new ≡ record {
+          editions = self.old.editions ++ edition ∷ [];
+          settled = self.old.settled;
+        } }
     {
         self.editions.push(edition).unwrap();
     }
@@ -67,7 +70,7 @@ impl Book {
 
     /// Whether the book holds as many editions as it may.
     pub(crate) fn is_full(&self) -> bool
-        ensures { result ≡ nat_le 32 (length self.now.editions) }
+        ensures { result ≡ nat_le MOST_EDITIONS (length self.now.editions) }
     {
         self.editions.len() >= MOST_EDITIONS
     }

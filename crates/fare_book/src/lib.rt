@@ -1,12 +1,13 @@
 //! The book of published editions: it is restored from the bodies that a keeper holds, a text is published in it, and
-//! a day selects one of its editions. What bodies stand for, what a publication answers and what a day selects is
-//! defined in `specs/` (`Editions`, `Publish`, `Selected`).
+//! a day selects one of its editions. What this means is defined in `specs/`: what bodies stand for (`Editions`, and in
+//! words `BodiesInWords`), what a publication answers and leaves (`Reopens`, `Publish`), when a book and its bodies
+//! stand together (`Stands`), publications one after the other (`Repeats`), and what a day selects (`Selected`).
 //!
 //! - `book`, `select`: the book, and the edition that a day selects;
-//! - `damage`, `damage_text`: what can be wrong with stored bodies, and the words that tell it;
-//! - `restore_fault`, `restore`: a book from the bodies of a keeper;
-//! - `published`, `publish_fault`, `publish`: a text is published in a book;
-//! - `laws`: what holds of every publication.
+//! - `restore`: a book from the bodies of a keeper; `restore_fault`, `damage`, `damage_text`: why there is none, what
+//!   can be wrong with stored bodies, and the words that tell it;
+//! - `publish`: a text is published in a book; `published`, `publish_fault`: what it is published as, or why it isn't;
+//! - `laws`: what holds of all bodies, of every list of publications and of every day.
 #![tactic(auto)]
 
 mod book;
@@ -20,9 +21,9 @@ mod restore;
 mod restore_fault;
 mod select;
 
-pub use book::Book;
+pub use book::{Book, MOST_EDITIONS};
 pub use damage::Damage;
-pub use laws::{repeat_is_already, same_is_one, selected_is_latest};
+pub use laws::{bodies_in_words, repeat_is_already, selected_is_latest};
 pub use publish_fault::PublishFault;
 pub use published::Published;
 pub use restore_fault::RestoreFault;

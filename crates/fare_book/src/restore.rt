@@ -1,11 +1,13 @@
 //! A book from the bodies of a keeper.
 
-ghost use Rattle.std.specs.Prelude.{◌≡◌, ◌≢◌, ◌<◌, ◌≤◌, ◌+◌, [], length, true, None, position, IfOk, IfErr, IfSome, OnOk, IsErrOf, IsTrue, Err, option_map};
+ghost use Rattle.std.specs.Prelude.{◌≡◌, ◌≢◌, ◌<◌, ◌≤◌, ◌+◌, [], length, true, None, position, IfOk, IfErr, IfSome};
+ghost use Rattle.std.specs.Prelude.{OnOk, IsErrOf, IsTrue, Err, option_map};
 ghost use Rattle.fare_outside.specs.Cause.{Rose};
-ghost use Rattle.fare_outside.specs.Keeper.{ToldAfter, BodiesStay};
 ghost use Rattle.fare_csv.specs.TariffText.{edition_of};
 ghost use Rattle.fare_book.specs.Book.{has_number, numbered};
-ghost use Rattle.fare_book.specs.Editions.{DamageAt, edition_behind, editions_of, place_of, read_behind, with_body, with_bodies};
+ghost use Rattle.fare_book.specs.Editions.{DamageAt, edition_behind, editions_of, place_of, read_behind, with_body};
+ghost use Rattle.fare_book.specs.Editions.{with_bodies};
+ghost use Rattle.fare_book.specs.Reopens.{IsServed, Stay};
 ghost use Rattle.fare_book.specs.Restored.{CarriesDamage, Gives};
 
 use crate::book::{Book, MOST_EDITIONS, has_number};
@@ -27,18 +29,19 @@ impl Book {
         keeper: &mut P,
     ) -> Result<Book, RestoreFault>
         requires { IsTrue (P.ready keeper.old) }
-        ensures answer { IfSome (P.bodies keeper.new) (λ bodies. Gives (λ book. book.editions) result (editions_of bodies)) }
+        ensures answer { IfSome (P.bodies keeper.new) (λ bodies.
+            Gives (λ book. book.editions) result (editions_of bodies)) }
         ensures settled { IfOk result (λ book. book.settled ≡ true) }
         ensures carried { IfErr result CarriesDamage }
 
-        ensures bodies { ToldAfter (P.bodies keeper.old) (P.bodies keeper.new) BodiesStay }
+        ensures bodies { Stay (P.bodies keeper.old) (P.bodies keeper.new) }
         ensures ready { IsTrue (P.ready keeper.new) }
         ensures never_falls { P.faults keeper.old ≤ P.faults keeper.new }
         ensures cause { IsErrOf result RestoreFault.KeeperFault → Rose (P.faults keeper.old) (P.faults keeper.new) }
     {
         let count = keeper.len(alloc)?;
         if count > MOST_EDITIONS as u64 {
-            return Err(RestoreFault::Damaged(33, Damage::TooMany));
+            return Err(RestoreFault::Damaged(MOST_EDITIONS as u32 + 1, Damage::TooMany));
         }
         Book::of_bodies(rt, alloc, keeper, count as u32)
     }
@@ -52,15 +55,14 @@ impl Book {
     ) -> Result<Book, RestoreFault>
         requires ready { IsTrue (P.ready keeper.old) }
         requires count { IfSome (P.bodies keeper.old) (λ bodies. length bodies ≡ count) }
-        requires in_limit { count ≤ 32 }
-        ensures answer { IfSome (P.bodies keeper.new) (λ bodies. Gives (λ book. book.editions) result (with_bodies [] bodies)) }
+        requires in_limit { count ≤ MOST_EDITIONS }
+        ensures answer { IfSome (P.bodies keeper.new) (λ bodies.
+            Gives (λ book. book.editions) result (with_bodies [] bodies)) }
         ensures settled { IfOk result (λ book. book.settled ≡ true) }
         ensures carried { IfErr result CarriesDamage }
-
-        ensures bodies { ToldAfter (P.bodies keeper.old) (P.bodies keeper.new) BodiesStay }
-        ensures ready { IsTrue (P.ready keeper.new) }
-        ensures never_falls { P.faults keeper.old ≤ P.faults keeper.new }
-        ensures cause { IsErrOf result RestoreFault.KeeperFault → Rose (P.faults keeper.old) (P.faults keeper.new) }
+        ensures bodies { Stay (P.bodies keeper.old) (P.bodies keeper.new) }
+        ensures served { IsServed (P.ready keeper.new) (P.faults keeper.old) (P.faults keeper.new)
+            (IsErrOf result RestoreFault.KeeperFault) }
     {
         let mut book = Book::empty(alloc)?;
         for index in 0..count {
@@ -77,7 +79,7 @@ impl Book {
         alloc: Global,
         body: &[u8],
     ) -> Result<(), RestoreFault>
-        requires { length self.old.editions < 32 }
+        requires { length self.old.editions < MOST_EDITIONS }
         ensures answer { Gives (λ _. self.new.editions) result (with_body self.old.editions body.now) }
         ensures settled { self.new.settled ≡ self.old.settled }
         ensures length { OnOk result (length self.new.editions ≡ length self.old.editions + 1) }
@@ -98,7 +100,7 @@ fn read_behind<R: Threads + Sync>(
     earlier: &[Edition],
     body: &[u8],
 ) -> Result<Edition, RestoreFault>
-    requires { length earlier.now < 32 }
+    requires { length earlier.now < MOST_EDITIONS }
     ensures answer { Gives (λ edition. edition) result (read_behind earlier.now body.now) }
     ensures new { IfOk result (λ edition. numbered edition.number earlier.now ≡ None) }
     ensures carried { IfErr result CarriesDamage }
@@ -118,7 +120,7 @@ fn read_behind<R: Threads + Sync>(
 
 /// The place of the edition of a number, counted from 1.
 fn place_of(editions: &[Edition], number: u32) -> Option<u32>
-    requires { length editions.now < 32 }
+    requires { length editions.now < MOST_EDITIONS }
     ensures place { result ≡ place_of number editions.now }
     ensures new { result ≡ None → numbered number editions.now ≡ None }
 {

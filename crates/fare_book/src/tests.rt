@@ -1,15 +1,12 @@
 //! Books over keepers in memory, for texts known from outside.
 
-mod keeper;
-
 use crate::{
-    Book, Damage, PublishFault, Published, RestoreFault, repeat_is_already, same_is_one,
+    Book, Damage, PublishFault, Published, RestoreFault, bodies_in_words, repeat_is_already,
     selected_is_latest,
 };
 use fare_codes::Day;
 use fare_csv::{TextFault, edition_text, read_edition};
-use fare_outside::{Bodies, Keeper, PlainKeeper};
-use keeper::FailingKeeper;
+use fare_outside::{Bodies, FailAt, Keeper, MemKeeper, PlainKeeper};
 use std::alloc::Global;
 use std::test::Fail;
 
@@ -28,6 +25,15 @@ const CANONICAL: &[u8] =
 const SECOND: &[u8] = b"HEAD,1,2,2025-02-01\nEND\n";
 
 const THIRD: &[u8] = b"HEAD,1,3,2025-02-01\nEND\n";
+
+/// A keeper of no body whose calls of these numbers fail, each with its body kept or not.
+fn failing(alloc: Global, fail: &[(u32, bool)]) -> Result<MemKeeper, Fail> {
+    let mut listed = Vec::new(alloc);
+    for &(call, kept) in fail {
+        listed.push(FailAt { call, kept })?;
+    }
+    Ok(MemKeeper::new(Bodies::new(alloc), listed))
+}
 
 /// An edition with a number and no record.
 fn numbered(alloc: Global, number: u32) -> Result<String, Fail> {
@@ -60,7 +66,7 @@ fn a_text_is_published_once(rt: HostRuntime) -> Result<(), Fail> {
     assert_eq!(rt; store.kept().get(0), Some(CANONICAL));
     assert!(rt; book.find(9).is_none() && book.settled());
     repeat_is_already();
-    same_is_one();
+    bodies_in_words();
     selected_is_latest();
     let again = Book::restore(&rt, alloc, &mut store)?;
     assert_eq!(rt; again.editions().len(), 1);
@@ -153,27 +159,24 @@ fn the_first_damage_is_told(rt: HostRuntime) -> Result<(), Fail> {
 #[test]
 fn a_failed_append_is_found_again(rt: HostRuntime) -> Result<(), Fail> {
     let alloc = rt.alloc();
-    for keeps in [false, true] {
-        let mut store = FailingKeeper::new(alloc, 2, keeps);
+    for kept in [false, true] {
+        let mut store = failing(alloc, &[(4, kept)])?;
         store.open(alloc, "editions")?;
         let mut book = Book::restore(&rt, alloc, &mut store)?;
-        assert_eq!(rt;
-            book.publish(&rt, alloc, &mut store, VERSION_1),
-            Ok(Published::New(1))
-        );
+        book.publish(&rt, alloc, &mut store, VERSION_1)?;
         assert_eq!(rt;
             book.publish(&rt, alloc, &mut store, SECOND),
             Err(PublishFault::KeeperFault)
         );
         assert!(rt; !book.settled() && book.editions().len() == 1);
-        let answer = if keeps {
+        let answer = if kept {
             Published::Already(2)
         } else {
             Published::New(2)
         };
         assert_eq!(rt; book.publish(&rt, alloc, &mut store, SECOND), Ok(answer));
         assert!(rt; book.settled() && book.editions().len() == 2);
-        assert_eq!(rt; store.len(alloc)?, 2);
+        assert_eq!(rt; store.kept().len(), 2);
     }
     Ok(())
 }
@@ -181,7 +184,7 @@ fn a_failed_append_is_found_again(rt: HostRuntime) -> Result<(), Fail> {
 #[test]
 fn a_damage_is_told_before_an_edition_differs(rt: HostRuntime) -> Result<(), Fail> {
     let alloc = rt.alloc();
-    let mut store = FailingKeeper::new(alloc, 2, false);
+    let mut store = failing(alloc, &[(4, false)])?;
     store.open(alloc, "editions")?;
     let mut book = Book::restore(&rt, alloc, &mut store)?;
     book.publish(&rt, alloc, &mut store, VERSION_1)?;
@@ -193,5 +196,40 @@ fn a_damage_is_told_before_an_edition_differs(rt: HostRuntime) -> Result<(), Fai
     let damage = PublishFault::Damaged(2, Damage::Text(TextFault::NoHeader));
     assert_eq!(rt; book.publish(&rt, alloc, &mut store, DEARER), Err(damage));
     assert!(rt; !book.settled() && book.editions().len() == 1);
+    Ok(())
+}
+
+#[test]
+fn a_keeper_that_fails_restores_no_book(rt: HostRuntime) -> Result<(), Fail> {
+    let alloc = rt.alloc();
+    let mut store = failing(alloc, &[(2, false)])?;
+    store.open(alloc, "editions")?;
+    assert_eq!(rt;
+        Book::restore(&rt, alloc, &mut store).err(),
+        Some(RestoreFault::KeeperFault)
+    );
+    Ok(())
+}
+
+#[test]
+fn a_keeper_that_fails_opens_no_book(rt: HostRuntime) -> Result<(), Fail> {
+    let alloc = rt.alloc();
+    let mut store = failing(alloc, &[(3, true), (5, false)])?;
+    store.open(alloc, "editions")?;
+    let mut book = Book::restore(&rt, alloc, &mut store)?;
+    assert_eq!(rt;
+        book.publish(&rt, alloc, &mut store, VERSION_1),
+        Err(PublishFault::KeeperFault)
+    );
+    // The body is there now; the call that would load it fails.
+    assert_eq!(rt;
+        book.publish(&rt, alloc, &mut store, VERSION_1),
+        Err(PublishFault::KeeperFault)
+    );
+    assert!(rt; !book.settled() && book.editions().is_empty());
+    assert_eq!(rt;
+        book.publish(&rt, alloc, &mut store, VERSION_1),
+        Ok(Published::Already(1))
+    );
     Ok(())
 }

@@ -8,7 +8,9 @@ use crate::head::Version;
 use crate::read_record::counted;
 use crate::rows::Row;
 use crate::text_fault::TextFault;
-use fare_codes::{Cabin, Carrier, City, FARE_LIMIT, Indicator, Kind, MonthDay, Nuc, RuleId, Season};
+use fare_codes::{
+    Cabin, Carrier, City, FARE_LIMIT, Indicator, Kind, MonthDay, Nuc, RuleId, Season,
+};
 use fare_tariff::{FareKey, FareRec};
 
 /// The amount of a fare, at most 9999999.99.

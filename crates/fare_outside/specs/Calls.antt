@@ -8,9 +8,13 @@ pub record CallList : Type 0 where
   pub fail : List ℕ
   pub made : ℕ
 
+-- the number of the call after one of this number
+abbrev pub call_after : ℕ → ℕ
+call_after made = min (made + 1) (2 ^ 32 - 1)
+
 -- the number of the next call
 abbrev pub next_call : CallList → ℕ
-next_call calls = min (calls.made + 1) (2 ^ 32 - 1)
+next_call calls = call_after calls.made
 
 -- a number in the list is that of this call
 abbrev pub is_call : ℕ → ℕ → Bool

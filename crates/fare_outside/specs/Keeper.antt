@@ -1,5 +1,6 @@
 -- What the calls of a keeper do to its bodies, where they are told.
-use Rattle.std.specs.Prelude.{◌≡◌, ◌⊎◌, ℕ, ◌-◌, ◌≤◌, List, [], ◌∷◌, ◌++◌, Option, Some, None, length, slice_get, slice_set, ⊤}
+use Rattle.std.specs.Prelude.{◌≡◌, ◌⊎◌, ℕ, ◌-◌, ◌≤◌, List, [], ◌∷◌, ◌++◌, Option, Some, None, length, slice_get}
+use Rattle.std.specs.Prelude.{slice_set, ⊤}
 
 -- where the bodies are told after a call, they were told before it, and this relation holds of them
 abbrev pub ToldAfter : Option (List (List ℕ)) → Option (List (List ℕ))
@@ -7,6 +8,13 @@ abbrev pub ToldAfter : Option (List (List ℕ)) → Option (List (List ℕ))
 ToldAfter old None relation = ⊤
 ToldAfter None (Some new) relation = ⊥
 ToldAfter (Some old) (Some new) relation = relation old new
+
+-- where the bodies are told both before and after a call, this relation holds of them
+abbrev pub WhereTold : Option (List (List ℕ)) → Option (List (List ℕ))
+    → (List (List ℕ) → List (List ℕ) → Type 0) → Type 0
+WhereTold None new relation = ⊤
+WhereTold (Some old) None relation = ⊤
+WhereTold (Some old) (Some new) relation = relation old new
 
 -- the bodies are as before
 abbrev pub BodiesStay : List (List ℕ) → List (List ℕ) → Type 0

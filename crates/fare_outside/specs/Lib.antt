@@ -4,6 +4,7 @@ pub mod Sink
 pub mod Keeper
 pub mod Door
 pub mod Calls
+pub mod Failures
 pub mod Room
 pub mod Objects
 pub mod Memory

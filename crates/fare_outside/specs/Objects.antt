@@ -1,6 +1,9 @@
 -- What is known of the objects in memory.
-use Rattle.std.specs.Prelude.{ℕ, Bool, List}
+use Rattle.std.specs.Prelude.{ℕ, Bool, List, MatchBool}
 use Rattle.fare_outside.specs.Calls.{CallList}
+use Rattle.fare_outside.specs.declared.fail_at.FailAt.{FailAt}
+use Rattle.fare_outside.specs.Keeper.{BodiesStay}
+use Rattle.fare_outside.specs.Failures.{FailureList, next_failure, after_next, counted}
 use Rattle.fare_outside.specs.Room.{Filled}
 
 -- of a `PlainSink`: what it took into its room, and how many writes found no room
@@ -24,3 +27,23 @@ pub record ListedSink : Type 0 where
   pub filled : Filled
   pub calls : CallList
   pub faults : ℕ
+
+-- of a `MemKeeper`: the bodies, whether it was opened, the failing calls, and how many have failed
+pub record ListedKeeper : Type 0 where
+  pub bodies : List (List ℕ)
+  pub is_ready : Bool
+  pub failures : FailureList
+  pub faults : ℕ
+
+-- the keeper with the next call made, and its failure counted where it is listed
+abbrev pub called : ListedKeeper → ListedKeeper
+called keeper = record {
+  bodies = keeper.bodies;
+  is_ready = keeper.is_ready;
+  failures = after_next keeper.failures;
+  faults = counted (next_failure keeper.failures) keeper.faults;
+}
+
+-- a failure that keeps its body changes the bodies so, and any other leaves them
+abbrev pub Kept : FailAt → (List (List ℕ) → List (List ℕ) → Type 0) → List (List ℕ) → List (List ℕ) → Type 0
+Kept failure changed old new = MatchBool failure.kept (changed old new) (BodiesStay old new)

@@ -1,8 +1,10 @@
-ghost use Rattle.std.specs.Prelude.{◌≡◌, ℕ, ◌≤◌, ◌||◌, Bool, List, Option, length, is_ok, IfOk, IfSome, OnOk, IsErrOf, IsTrue, Some};
+ghost use Rattle.std.specs.Prelude.{◌≡◌, ℕ, ◌≤◌, ◌||◌, Bool, List, Option, length, is_ok, IfOk, IfSome, OnOk, IsErrOf};
+ghost use Rattle.std.specs.Prelude.{IsTrue, Some};
 ghost use Rattle.std.specs.Option.{ForSome};
 ghost use Rattle.fare_outside.specs.declared.keeper.KeepFault.TheVariants.{Memory};
 ghost use Rattle.fare_outside.specs.Cause.{Rose};
-ghost use Rattle.fare_outside.specs.Keeper.{ToldAfter, BodiesStay, BodyAppended, MayAppend, BodyReplaced, MayReplace, HasPlace, body_at};
+ghost use Rattle.fare_outside.specs.Keeper.{ToldAfter, WhereTold, BodiesStay, BodyAppended, MayAppend, BodyReplaced};
+ghost use Rattle.fare_outside.specs.Keeper.{MayReplace, HasPlace, body_at};
 
 use crate::NoMemory;
 use std::alloc::{AllocError, AllocFailed, Global};
@@ -43,7 +45,7 @@ impl From<NoMemory> for KeepFault {
 /// What bodies are kept in, in the order in which they came. Places run from 1.
 ///
 /// What a call did to the bodies is known where they are told after it: a keeper may fall silent,
-/// and never speaks up.
+/// and speaks up at `open` alone.
 pub trait Keeper {
     /// The bodies by place, where they are told.
     ghost bodies: { Self → Option (List (List ℕ)) };
@@ -54,9 +56,10 @@ pub trait Keeper {
     /// Whether `open` has answered Ok.
     ghost ready: { Self → Bool };
 
-    /// Opens the store of that name. The bodies are as before, whatever it answers.
+    /// Opens the store of that name. Bodies that were told before are as before, whatever it answers;
+    /// a keeper that told nothing may tell its bodies from then on.
     fn open(&mut self, alloc: Global, name: &str) -> Result<(), KeepFault>
-        ensures bodies { ToldAfter (bodies self.old) (bodies self.new) BodiesStay }
+        ensures bodies { WhereTold (bodies self.old) (bodies self.new) BodiesStay }
         ensures ready { ready self.new ≡ (ready self.old || is_ok result) }
         ensures never_falls { faults self.old ≤ faults self.new }
         ensures cause { IsErrOf result KeepFault.Failed →

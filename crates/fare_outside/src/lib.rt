@@ -6,6 +6,8 @@
 //! - `reading`, `writing`: a whole source, and a whole text, over any source and sink;
 //! - `bytes`, `bodies`: lists that grow, or refuse and stay as they were;
 //! - `plain_*`: objects in memory that never fail; `mem_*`: the same with a list of failing calls;
+//! - `calls`, `failures`, `fail_at`, `count`, `room`: which calls of those fail, how failures are
+//!   counted, and what fits;
 //! - `std_*`: standard input and standard output.
 #![tactic(auto)]
 
@@ -14,9 +16,12 @@ mod bytes;
 mod calls;
 mod count;
 mod door;
+mod fail_at;
 mod failed;
+mod failures;
 mod gate;
 mod keeper;
+mod mem_keeper;
 mod mem_sink;
 mod mem_source;
 mod no_memory;
@@ -35,9 +40,11 @@ mod writing;
 pub use bodies::Bodies;
 pub use bytes::Bytes;
 pub use door::{Door, MOST_HELD};
+pub use fail_at::FailAt;
 pub use failed::Failed;
 pub use gate::{Gate, OpenGate};
 pub use keeper::{KeepFault, Keeper};
+pub use mem_keeper::MemKeeper;
 pub use mem_sink::MemSink;
 pub use mem_source::MemSource;
 pub use no_memory::NoMemory;

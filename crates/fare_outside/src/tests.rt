@@ -2,7 +2,7 @@ ghost use Rattle.std.specs.Prelude.{◌≡◌, ◌≢◌, ◌<◌, length, IfSom
 ghost use Rattle.std.specs.Io.KnownBytes.{Appends, Keeps};
 ghost use Rattle.fare_outside.specs.Cause.{Rose};
 ghost use Rattle.fare_outside.specs.Sink.{AppendsPrefix};
-ghost use Rattle.fare_outside.specs.Keeper.{ToldAfter, BodyAppended};
+ghost use Rattle.fare_outside.specs.Keeper.{WhereTold, BodyAppended};
 
 use crate::*;
 use std::alloc::Global;
@@ -39,7 +39,7 @@ fn run_once<S: Source, K: Sink, P: Keeper, D: Door, G: Gate>(
     ensures written { result ≡ Ending.Done → IfSome (S.left src.old)
         (Appends (K.taken out.old) (K.taken out.new)) }
     ensures kept { result ≡ Ending.Done → IfSome (S.left src.old) (λ left.
-        ToldAfter (P.bodies store.old) (P.bodies store.new) (BodyAppended left)) }
+        WhereTold (P.bodies store.old) (P.bodies store.new) (BodyAppended left)) }
     ensures prefix { result ≡ Ending.WriteFault → IfSome (S.left src.old)
         (AppendsPrefix (K.taken out.old) (K.taken out.new)) }
     ensures silent { result ≢ Ending.Done → result ≢ Ending.WriteFault →
@@ -68,7 +68,7 @@ fn run_once<S: Source, K: Sink, P: Keeper, D: Door, G: Gate>(
 
 fn keep<P: Keeper>(alloc: Global, store: &mut P, body: &[u8]) -> Result<(), KeepFault>
     ensures ok { OnOk result
-        (ToldAfter (P.bodies store.old) (P.bodies store.new) (BodyAppended body.now)) }
+        (WhereTold (P.bodies store.old) (P.bodies store.new) (BodyAppended body.now)) }
     ensures cause { IsErrOf result KeepFault.Failed →
         Rose (P.faults store.old) (P.faults store.new) }
 {
@@ -103,6 +103,34 @@ fn a_keeper_answers_by_place(rt: HostRuntime) -> Result<(), Fail> {
     store.replace(alloc, 1, b"another")?;
     assert_eq!(rt; store.load(alloc, 1)?.as_slice(), b"another".as_slice());
     assert_eq!(rt; store.len(alloc)?, 1);
+    Ok(())
+}
+
+#[test]
+fn a_listed_call_of_a_keeper_fails(rt: HostRuntime) -> Result<(), Fail> {
+    let alloc = rt.alloc();
+    let mut fail = Vec::new(alloc);
+    fail.push(FailAt {
+        call: 1,
+        kept: false,
+    })?;
+    fail.push(FailAt {
+        call: 3,
+        kept: true,
+    })?;
+    fail.push(FailAt {
+        call: 4,
+        kept: false,
+    })?;
+    let mut store = MemKeeper::new(Bodies::new(alloc), fail);
+    assert_eq!(rt; store.open(alloc, "editions"), Err(KeepFault::Failed));
+    store.open(alloc, "editions")?;
+    assert_eq!(rt; store.append(alloc, b"one"), Err(KeepFault::Failed));
+    assert_eq!(rt; store.append(alloc, b"two"), Err(KeepFault::Failed));
+    store.append(alloc, b"three")?;
+    assert_eq!(rt; store.len(alloc)?, 2);
+    assert_eq!(rt; store.kept().get(0), Some(b"one".as_slice()));
+    assert_eq!(rt; store.load(alloc, 2)?.as_slice(), b"three".as_slice());
     Ok(())
 }
 

@@ -192,10 +192,10 @@ is_by_way_of cities None = true
 is_by_way_of cities (Some via) = list_any (bytes_eq via) cities
 
 -- the extra miles that a record allows between two cities for an indicator by way of some cities, else 0
-abbrev pub allowed_in : City → City → Indicator → List City → Record → ℕ
-allowed_in a b ind cities (filed.Ema r) =
+abbrev pub allowance_in : City → City → Indicator → List City → Record → ℕ
+allowance_in a b ind cities (filed.Ema r) =
     if same_pair r.from r.to a b && same_indicator r.ind ind && is_by_way_of cities r.via then r.miles else 0
-allowed_in a b ind cities _ = 0
+allowance_in a b ind cities _ = 0
 
 -- the greatest number that a record of a list gives, 0 for none
 abbrev pub greatest : (Record → ℕ) → List Record → ℕ
@@ -205,4 +205,4 @@ greatest measure (one ∷ records) = max (measure one) (greatest measure records
 -- the greatest extra mileage allowance of an unordered pair of cities and an indicator that is filed for every way or by
 -- way of one of some cities
 abbrev pub allowance : Tariff → City → City → Indicator → List City → ℕ
-allowance tariff a b ind cities = greatest (allowed_in a b ind cities) tariff.records
+allowance tariff a b ind cities = greatest (allowance_in a b ind cities) tariff.records

@@ -6,8 +6,8 @@ ghost use Rattle.fares.specs.FaultText.{line, fault_line};
 
 use crate::exit::Exit;
 use fare_book::Damage;
-use fare_codes::number_text;
 use fare_outside::NoMemory;
+use fare_text::push_labelled;
 use std::alloc::Global;
 
 /// The line of what a run ended in; nothing for `Done`.
@@ -62,20 +62,20 @@ fn named(alloc: Global, front: &[u8], name: &[u8]) -> Result<Vec<u8>, NoMemory>
 fn numbered(alloc: Global, front: &[u8], number: u32) -> Result<Vec<u8>, NoMemory>
     ensures { IfOk result (λ text. text.items ≡ line (front.now ++ decimal number)) }
 {
-    named(alloc, front, number_text(number).as_str().as_bytes())
+    let mut text = Vec::new(alloc);
+    push_labelled(&mut text, front, number)?;
+    text.push(b'\n')?;
+    Ok(text)
 }
 
 /// The line of a damaged place of a store.
 fn damaged(alloc: Global, place: u32, damage: &Damage) -> Result<Vec<u8>, NoMemory>
-    ensures
-    {
-        IfOk result (λ text.
-            text.items ≡ line (codes "DAMAGED " ++ decimal place ++ codes " " ++ damage_text damage.now))
-    }
+    ensures { IfOk result (λ text.
+        text.items ≡ line (codes "DAMAGED " ++ decimal place ++ codes " " ++ damage_text damage.now)) }
 {
-    let mut text = Vec::from_slice(alloc, b"DAMAGED ")?;
-    text.extend_from_slice(number_text(place).as_str().as_bytes())?;
-    text.extend_from_slice(b" ")?;
+    let mut text = Vec::new(alloc);
+    push_labelled(&mut text, b"DAMAGED ", place)?;
+    text.push(b' ')?;
     text.extend_from_slice(damage.text().as_str().as_bytes())?;
     text.push(b'\n')?;
     Ok(text)

@@ -2,7 +2,7 @@
 
 ghost use Rattle.std.specs.Prelude.{◌≡◌, ◌<◌, ◌≤◌, IfSome, bytes_eq};
 ghost use Rattle.std.specs.List.{list_any};
-ghost use Rattle.fare_tariff.specs.Lookup.{first_some, greatest, mpm_in, tpm_in, allowed_in, is_by_way_of, mpm, tpm};
+ghost use Rattle.fare_tariff.specs.Lookup.{first_some, greatest, mpm_in, tpm_in, allowance_in, is_by_way_of, mpm, tpm};
 ghost use Rattle.fare_tariff.specs.Lookup.{allowance};
 
 use crate::edition::Edition;
@@ -36,7 +36,7 @@ impl Edition {
         ensures miles { result ≡ allowance self.now a b ind via.now }
         ensures in_range { result ≤ MOST_MILES }
     {
-        allowed_miles(self.records(), a, b, ind, via)
+        greatest_allowance(self.records(), a, b, ind, via)
     }
 }
 
@@ -120,8 +120,8 @@ fn is_among(city: City, cities: &[City]) -> bool
 }
 
 /// The extra miles that a record allows between two cities for an indicator by way of some cities.
-fn allowed_in(a: City, b: City, ind: Indicator, cities: &[City], one: &Record) -> u32
-    ensures miles { result ≡ allowed_in a b ind cities.now one.now }
+fn allowance_in(a: City, b: City, ind: Indicator, cities: &[City], one: &Record) -> u32
+    ensures miles { result ≡ allowance_in a b ind cities.now one.now }
     ensures in_range { result ≤ MOST_MILES }
 {
     match one {
@@ -141,13 +141,13 @@ fn allowed_in(a: City, b: City, ind: Indicator, cities: &[City], one: &Record) -
 
 /// The greatest extra mileage allowance of an unordered pair of cities and an indicator by way of some cities.
 #[tactic(auto, using(crate::proofs::Scans::greatest_more, crate::proofs::Scans::greatest_all))]
-fn allowed_miles(records: &[Record], a: City, b: City, ind: Indicator, cities: &[City]) -> u32
-    ensures miles { result ≡ greatest (allowed_in a b ind cities.now) records.now }
+fn greatest_allowance(records: &[Record], a: City, b: City, ind: Indicator, cities: &[City]) -> u32
+    ensures miles { result ≡ greatest (allowance_in a b ind cities.now) records.now }
     ensures in_range { result ≤ MOST_MILES }
 {
     let mut most = 0;
     for one in records {
-        most = most.max(allowed_in(a, b, ind, cities, one));
+        most = most.max(allowance_in(a, b, ind, cities, one));
     }
     most
 }

@@ -33,7 +33,7 @@ fn is_record(a: &Record, b: &Record) -> bool
         (Record::Fare(a), Record::Fare(b)) => is_fare_record(a, b),
         (Record::Mpm(a), Record::Mpm(b)) => is_mileage_record(a, b),
         (Record::Tpm(a), Record::Tpm(b)) => is_pair_record(a, b),
-        (Record::Ema(a), Record::Ema(b)) => is_extra_mileage_record(a, b),
+        (Record::Ema(a), Record::Ema(b)) => is_allowance_record(a, b),
         _ => false,
     }
 }
@@ -119,7 +119,7 @@ fn is_pair_record(a: &PairRec, b: &PairRec) -> bool
     a.from.is(b.from) && a.to.is(b.to) && a.miles == b.miles
 }
 
-fn is_extra_mileage_record(a: &EmaRec, b: &EmaRec) -> bool
+fn is_allowance_record(a: &EmaRec, b: &EmaRec) -> bool
     ensures { IsTrue result ↔ (a.now ≡ b.now) }
 {
     a.from.is(b.from)
