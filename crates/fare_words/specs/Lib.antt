@@ -1,0 +1,7 @@
+pub mod Steps
+pub mod Limits
+pub mod Definitions
+pub mod Options
+pub mod Values
+pub mod Commands
+pub mod Words

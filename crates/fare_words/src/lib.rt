@@ -1,0 +1,27 @@
+//! The words of the command line: the command that they give, with the values of its options.
+//!
+//! - `command`: the eight commands, with what their options hold; `store_name`: the name of a store;
+//! - `limits`: how great each number may be, and what stands for an option that is left out;
+//! - `name`: the command that the first word names;
+//! - `definitions`: each command's definition in `clap`;
+//! - `options`: the options that a definition finds in the words that it takes, and the numbers in them;
+//! - `values`: each option by its own name; `commands`: each command from its options;
+//! - `words`: all of it in turn.
+#![tactic(auto)]
+
+mod command;
+mod commands;
+mod definitions;
+mod limits;
+mod name;
+mod options;
+mod store_name;
+mod values;
+mod words;
+
+pub use command::Command;
+pub use store_name::StoreName;
+pub use words::read_words;
+
+#[cfg(test)]
+mod tests;
