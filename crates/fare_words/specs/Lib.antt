@@ -4,4 +4,5 @@ pub mod Definitions
 pub mod Options
 pub mod Values
 pub mod Commands
+pub mod WithinLimits
 pub mod Words

@@ -1,5 +1,9 @@
 -- How great the numbers of the options may be, and what stands for an option that is left out.
-use Rattle.std.specs.Prelude.{ℕ}
+use Rattle.std.specs.Prelude.{ℕ, ◌≤◌}
+
+-- a number from the least to the most
+abbrev pub IsBetween : ℕ → ℕ → ℕ → Type 0
+IsBetween least most n = (least ≤ n) × (n ≤ most)
 
 -- the most workers of a search
 abbrev pub most_workers : ℕ

@@ -1,7 +1,9 @@
 //! Each command from the options that its definition found.
 
-ghost use Rattle.std.specs.Prelude.{◌≡◌};
-ghost use Rattle.fare_words.specs.Commands.{command_in, price_of, publish_of, list_of, export_of, quote_of, serve_of, drill_of, migrate_of};
+ghost use Rattle.std.specs.Prelude.{◌≡◌, IfSome};
+ghost use Rattle.fare_words.specs.Commands.{command_in, price_of, publish_of, list_of, export_of};
+ghost use Rattle.fare_words.specs.Commands.{quote_of, serve_of, drill_of, migrate_of};
+ghost use Rattle.fare_words.specs.WithinLimits.{IsWithinLimits};
 
 use crate::command::Command;
 use crate::name::CommandName;
@@ -11,7 +13,8 @@ use crate::values::{best, count, edition, extra, port, round, sectors, seed, sto
 /// The command of this name; nothing where a value isn't in its form.
 #[tactic(auto, unfolding(crate::specs::Commands::command_in))]
 pub(crate) fn command_in<'a>(name: CommandName, options: &Options<'a>) -> Option<Command<'a>>
-    ensures { result ≡ command_in name options.now }
+    ensures value { result ≡ command_in name options.now }
+    ensures limits { IfSome result IsWithinLimits }
 {
     match name {
         CommandName::Price => price(options),
@@ -25,9 +28,10 @@ pub(crate) fn command_in<'a>(name: CommandName, options: &Options<'a>) -> Option
     }
 }
 
-#[tactic(auto, unfolding(crate::specs::Commands::price_of))]
+#[tactic(auto, unfolding(crate::specs::Commands::price_of, crate::specs::WithinLimits::IsWithinLimits))]
 fn price<'a>(options: &Options<'a>) -> Option<Command<'a>>
-    ensures { result ≡ price_of options.now }
+    ensures value { result ≡ price_of options.now }
+    ensures limits { IfSome result IsWithinLimits }
 {
     Some(Command::Price {
         workers: workers(options)?,
@@ -35,27 +39,30 @@ fn price<'a>(options: &Options<'a>) -> Option<Command<'a>>
     })
 }
 
-#[tactic(auto, unfolding(crate::specs::Commands::publish_of))]
+#[tactic(auto, unfolding(crate::specs::Commands::publish_of, crate::specs::WithinLimits::IsWithinLimits))]
 fn publish<'a>(options: &Options<'a>) -> Option<Command<'a>>
-    ensures { result ≡ publish_of options.now }
+    ensures value { result ≡ publish_of options.now }
+    ensures limits { IfSome result IsWithinLimits }
 {
     Some(Command::Publish {
         store: store(options)?,
     })
 }
 
-#[tactic(auto, unfolding(crate::specs::Commands::list_of))]
+#[tactic(auto, unfolding(crate::specs::Commands::list_of, crate::specs::WithinLimits::IsWithinLimits))]
 fn list<'a>(options: &Options<'a>) -> Option<Command<'a>>
-    ensures { result ≡ list_of options.now }
+    ensures value { result ≡ list_of options.now }
+    ensures limits { IfSome result IsWithinLimits }
 {
     Some(Command::List {
         store: store(options)?,
     })
 }
 
-#[tactic(auto, unfolding(crate::specs::Commands::export_of))]
+#[tactic(auto, unfolding(crate::specs::Commands::export_of, crate::specs::WithinLimits::IsWithinLimits))]
 fn export<'a>(options: &Options<'a>) -> Option<Command<'a>>
-    ensures { result ≡ export_of options.now }
+    ensures value { result ≡ export_of options.now }
+    ensures limits { IfSome result IsWithinLimits }
 {
     Some(Command::Export {
         store: store(options)?,
@@ -63,9 +70,10 @@ fn export<'a>(options: &Options<'a>) -> Option<Command<'a>>
     })
 }
 
-#[tactic(auto, unfolding(crate::specs::Commands::quote_of))]
+#[tactic(auto, unfolding(crate::specs::Commands::quote_of, crate::specs::WithinLimits::IsWithinLimits))]
 fn quote<'a>(options: &Options<'a>) -> Option<Command<'a>>
-    ensures { result ≡ quote_of options.now }
+    ensures value { result ≡ quote_of options.now }
+    ensures limits { IfSome result IsWithinLimits }
 {
     Some(Command::Quote {
         store: store(options)?,
@@ -74,9 +82,10 @@ fn quote<'a>(options: &Options<'a>) -> Option<Command<'a>>
     })
 }
 
-#[tactic(auto, unfolding(crate::specs::Commands::serve_of))]
+#[tactic(auto, unfolding(crate::specs::Commands::serve_of, crate::specs::WithinLimits::IsWithinLimits))]
 fn serve<'a>(options: &Options<'a>) -> Option<Command<'a>>
-    ensures { result ≡ serve_of options.now }
+    ensures value { result ≡ serve_of options.now }
+    ensures limits { IfSome result IsWithinLimits }
 {
     Some(Command::Serve {
         store: store(options)?,
@@ -87,9 +96,10 @@ fn serve<'a>(options: &Options<'a>) -> Option<Command<'a>>
     })
 }
 
-#[tactic(auto, unfolding(crate::specs::Commands::drill_of))]
+#[tactic(auto, unfolding(crate::specs::Commands::drill_of, crate::specs::WithinLimits::IsWithinLimits))]
 fn drill<'a>(options: &Options<'a>) -> Option<Command<'a>>
-    ensures { result ≡ drill_of options.now }
+    ensures value { result ≡ drill_of options.now }
+    ensures limits { IfSome result IsWithinLimits }
 {
     Some(Command::Drill {
         seed: seed(options)?,
@@ -99,9 +109,10 @@ fn drill<'a>(options: &Options<'a>) -> Option<Command<'a>>
     })
 }
 
-#[tactic(auto, unfolding(crate::specs::Commands::migrate_of))]
+#[tactic(auto, unfolding(crate::specs::Commands::migrate_of, crate::specs::WithinLimits::IsWithinLimits))]
 fn migrate<'a>(options: &Options<'a>) -> Option<Command<'a>>
-    ensures { result ≡ migrate_of options.now }
+    ensures value { result ≡ migrate_of options.now }
+    ensures limits { IfSome result IsWithinLimits }
 {
     Some(Command::Migrate {
         store: store(options)?,

@@ -3,8 +3,9 @@
 ghost use Rattle.std.specs.Prelude.{◌≡◌, [], ◌∷◌, IfOk, codes, false};
 ghost use Rattle.clap.specs.Words.{app_of, rule_of, with_rule};
 ghost use Rattle.fare_words.specs.Definitions.{command_with, definition_of, optional, required};
-ghost use Rattle.fare_words.specs.Definitions.{price_definition, publish_definition, list_definition, export_definition};
-ghost use Rattle.fare_words.specs.Definitions.{quote_definition, serve_definition, drill_definition, migrate_definition};
+ghost use Rattle.fare_words.specs.Definitions.{price_definition, publish_definition, list_definition};
+ghost use Rattle.fare_words.specs.Definitions.{export_definition, quote_definition, serve_definition};
+ghost use Rattle.fare_words.specs.Definitions.{drill_definition, migrate_definition};
 
 use crate::name::CommandName;
 use clap::{Arg, ArgAction, Command as Definition};

@@ -24,6 +24,7 @@ impl<'a> Model for Options<'a> {
 impl<'a> Options<'a> {
     ghost use Rattle.std.specs.Prelude.{◌≡◌, ◌≤◌, IfOk, IfSome, map, option_map, string_bytes, true};
     ghost use Rattle.clap.specs.Words.{app_of, first_of, is_simple_and_free};
+    ghost use Rattle.fare_words.specs.Limits.{IsBetween};
     ghost use Rattle.fare_words.specs.Options.{number_in, number_or, options_of};
 
     /// The options that the definition finds in the words after the first; nothing where it doesn't take them.
@@ -32,7 +33,8 @@ impl<'a> Options<'a> {
         words: &'a [String],
     ) -> Result<Option<Options<'a>>, NoMemory>
         requires { is_simple_and_free (app_of definition) ≡ true }
-        ensures { IfOk result (λ found. found ≡ options_of (app_of definition.entry) (map string_bytes words.entry.now)) }
+        ensures { IfOk result (λ found.
+            found ≡ options_of (app_of definition.entry) (map string_bytes words.entry.now)) }
     {
         match parsed(definition, words)? {
             Some(found) => Ok(Some(Options { found })),
@@ -52,7 +54,7 @@ impl<'a> Options<'a> {
     #[tactic(auto, unfolding(crate::specs::Options::number_in))]
     pub(crate) fn number(&self, name: &str, least: u32, most: u32) -> Option<u32>
         ensures value { result ≡ number_in name.now least most self.now }
-        ensures bound { IfSome result (λ n. n ≤ most) }
+        ensures limits { IfSome result (IsBetween least most) }
     {
         match self.text(name) {
             Some(text) => number_between(text, least, most),
@@ -63,7 +65,9 @@ impl<'a> Options<'a> {
     /// The same, or another number where the option was left out.
     #[tactic(auto, unfolding(crate::specs::Options::number_or))]
     pub(crate) fn number_or(&self, name: &str, least: u32, most: u32, default: u32) -> Option<u32>
-        ensures { result ≡ number_or name.now least most default self.now }
+        requires { IsBetween least most default }
+        ensures value { result ≡ number_or name.now least most default self.now }
+        ensures limits { IfSome result (IsBetween least most) }
     {
         match self.text(name) {
             Some(text) => number_between(text, least, most),
@@ -75,6 +79,7 @@ impl<'a> Options<'a> {
 ghost use Rattle.std.specs.Prelude.{◌≡◌, ◌≢◌, ◌≤◌, IfOk, IfSome, None, map, option_map, string_bytes, true};
 ghost use Rattle.clap.specs.declared.error.kind.ErrorKind.TheVariants.{OutOfMemory};
 ghost use Rattle.clap.specs.Words.{app_of, found_of, is_simple_and_free, rows_of};
+ghost use Rattle.fare_words.specs.Limits.{IsBetween};
 ghost use Rattle.fare_words.specs.Options.{number_between, options_of};
 
 /// What the definition finds in the words after the first; nothing where it doesn't take them.
@@ -106,7 +111,7 @@ fn not_taken<'a>(kind: ErrorKind) -> Result<Option<ArgMatches<'a>>, NoMemory>
 #[tactic(auto, unfolding(crate::specs::Options::number_between))]
 pub(crate) fn number_between(text: &str, least: u32, most: u32) -> Option<u32>
     ensures value { result ≡ number_between least most text.now }
-    ensures bound { IfSome result (λ n. n ≤ most) }
+    ensures limits { IfSome result (IsBetween least most) }
 {
     let number = read_number(text.as_bytes(), most)?;
     if number < least {

@@ -1,4 +1,4 @@
-ghost use Rattle.std.specs.Prelude.{◌≡◌, [], List, ℕ, option_map};
+ghost use Rattle.std.specs.Prelude.{◌≡◌, ◌<◌, List, ℕ, length};
 ghost use Rattle.fare_words.specs.Values.{store_name_of};
 
 use std::marker::Model;
@@ -13,6 +13,8 @@ impl<'a> Model for StoreName<'a> {
     ghost Value = { List ℕ };
 
     ghost view = { λ name. name.text.now };
+
+    ghost invariant = { λ name. 0 < length name.text.now };
 }
 
 impl<'a> StoreName<'a> {
@@ -28,7 +30,8 @@ impl<'a> StoreName<'a> {
 
     /// The name's text.
     pub fn as_str(&self) -> &'a str
-        ensures { result.now ≡ self.now }
+        ensures text { result.now ≡ self.now }
+        ensures not_empty { 0 < length result.now }
     {
         self.text
     }

@@ -1,6 +1,7 @@
-ghost use Rattle.std.specs.Prelude.{◌≡◌, IfOk, map, string_bytes};
+ghost use Rattle.std.specs.Prelude.{◌≡◌, IfOk, IfSome, map, string_bytes};
 ghost use Rattle.fare_words.specs.Definitions.{definition_of};
 ghost use Rattle.fare_words.specs.Options.{options_of};
+ghost use Rattle.fare_words.specs.WithinLimits.{IsWithinLimits};
 ghost use Rattle.fare_words.specs.Words.{command_of};
 
 use crate::command::Command;
@@ -27,7 +28,8 @@ fn options_of<'a>(
 /// command's name, that command's definition in `clap` doesn't take the others, or a value isn't in its form.
 #[tactic(auto, unfolding(crate::specs::Words::command_of))]
 pub fn read_words<'a>(alloc: Global, words: &'a [String]) -> Result<Option<Command<'a>>, NoMemory>
-    ensures { IfOk result (λ taken. taken ≡ command_of (map string_bytes words.entry.now)) }
+    ensures taken { IfOk result (λ taken. taken ≡ command_of (map string_bytes words.entry.now)) }
+    ensures limits { IfOk result (λ taken. IfSome taken IsWithinLimits) }
 {
     let Some(first) = words.first() else {
         return Ok(None);
