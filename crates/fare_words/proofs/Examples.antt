@@ -1,19 +1,22 @@
 -- Words that are taken, and words that aren't, by computing.
 use Rattle.std.proofs.Common.{◌≡◌, [], ◌∷◌, Some, None, codes, refl}
 use Rattle.std.specs.Prelude.{⊤}
-use Rattle.clap.proofs.OnLiterals.{clap_on_literals}
+use Rattle.fare_words.proofs.PlainDefinitions.{definitions_on_literals}
 use Rattle.fare_codes.specs.Numbers.{is_number, read_number}
-use Rattle.fare_words.specs.Definitions.{definition_of, price_definition, publish_definition, list_definition, export_definition}
-use Rattle.fare_words.specs.Definitions.{quote_definition, serve_definition, drill_definition, migrate_definition}
 use Rattle.fare_words.specs.Options.{number_between, number_in, number_or, options_of}
-use Rattle.fare_words.specs.Values.{best_in, count_in, edition_in, extra_in, port_in, round_in, sectors_in, seed_in, store_in, workers_in}
-use Rattle.fare_words.specs.Commands.{command_in, price_of, publish_of, list_of, export_of, quote_of, serve_of, drill_of, migrate_of}
+use Rattle.fare_words.specs.Values.{best_in, count_in, edition_in, extra_in, port_in, round_in, sectors_in, seed_in}
+use Rattle.fare_words.specs.Values.{store_in, workers_in}
+use Rattle.fare_words.specs.Commands.{command_in, price_of, publish_of, list_of, export_of, quote_of, serve_of}
+use Rattle.fare_words.specs.Commands.{drill_of, migrate_of}
 use Rattle.fare_words.specs.Words.{command_of, name_of}
 use Rattle.fare_words.specs.declared.command.Command.TheVariants as command
 
 -- what is opened to compute the command of words that are written out
 unfoldable words_on_literals : ⊤
-unfolding clap_on_literals command_of name_of definition_of price_definition publish_definition list_definition export_definition quote_definition serve_definition drill_definition migrate_definition options_of command_in price_of publish_of list_of export_of quote_of serve_of drill_of migrate_of store_in workers_in best_in edition_in port_in count_in round_in seed_in sectors_in extra_in number_in number_or number_between read_number is_number
+unfolding definitions_on_literals command_of name_of options_of command_in
+    price_of publish_of list_of export_of quote_of serve_of drill_of migrate_of
+    store_in workers_in best_in edition_in port_in count_in round_in seed_in sectors_in extra_in
+    number_in number_or number_between read_number is_number
 words_on_literals = tt
 
 -- `price` alone
@@ -27,7 +30,8 @@ unfolding words_on_literals
 price_with_two_hyphens = refl
 
 -- `price --best 3 --workers=16`
-price_with_options : command_of (codes "price" ∷ codes "--best" ∷ codes "3" ∷ codes "--workers=16" ∷ []) ≡ Some (command.Price 16 (Some 3))
+price_with_options : command_of (codes "price" ∷ codes "--best" ∷ codes "3" ∷ codes "--workers=16" ∷ [])
+    ≡ Some (command.Price 16 (Some 3))
 unfolding words_on_literals
 price_with_options = refl
 
@@ -47,7 +51,8 @@ unfolding words_on_literals
 price_help = refl
 
 -- a name that is a hyphen
-publish_to_a_hyphen : command_of (codes "publish" ∷ codes "--store" ∷ codes "-" ∷ []) ≡ Some (command.Publish (codes "-"))
+publish_to_a_hyphen : command_of (codes "publish" ∷ codes "--store" ∷ codes "-" ∷ [])
+    ≡ Some (command.Publish (codes "-"))
 unfolding words_on_literals
 publish_to_a_hyphen = refl
 
@@ -67,7 +72,8 @@ unfolding words_on_literals
 publish_nowhere = refl
 
 -- a drill with what is left out
-drill_of_one : command_of (codes "drill" ∷ codes "--sectors" ∷ codes "1" ∷ codes "--seed=7" ∷ []) ≡ Some (command.Drill 7 1 0 1)
+drill_of_one : command_of (codes "drill" ∷ codes "--sectors" ∷ codes "1" ∷ codes "--seed=7" ∷ [])
+    ≡ Some (command.Drill 7 1 0 1)
 unfolding words_on_literals
 drill_of_one = refl
 

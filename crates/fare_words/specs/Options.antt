@@ -9,7 +9,7 @@ use Rattle.fare_codes.specs.Numbers.{read_number}
 unfoldable pub options_of : App → List Text → Option (List Row)
 options_of app words = if is_empty (fault_of app words) then Some (matches_of app words) else None
 
--- the number, from the least to the most, that the text writes
+-- the number, from the least to the most, that the text writes without a sign and with no zero in front
 unfoldable pub number_between : ℕ → ℕ → Text → Option ℕ
 number_between least most text =
     option_and_then (λ n. if nat_le least n then Some n else None) (read_number most text)

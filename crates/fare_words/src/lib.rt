@@ -4,7 +4,8 @@
 //! - `limits`: how great each number may be, and what stands for an option that is left out;
 //! - `name`: the command that the first word names;
 //! - `definitions`: each command's definition in `clap`;
-//! - `options`: the options that a definition finds in the words that it takes, and the numbers in them;
+//! - `parsing`: what a definition finds in words; `options`: the options in them, with the texts of their values;
+//! - `numbers`: the numbers that options write;
 //! - `values`: each option by its own name; `commands`: each command from its options;
 //! - `words`: all of it in turn.
 #![tactic(auto)]
@@ -14,7 +15,9 @@ mod commands;
 mod definitions;
 mod limits;
 mod name;
+mod numbers;
 mod options;
+mod parsing;
 mod store_name;
 mod values;
 mod words;

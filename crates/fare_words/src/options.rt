@@ -1,12 +1,10 @@
-//! The options that a definition finds in words, and the texts of their values.
-
-use clap::error::ErrorKind;
+use crate::numbers::number_between;
+use crate::parsing::parsed;
 use clap::{ArgMatches, Command as Definition};
-use fare_codes::read_number;
 use fare_outside::NoMemory;
 use std::marker::Model;
 
-/// The options of words that a definition takes.
+/// The options that a definition finds in words that it takes, with the texts of their values.
 #[derive(Debug, Drop)]
 pub(crate) struct Options<'a> {
     found: ArgMatches<'a>,
@@ -74,48 +72,4 @@ impl<'a> Options<'a> {
             None => Some(default),
         }
     }
-}
-
-ghost use Rattle.std.specs.Prelude.{◌≡◌, ◌≢◌, ◌≤◌, IfOk, IfSome, None, map, option_map, string_bytes, true};
-ghost use Rattle.clap.specs.declared.error.kind.ErrorKind.TheVariants.{OutOfMemory};
-ghost use Rattle.clap.specs.Words.{app_of, found_of, is_simple_and_free, rows_of};
-ghost use Rattle.fare_words.specs.Limits.{IsBetween};
-ghost use Rattle.fare_words.specs.Options.{number_between, options_of};
-
-/// What the definition finds in the words after the first; nothing where it doesn't take them.
-fn parsed<'a>(
-    definition: Definition<'a>,
-    words: &'a [String],
-) -> Result<Option<ArgMatches<'a>>, NoMemory>
-    requires { is_simple_and_free (app_of definition) ≡ true }
-    ensures { IfOk result (λ found. option_map (λ m. rows_of (found_of m)) found
-        ≡ options_of (app_of definition.entry) (map string_bytes words.entry.now)) }
-{
-    match definition.try_get_matches_from(words) {
-        Ok(found) => Ok(Some(found)),
-        Err(error) => not_taken(error.kind()),
-    }
-}
-
-/// What a parse that fails by this kind comes to: want of memory, or words that aren't taken.
-fn not_taken<'a>(kind: ErrorKind) -> Result<Option<ArgMatches<'a>>, NoMemory>
-    ensures { IfOk result (λ found. (kind ≢ OutOfMemory) × (found ≡ None)) }
-{
-    match kind {
-        ErrorKind::OutOfMemory => Err(NoMemory),
-        _ => Ok(None),
-    }
-}
-
-/// The number, from the least to the most, that the text writes.
-#[tactic(auto, unfolding(crate::specs::Options::number_between))]
-pub(crate) fn number_between(text: &str, least: u32, most: u32) -> Option<u32>
-    ensures value { result ≡ number_between least most text.now }
-    ensures limits { IfSome result (IsBetween least most) }
-{
-    let number = read_number(text.as_bytes(), most)?;
-    if number < least {
-        return None;
-    }
-    Some(number)
 }

@@ -10,7 +10,8 @@ use crate::limits::{
     DEFAULT_EXTRA, DEFAULT_ROUND, DEFAULT_WORKERS, MOST_BEST, MOST_COUNT, MOST_EDITION, MOST_EXTRA,
     MOST_PORT, MOST_ROUND, MOST_SECTORS, MOST_SEED, MOST_WORKERS,
 };
-use crate::options::{Options, number_between};
+use crate::numbers::number_between;
+use crate::options::Options;
 use crate::store_name::StoreName;
 
 /// The store.

@@ -1,7 +1,7 @@
 use Rattle.std.proofs.Common.{map, string_bytes}
 use Rattle.clap.specs.Words.{app_of}
 use Rattle.fare_words.proofs.Parsed.{refused, taken}
-use Rattle.fare_words.proofs.options.parsed.Goals as goal
+use Rattle.fare_words.proofs.parsing.parsed.Goals as goal
 
 pub returns-in-Ok : goal.returns-in-Ok
 returns-in-Ok c =
