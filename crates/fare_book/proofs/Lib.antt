@@ -1,6 +1,5 @@
 pub mod Scans
 pub mod Numbers
-pub mod Readings
 pub mod Places
 pub mod Bodies
 pub mod SameEditions

@@ -1,10 +1,9 @@
 -- How the steps of a publication make one, where the bodies are told.
-use Rattle.std.proofs.Common.{◌≡◌, ◌∙◌, ◌⊎◌, inl, inr, ℕ, List, [], Some, None, Ok, Err, IfSome, true, false, Bool, refl, sym, ap}
+use Rattle.std.proofs.Common.{◌≡◌, ◌≢◌, ◌∙◌, ◌⊎◌, inl, inr, ℕ, List, [], Some, None, Ok, Err, IfSome, true, false, Bool, refl, sym, ap}
 use Rattle.fare_outside.specs.Keeper.{ToldAfter, BodiesStay}
 use Rattle.fare_tariff.specs.Tariff.{Tariff}
 use Rattle.fare_csv.specs.declared.text_fault.TextFault.{TextFault}
 use Rattle.fare_csv.specs.declared.text_fault.TextFault.TheVariants as tariff
-use Rattle.fare_csv.specs.Fields.{GivesFault}
 use Rattle.fare_csv.specs.TariffText.{edition_of}
 use Rattle.fare_book.specs.declared.restore_fault.RestoreFault.{RestoreFault}
 use Rattle.fare_book.specs.declared.restore_fault.RestoreFault.TheVariants as restoring
@@ -17,7 +16,6 @@ use Rattle.fare_book.specs.Publish.{Answer, Publication, answer_to, bodies_after
 use Rattle.fare_book.specs.Publishes.{IsNew, MayReopen, Offers, OffersBodies, Publishes, PublishesSettled, unsettled}
 use Rattle.fare_book.proofs.Answers.{settled_is}
 use Rattle.fare_book.proofs.Bodies.{Told}
-use Rattle.fare_book.proofs.Readings.{fault_of_reading}
 
 -- a text that stands for no edition
 publish_malformed : (book : BookState) (bodies : List (List ℕ)) (bytes : List ℕ) (fault : TextFault) → edition_of bytes ≡ Err fault → publish book bodies bytes ≡ refused (Malformed fault) book bodies
@@ -35,15 +33,15 @@ unfolding publish
 publish_offered book bodies bytes edition editions e r = rw (e, r) refl
 
 -- a reading's fault changes nothing
-pub malformed : (told : Told) (book : BookState) (bytes : List ℕ) (fault : TextFault) → GivesFault fault (edition_of bytes) → ToldAfter told told (Publishes book book bytes (Err (text_fault fault)))
+pub malformed : (told : Told) (book : BookState) (bytes : List ℕ) (fault : TextFault) → (fault ≢ tariff.Memory → edition_of bytes ≡ Err fault) → ToldAfter told told (Publishes book book bytes (Err (text_fault fault)))
 malformed None book bytes fault gives = tt
 malformed (Some bodies) book bytes tariff.Memory gives = (refl, inl refl)
-malformed (Some bodies) book bytes fault gives = publish_malformed book bodies bytes fault (fault_of_reading fault (edition_of bytes) (λ e. cc) gives)
+malformed (Some bodies) book bytes fault gives = publish_malformed book bodies bytes fault (gives (λ e. cc))
 
-pub malformed_settled : (book : BookState) (bytes : List ℕ) (fault : TextFault) → GivesFault fault (edition_of bytes) → PublishesSettled book book bytes (Err (text_fault fault))
+pub malformed_settled : (book : BookState) (bytes : List ℕ) (fault : TextFault) → (fault ≢ tariff.Memory → edition_of bytes ≡ Err fault) → PublishesSettled book book bytes (Err (text_fault fault))
 malformed_settled book bytes tariff.Memory gives = refl
 malformed_settled book bytes fault gives =
-    let p = publish_malformed book [] bytes fault (fault_of_reading fault (edition_of bytes) (λ e. cc) gives) in
+    let p = publish_malformed book [] bytes fault (gives (λ e. cc)) in
     (ap (λ (made : Publication). made.answer) p, ap (λ (made : Publication). made.book) p)
 
 -- a reopening's fault changes nothing

@@ -15,15 +15,15 @@ use Rattle.fare_codes.specs.declared.cabin.Cabin.TheVariants.{F, C, Y}
 use Rattle.fare_codes.specs.declared.kind.Kind.{Kind}
 use Rattle.fare_codes.specs.declared.kind.Kind.TheVariants.{OW, HR}
 use Rattle.fare_codes.specs.declared.season.Season.{Season}
-use Rattle.fare_tariff.specs.declared.city_record.CityRec.{CityRec}
-use Rattle.fare_tariff.specs.declared.names.Names.{Names}
-use Rattle.fare_tariff.specs.declared.names.Names.TheVariants.{All, Of}
-use Rattle.fare_tariff.specs.declared.record.Record.{Record}
-use Rattle.fare_tariff.specs.declared.record.Record.TheVariants as filed
+use Rattle.fare_tariff.specs.declared.records.city_record.CityRec.{CityRec}
+use Rattle.fare_tariff.specs.declared.records.names.Names.{Names}
+use Rattle.fare_tariff.specs.declared.records.names.Names.TheVariants.{All, Of}
+use Rattle.fare_tariff.specs.declared.records.record.Record.{Record}
+use Rattle.fare_tariff.specs.declared.records.record.Record.TheVariants as filed
 use Rattle.fare_tariff.specs.Record.{CurrencyRecord, RuleRecord, FareRecord, MileageRecord, PairRecord, AllowanceRecord}
 use Rattle.fare_tariff.specs.Tariff.{Tariff}
-use Rattle.fare_tariff.specs.Lookup.{same_indicator, same_cabin, same_kind, same_rule}
-use Rattle.fare_tariff.specs.Check.{same_season, same_via}
+use Rattle.fare_codes.specs.Same.{same_indicator, same_cabin, same_kind, same_season}
+use Rattle.fare_tariff.specs.Lookup.{same_rule, same_via}
 use Rattle.fare_book.specs.SameEdition.{same_area, same_mode, same_excess, same_names, same_city, same_currency, same_filed_rule, same_fare, same_mileage, same_ticketed, same_allowance, same_record, same_edition}
 
 area_is : (a b : Area) → Decides (same_area a b) (a ≡ b)

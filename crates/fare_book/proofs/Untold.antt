@@ -1,9 +1,8 @@
 -- How the steps of a publication make one, whatever is told.
-use Rattle.std.proofs.Common.{◌≡◌, ℕ, inl, inr, List, Ok, Err, false, refl}
+use Rattle.std.proofs.Common.{◌≡◌, ◌≢◌, ℕ, inl, inr, List, Ok, Err, false, refl}
 use Rattle.fare_tariff.specs.Tariff.{Tariff}
 use Rattle.fare_csv.specs.declared.text_fault.TextFault.{TextFault}
 use Rattle.fare_csv.specs.declared.text_fault.TextFault.TheVariants as tariff
-use Rattle.fare_csv.specs.Fields.{GivesFault}
 use Rattle.fare_csv.specs.TariffText.{edition_of}
 use Rattle.fare_book.specs.declared.restore_fault.RestoreFault.{RestoreFault}
 use Rattle.fare_book.specs.declared.restore_fault.RestoreFault.TheVariants as restoring
@@ -13,12 +12,11 @@ use Rattle.fare_book.specs.Faults.{reopening_fault, text_fault}
 use Rattle.fare_book.specs.Publish.{Answer}
 use Rattle.fare_book.specs.Publishes.{Offers, PublishesUntold}
 use Rattle.fare_book.proofs.Answers.{own}
-use Rattle.fare_book.proofs.Readings.{fault_of_reading}
 
 -- a reading's fault leaves the book
-pub malformed_untold : (book : BookState) (bytes : List ℕ) (fault : TextFault) → GivesFault fault (edition_of bytes) → PublishesUntold book book bytes (Err (text_fault fault))
+pub malformed_untold : (book : BookState) (bytes : List ℕ) (fault : TextFault) → (fault ≢ tariff.Memory → edition_of bytes ≡ Err fault) → PublishesUntold book book bytes (Err (text_fault fault))
 malformed_untold book bytes tariff.Memory gives = inl refl
-malformed_untold book bytes fault gives = (fault_of_reading fault (edition_of bytes) (λ e. cc) gives, refl)
+malformed_untold book bytes fault gives = (gives (λ e. cc), refl)
 
 -- a reopening's fault leaves the book
 pub stopped_untold : (book new : BookState) (bytes : List ℕ) (edition : Tariff) (found : RestoreFault) → edition_of bytes ≡ Ok edition → new ≡ book → book.settled ≡ false → PublishesUntold book new bytes (Err (reopening_fault found))

@@ -5,15 +5,15 @@ use Rattle.fare_codes.specs.declared.area.Area.{Area}
 use Rattle.fare_codes.specs.declared.area.Area.TheVariants.{One, Two, Three}
 use Rattle.fare_codes.specs.declared.mode.Mode.{Mode}
 use Rattle.fare_codes.specs.declared.mode.Mode.TheVariants.{Up, Nearest}
-use Rattle.fare_tariff.specs.declared.city_record.CityRec.{CityRec}
-use Rattle.fare_tariff.specs.declared.names.Names.{Names}
-use Rattle.fare_tariff.specs.declared.names.Names.TheVariants.{All, Of}
-use Rattle.fare_tariff.specs.declared.record.Record.{Record}
-use Rattle.fare_tariff.specs.declared.record.Record.TheVariants as filed
+use Rattle.fare_tariff.specs.declared.records.city_record.CityRec.{CityRec}
+use Rattle.fare_tariff.specs.declared.records.names.Names.{Names}
+use Rattle.fare_tariff.specs.declared.records.names.Names.TheVariants.{All, Of}
+use Rattle.fare_tariff.specs.declared.records.record.Record.{Record}
+use Rattle.fare_tariff.specs.declared.records.record.Record.TheVariants as filed
 use Rattle.fare_tariff.specs.Record.{CurrencyRecord, RuleRecord, FareRecord, MileageRecord, PairRecord, AllowanceRecord}
 use Rattle.fare_tariff.specs.Tariff.{Tariff}
-use Rattle.fare_tariff.specs.Lookup.{same_indicator, same_cabin, same_kind, same_rule}
-use Rattle.fare_tariff.specs.Check.{same_season, same_via}
+use Rattle.fare_codes.specs.Same.{same_indicator, same_cabin, same_kind, same_season}
+use Rattle.fare_tariff.specs.Lookup.{same_rule, same_via}
 
 -- two areas are the same
 abbrev pub same_area : Area → Area → Bool

@@ -91,7 +91,7 @@ impl Book {
 }
 
 /// The edition that a body stands for behind others.
-#[tactic(auto, using(crate::proofs::Readings::fault_of_reading), unfolding(crate::specs::Editions::read_behind, fare_csv::specs::Fields::Gives))]
+#[tactic(auto, unfolding(crate::specs::Editions::read_behind))]
 fn read_behind<R: Threads + Sync>(
     rt: &R,
     alloc: Global,

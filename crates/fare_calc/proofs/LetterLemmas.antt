@@ -15,8 +15,8 @@ use Rattle.fare_rules.specs.Numbers.{numbers}
 use Rattle.fare_rules.specs.Base.{compared_reference, compared_pair, compared_pairs, highest, higher, is_compared, gives}
 use Rattle.fare_rules.specs.Mileage.{is_covered_by, surcharge, mileage_with, compared_miles, mileage_by, mileage, miles_from, first_without_tpm, sum_of_miles, allowance_of, surcharge_of}
 use Rattle.fare_rules.proofs.NumberLemmas.{numbers_next, numbers_none}
-use Rattle.fare_calc.specs.declared.letter.Letter.TheVariants.{Bare, Mileage as Marked}
-use Rattle.fare_calc.specs.Line.{is_letter}
+use Rattle.fare_line.specs.declared.line.part.Letter.TheVariants.{Bare, Mileage as Marked}
+use Rattle.fare_line.specs.Line.{is_letter}
 use Rattle.fare_calc.specs.LineOf.{letter_of}
 
 -- the first step that passes a test has a letter

@@ -1,26 +1,7 @@
-pub mod PartLemmas
-mod WorkedAnswers
-pub mod SheetLemmas
-pub mod RangeTexts
-pub mod RangeLists
+pub mod HomeLemmas
 pub mod LetterLemmas
 pub mod LineParts
-pub mod HomeLemmas
-pub mod Readers
-pub mod Words
-pub mod Numerals
-pub mod Amounts
-pub mod Chains
-pub mod CodeLaws
-pub mod RuleLaws
-pub mod MarkLaws
-pub mod PieceLaws
-pub mod DraftLaws
-pub mod NextLaws
-pub mod PieceAt
-pub mod RunLaws
-pub mod WayTexts
-pub mod LineWays
-pub mod LineLaws
-pub mod LineSteps
-pub mod LineLengths
+pub mod RangeLists
+pub mod RangeTexts
+pub mod SheetLemmas
+mod WorkedAnswers

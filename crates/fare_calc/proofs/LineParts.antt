@@ -20,11 +20,11 @@ use Rattle.fare_rules.proofs.CoverLemmas.{IsCover, cover}
 use Rattle.fare_rules.proofs.ExistenceLemmas.{units_numbered, greatest_up_to_place, unit_up_to_place}
 use Rattle.fare_rules.proofs.LawfulLemmas.{IsKept, kept_from_unbroken}
 use Rattle.fare_rules.proofs.TotalLemmas.{parts_up_to}
-use Rattle.fare_calc.specs.declared.letter.Letter.TheVariants.{Bare}
-use Rattle.fare_calc.specs.declared.flown.LineSector.{LineSector}
+use Rattle.fare_line.specs.declared.line.part.Letter.TheVariants.{Bare}
+use Rattle.fare_line.specs.declared.line.sector.LineSector.{LineSector}
 use Rattle.fare_calc.specs.declared.part_sheet.PartSheet.{PartSheet}
-use Rattle.fare_calc.specs.declared.priced_part.LinePart.{LinePart}
-use Rattle.fare_calc.specs.Line.{are_parts, flown_count, gap_count, is_led, is_priced, is_unit}
+use Rattle.fare_line.specs.declared.line.part.LinePart.{LinePart}
+use Rattle.fare_line.specs.Line.{are_parts, flown_count, gap_count, is_led, is_priced, is_unit}
 use Rattle.fare_calc.specs.LineOf.{FitsLine, letter_of, flown_of, flown_sector, flown_from, line_part, line_part_of}
 use Rattle.fare_calc.specs.PartSheets.{gap_after, gap_before, in_fare_direction, part_higher, part_mileage, sheet_with, sheet_of_part}
 use Rattle.fare_calc.proofs.LetterLemmas.{letter_has_form, bare_not_higher}

@@ -32,7 +32,7 @@ use Rattle.fare_rules.proofs.Editions.{through_fare, with_allowance, beside_pari
 use Rattle.fare_rules.proofs.Trips.{straight_to_rome, stopping_in_paris, changing_in_paris, paris_twice, by_the_pacific, on_two_carriers, back_from_lyon}
 use Rattle.fare_calc.specs.PartSheets.{sheet_with}
 use Rattle.fare_calc.specs.LineOf.{line_of}
-use Rattle.fare_calc.specs.LineText.{parts_text, line_text}
+use Rattle.fare_line.specs.LineText.{parts_text, line_text}
 use Rattle.fare_calc.specs.Worksheet.{miles_text, part_lines, part_lines_of, unit_line, currency_lines, worksheet_text}
 use Rattle.fare_calc.specs.Answer.{answer_text}
 

@@ -4,7 +4,7 @@ use Rattle.fare_trip.specs.Itinerary.{Itinerary}
 use Rattle.fare_tariff.specs.Tariff.{Tariff}
 use Rattle.fare_rules.specs.declared.part.Part.{Part}
 use Rattle.fare_calc.specs.LineOf.{line_of}
-use Rattle.fare_calc.specs.LineText.{line_text}
+use Rattle.fare_line.specs.LineText.{line_text}
 use Rattle.fare_calc.specs.Worksheet.{worksheet_text}
 
 -- the line that names an edition: its number and its effective day

@@ -13,13 +13,13 @@ use Rattle.fare_rules.specs.Numbers.{numbers}
 use Rattle.fare_rules.specs.Span.{is_surface, is_transfer}
 use Rattle.fare_rules.specs.Construction.{places, units, own}
 use Rattle.fare_rules.specs.UnitPrice.{unit_sheet, price}
-use Rattle.fare_calc.specs.declared.letter.Letter.{Letter}
-use Rattle.fare_calc.specs.declared.letter.Letter.TheVariants.{Bare, Mileage as Marked}
-use Rattle.fare_calc.specs.declared.flown.LineSector.{LineSector}
+use Rattle.fare_line.specs.declared.line.part.Letter.{Letter}
+use Rattle.fare_line.specs.declared.line.part.Letter.TheVariants.{Bare, Mileage as Marked}
+use Rattle.fare_line.specs.declared.line.sector.LineSector.{LineSector}
 use Rattle.fare_calc.specs.declared.part_sheet.PartSheet.{PartSheet}
-use Rattle.fare_calc.specs.declared.plus_up.PlusUp.{PlusUp}
-use Rattle.fare_calc.specs.declared.priced_part.LinePart.{LinePart}
-use Rattle.fare_calc.specs.Line.{CalculationLine, is_letter, is_unit}
+use Rattle.fare_line.specs.declared.line.plus_up.PlusUp.{PlusUp}
+use Rattle.fare_line.specs.declared.line.part.LinePart.{LinePart}
+use Rattle.fare_line.specs.Line.{CalculationLine, is_letter, is_unit}
 use Rattle.fare_calc.specs.PartSheets.{sheet_of_part, home_currency}
 
 -- a flown sector is marked where it reaches a transfer that isn't the last point

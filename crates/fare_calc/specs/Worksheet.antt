@@ -17,7 +17,7 @@ use Rattle.fare_rules.specs.declared.unit_sheet.UnitSheet.{UnitSheet}
 use Rattle.fare_rules.specs.Construction.{places, units, own}
 use Rattle.fare_rules.specs.UnitPrice.{unit_sheet, price}
 use Rattle.fare_calc.specs.declared.part_sheet.PartSheet.{PartSheet}
-use Rattle.fare_calc.specs.LineText.{letter_text, tag_text}
+use Rattle.fare_line.specs.LineText.{letter_text, tag_text}
 use Rattle.fare_calc.specs.LineOf.{letter_of}
 use Rattle.fare_calc.specs.PartSheets.{sheet_of_part, home_currency}
 
@@ -37,8 +37,8 @@ part_line sheet =
     ++ codes " " ++ direction_text sheet.back ++ codes "\n"
 
 -- the line of a fare: its record number, its tag and the filed amount
-abbrev pub fare_line : ℕ → FareRecord → List ℕ
-fare_line number fare =
+abbrev pub filed_line : ℕ → FareRecord → List ℕ
+filed_line number fare =
     codes "FARE " ++ decimal number ++ codes " " ++ tag_text fare.carrier fare.class fare.kind fare.rule ++ codes " "
     ++ nuc_text fare.amount ++ codes "\n"
 
@@ -73,7 +73,7 @@ amount_line amount = codes "AF " ++ nuc_text amount ++ codes "\n"
 -- the five lines of a part
 unfoldable pub part_lines : PartSheet → List ℕ
 part_lines sheet =
-    part_line sheet ++ fare_line sheet.number sheet.fare ++ miles_line sheet.mileage ++ higher_line sheet.higher
+    part_line sheet ++ filed_line sheet.number sheet.fare ++ miles_line sheet.mileage ++ higher_line sheet.higher
     ++ amount_line sheet.amount
 
 -- the lines of a sheet, where there is one

@@ -40,8 +40,8 @@ pub(crate) fn home_currency<'a>(edition: &'a Edition, trip: &Trip) -> Option<&'a
     }
 }
 
-/// A law: the country where a lawful construction begins has a currency, so its worksheet has the rate of exchange and the
-/// local amount.
+/// A law: the country where a lawful construction begins has a currency, so its worksheet has the rate of exchange and
+/// the local amount.
 #[tactic(auto, using(crate::proofs::HomeLemmas::home_is_filed))]
 pub fn home_has_a_currency(edition: &Edition, trip: &Trip, c: &Construction)
     requires { first_broken edition.now trip.now c.now ≡ None }

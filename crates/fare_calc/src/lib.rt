@@ -1,52 +1,24 @@
-//! The calculation line of a construction: what a line is, the one text of each, and the reader of that text.
-//! A contract sees a line as its first city, its flown sectors, its parts and plus-ups, its total and its rate.
+//! What a quotation answers of a lawful construction: its calculation line, its worksheet, and the text with both.
 //!
-//! Of a lawful construction: its line, its worksheet, and the text that answers a quotation with both.
+//! - `composing`: the line of a construction, from its sectors, parts and units (`specs/LineOf`);
+//! - `worksheet`: how its parts, its units and its total come about, one line for each step (`specs/Worksheet`);
+//! - `part_sheet`: how a part is priced, as the line and the worksheet tell it (`specs/PartSheets`);
+//! - `cost`: the price, and the currency of the country where the trip begins, which always has one;
+//! - `answer`: the edition line, and then the line and the worksheet, or that there is no fare (`specs/Answer`).
+//!
+//! The line itself, its one text and the reader of that text are those of `fare_line`, handed on here.
 #![tactic(auto)]
 
-mod answers;
-mod bad_line;
-mod byte_kind;
+mod answer;
 mod composing;
 mod cost;
-mod cursor;
-mod draft;
-mod flown;
-mod forms;
-mod from_text;
-mod letter;
-mod line;
-mod mark;
-mod marks_at;
-mod numbers_at;
 mod part_sheet;
-mod part_sheets;
-mod part_text;
-mod piece;
-mod pieces_at;
-mod plus_up;
-mod priced_part;
-mod printing;
-mod pushing;
-mod reading;
-mod tag;
-mod total_text;
-mod totals;
-mod unit_text;
-mod worksheets;
+mod worksheet;
 
-pub use answers::answer_text;
-pub use bad_line::BadLine;
+pub use answer::{answer_text, push_edition};
 pub use composing::line_of;
 pub use cost::home_has_a_currency;
-pub use flown::LineSector;
-pub use from_text::{read_line, text_tells};
-pub use letter::Letter;
-pub use line::Line;
-pub use plus_up::PlusUp;
-pub use priced_part::LinePart;
-pub use printing::print_line;
-pub use worksheets::worksheet_text;
-
-#[cfg(test)]
-mod tests;
+pub use fare_line::{
+    BadLine, Letter, Line, LinePart, LineSector, PlusUp, print_line, read_line, text_tells,
+};
+pub use worksheet::worksheet_text;

@@ -1,6 +1,24 @@
+//! How a part of a construction is priced, as the line and the worksheet tell it.
+
+ghost use Rattle.std.specs.Prelude.{◌≡◌, ◌<◌, ◌≤◌, IfSome, length, option_map};
+ghost use Rattle.fare_trip.specs.Itinerary.{count};
+ghost use Rattle.fare_rules.specs.Base.{higher};
+ghost use Rattle.fare_rules.specs.ComponentAmount.{component_amount};
+ghost use Rattle.fare_rules.specs.Indicator.{indicator};
+ghost use Rattle.fare_rules.specs.Mileage.{mileage};
+ghost use Rattle.fare_rules.specs.UnitPrice.{hundredths_of};
+ghost use Rattle.fare_units.specs.Advance.{Advances};
+ghost use Rattle.fare_units.specs.Places.{IsPlace};
+ghost use Rattle.fare_calc.specs.PartSheets.{gap_after, gap_before, in_fare_direction, sheet_of_part, sheet_with};
+
 use fare_codes::{City, Nuc};
-use fare_mileage::Mileage;
-use fare_tariff::FareRec;
+use fare_component::applicable;
+use fare_mileage::{Mileage, mileage};
+use fare_points::{higher, indicator};
+use fare_rules::Part;
+use fare_tariff::{Edition, FareRec};
+use fare_trip::Trip;
+use fare_units::{is_back, part_at, start_of};
 
 /// How a part of a construction is priced, as its lines tell it.
 #[derive(Clone, Copy, Debug)]
@@ -29,4 +47,128 @@ pub(crate) struct PartSheet {
     pub higher: Option<(City, City, Nuc)>,
     /// Its component amount.
     pub amount: Nuc,
+}
+
+/// The city to which the surface sector that begins at a point leads, where there is one.
+fn gap_after(trip: &Trip, e: usize) -> Option<City>
+    requires { e ≤ 255 }
+    ensures { result ≡ gap_after trip.now e }
+{
+    if e < trip.count() && trip.sector(e + 1).surface {
+        return Some(trip.point(e + 1));
+    }
+    None
+}
+
+/// The city to which the surface sector before a part leads, where there is one.
+fn gap_before(trip: &Trip, parts: &[Part], k: usize) -> Option<City>
+    ensures { result ≡ gap_before trip.now parts.now k }
+{
+    if k <= 1 {
+        return None;
+    }
+    gap_after(trip, part_at(parts, k - 1).end as usize)
+}
+
+/// The mileage of a span for the indicator of its sectors.
+fn own_mileage(edition: &Edition, trip: &Trip, a: usize, b: usize) -> Mileage
+    requires rises { a < b }
+    requires ends { b ≤ count trip.now }
+    ensures { result ≡ mileage edition.now trip.now a b (indicator edition.now trip.now a b) }
+{
+    let ind = indicator(edition, trip, a, b);
+    mileage(edition, trip, a, b, ind)
+}
+
+/// Two points as a pair in fare direction, with the base.
+fn in_fare_direction(trip: &Trip, back: bool, i: usize, j: usize, base: Nuc) -> (City, City, Nuc)
+    requires first { i ≤ count trip.now }
+    requires second { j ≤ count trip.now }
+    ensures { result ≡ in_fare_direction trip.now back (i, j, base) }
+{
+    if back {
+        (trip.point(j), trip.point(i), base)
+    } else {
+        (trip.point(i), trip.point(j), base)
+    }
+}
+
+/// The higher intermediate point of a fare for a span, in fare direction.
+fn higher_pair(
+    edition: &Edition,
+    trip: &Trip,
+    a: usize,
+    b: usize,
+    fare: &FareRec,
+    back: bool,
+) -> Option<(City, City, Nuc)>
+    requires rises { a < b }
+    requires ends { b ≤ count trip.now }
+    ensures { result ≡ option_map (in_fare_direction trip.now back) (higher edition.now trip.now a b fare.now back) }
+{
+    match higher(edition, trip, a, b, fare, back) {
+        None => None,
+        Some((i, j, base)) => Some(in_fare_direction(trip, back, i, j, base)),
+    }
+}
+
+/// The component amount of a fare for a span, 0 where it has none.
+fn amount_of(edition: &Edition, trip: &Trip, a: usize, b: usize, number: u32, back: bool) -> Nuc
+    requires rises { a < b }
+    requires ends { b ≤ count trip.now }
+    ensures value { result ≡ hundredths_of (component_amount edition.now trip.now a b number back) }
+    ensures bound { result ≤ 1_250_000_000 }
+{
+    match applicable(edition, trip, a, b, number, back) {
+        None => Nuc::new(0),
+        Some(found) => found.amount,
+    }
+}
+
+/// The sheet of a part with its fare.
+#[tactic(auto, unfolding(crate::specs::PartSheets::sheet_with, fare_rules::specs::UnitPrice::part_amount))]
+fn sheet_with(edition: &Edition, trip: &Trip, parts: &[Part], k: usize, fare: &FareRec) -> PartSheet
+    requires few { length parts.now ≤ 16 }
+    requires advances { Advances trip.now parts.now }
+    requires place { IsPlace parts.now k }
+    ensures value { result ≡ sheet_with edition.now trip.now parts.now k fare.now }
+    ensures bound { result.amount ≤ 1_250_000_000 }
+{
+    let part = part_at(parts, k);
+    let a = start_of(trip, parts, k);
+    let b = part.end as usize;
+    let back = is_back(edition, trip, parts, k);
+    PartSheet {
+        place: k as u32,
+        from: trip.point(a),
+        to: trip.point(b),
+        end: part.end,
+        gap: gap_before(trip, parts, k),
+        unit: part.unit,
+        number: part.fare,
+        fare: *fare,
+        back,
+        mileage: own_mileage(edition, trip, a, b),
+        higher: higher_pair(edition, trip, a, b, fare, back),
+        amount: amount_of(edition, trip, a, b, part.fare, back),
+    }
+}
+
+/// The sheet of a part, where its fare is filed.
+pub(crate) fn sheet_of_part(
+    edition: &Edition,
+    trip: &Trip,
+    parts: &[Part],
+    k: usize,
+) -> Option<PartSheet>
+    requires few { length parts.now ≤ 16 }
+    requires advances { Advances trip.now parts.now }
+    requires place { IsPlace parts.now k }
+    ensures value { result ≡ sheet_of_part edition.now trip.now parts.now k }
+    ensures bound { IfSome result (λ sheet. sheet.amount ≤ 1_250_000_000) }
+{
+    match edition.fare_at(part_at(parts, k).fare) {
+        None => None,
+        Some(fare) => Some(sheet_with(edition, trip, parts, k, fare)),
+    }
 }

@@ -5,5 +5,6 @@ pub mod DayTextLemmas
 pub mod DecimalLemmas
 pub mod MonthDayLemmas
 pub mod NumberLemmas
+pub mod SameLemmas
 pub mod SeasonLemmas
 pub mod TextLemmas

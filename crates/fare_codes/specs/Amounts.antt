@@ -1,7 +1,13 @@
--- The arithmetic of amounts: the surcharge, and the conversion to local amounts.
-use Rattle.std.specs.Prelude.{◌≡◌, ◌<◌, ◌≤◌, ℕ, ◌+◌, ◌-◌, ◌*◌, ◌/◌, ◌%◌, ◌^◌}
+-- The arithmetic of amounts: the greater of two, the surcharge, and the conversion to local amounts.
+use Rattle.std.specs.Prelude.{◌≡◌, ◌<◌, ◌≤◌, ℕ, ◌+◌, ◌-◌, ◌*◌, ◌/◌, ◌%◌, ◌^◌, Option, Some, None, max}
 use Rattle.fare_codes.specs.declared.mode.Mode.{Mode}
 use Rattle.fare_codes.specs.declared.mode.Mode.TheVariants.{Up, Nearest}
+
+-- the greater of two amounts, of which either may be missing
+abbrev pub greater : Option ℕ → Option ℕ → Option ℕ
+greater None b = b
+greater (Some a) None = Some a
+greater (Some a) (Some b) = Some (max a b)
 
 -- an amount with so many hundredths of it on top, rounded down
 unfoldable pub surcharged : ℕ → ℕ → ℕ

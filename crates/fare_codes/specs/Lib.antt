@@ -3,6 +3,7 @@ pub mod Codes
 pub mod Day
 pub mod Numbers
 pub mod Over
+pub mod Same
 pub mod Season
 pub mod Words
 pub use Rattle.jiff_core.specs.Calendar

@@ -1,15 +1,29 @@
-//! The arithmetic of amounts: the surcharge, and the conversion to local amounts.
+//! The arithmetic of amounts: the greater of two, the surcharge, and the conversion to local amounts.
 
-ghost use Rattle.std.specs.Prelude.{◌≡◌, ◌*◌, ◌/◌, ◌^◌, ◌<◌, ◌≤◌, ◌+◌};
-ghost use Rattle.fare_codes.specs.Amounts.{surcharged, tenths, rounded, converted, IsLeastMultiple};
+ghost use Rattle.std.specs.Prelude.{ℕ, IfSome, ◌≡◌, ◌*◌, ◌/◌, ◌^◌, ◌<◌, ◌≤◌, ◌+◌};
+ghost use Rattle.fare_codes.specs.Amounts.{greater, surcharged, tenths, rounded, converted, IsLeastMultiple};
 
+use crate::decimals::RATE_LIMIT;
 use crate::mode::Mode;
-use crate::nuc::Nuc;
+use crate::nuc::{FARE_LIMIT, Nuc};
+
+/// The greater of two amounts, of which either may be missing.
+pub fn greater(a: Option<Nuc>, b: Option<Nuc>) -> Option<Nuc>
+    ensures value { result ≡ greater a b }
+    ensures below { (limit : ℕ) →
+        IfSome a (λ x. x < limit) → IfSome b (λ x. x < limit) → IfSome result (λ x. x < limit) }
+{
+    match (a, b) {
+        (None, b) => b,
+        (Some(a), None) => Some(a),
+        (Some(a), Some(b)) => Some(a.max(b)),
+    }
+}
 
 /// The base with a surcharge of `s` in the hundred, rounded down to a hundredth of a NUC.
 #[tactic(auto, unfolding(crate::specs::Amounts::surcharged))]
 pub fn surcharged(base: Nuc, s: u32) -> Nuc
-    requires base { base < 10 ^ 9 }
+    requires base { base < FARE_LIMIT }
     requires surcharge { s ≤ 25 }
     ensures value { result ≡ surcharged base s }
     ensures bound { result ≤ base * 125 / 100 }
@@ -22,7 +36,7 @@ pub fn surcharged(base: Nuc, s: u32) -> Nuc
 #[tactic(auto, using(crate::proofs::AmountLemmas::up_is_least), unfolding(crate::specs::Amounts::converted))]
 pub fn convert(nuc: u64, roe: u64, decimals: u8, unit: u32, mode: Mode) -> u128
     requires nuc { nuc ≤ 4 * 10 ^ 10 }
-    requires roe { roe < 10 ^ 13 }
+    requires roe { roe < RATE_LIMIT }
     requires decimals { decimals ≤ 2 }
     requires some { 1 ≤ unit }
     requires unit { unit ≤ 10000 }
@@ -36,7 +50,7 @@ pub fn convert(nuc: u64, roe: u64, decimals: u8, unit: u32, mode: Mode) -> u128
 #[tactic(auto, using(crate::proofs::DecimalLemmas::power_positive), unfolding(crate::specs::Amounts::tenths))]
 fn tenths(nuc: u64, roe: u64, decimals: u8) -> u128
     requires nuc { nuc ≤ 4 * 10 ^ 10 }
-    requires roe { roe < 10 ^ 13 }
+    requires roe { roe < RATE_LIMIT }
     requires decimals { decimals ≤ 2 }
     ensures value { result ≡ tenths nuc roe decimals }
     ensures bound { result < 10 ^ 24 }

@@ -1,4 +1,4 @@
-ghost use Rattle.std.specs.Prelude.{◌≡◌};
+ghost use Rattle.std.specs.Prelude.{◌≡◌, ◌↔◌, IsTrue};
 ghost use Rattle.fare_codes.specs.Words.{area_text, read_area};
 
 use crate::texts::ascii_text;
@@ -40,5 +40,12 @@ impl Area {
             Area::Two => ascii_text(b"2"),
             Area::Three => ascii_text(b"3"),
         }
+    }
+
+    /// Whether both are the same area.
+    pub fn is(self, other: Area) -> bool
+        ensures { IsTrue result ↔ (self ≡ other) }
+    {
+        self == other
     }
 }

@@ -1,4 +1,5 @@
-ghost use Rattle.std.specs.Prelude.{◌≡◌};
+ghost use Rattle.std.specs.Prelude.{◌≡◌, ◌↔◌, IsTrue};
+ghost use Rattle.fare_codes.specs.Same.{same_cabin};
 ghost use Rattle.fare_codes.specs.Words.{cabin_text, read_cabin};
 
 use crate::texts::ascii_text;
@@ -40,5 +41,14 @@ impl Cabin {
             Cabin::C => ascii_text(b"C"),
             Cabin::Y => ascii_text(b"Y"),
         }
+    }
+
+    /// Whether both are the same cabin.
+    #[tactic(auto, using(crate::proofs::SameLemmas::cabin_test))]
+    pub fn is(self, other: Cabin) -> bool
+        ensures same { IsTrue result ↔ (self ≡ other) }
+        ensures test { result ≡ same_cabin self other }
+    {
+        self == other
     }
 }

@@ -1,4 +1,4 @@
-ghost use Rattle.std.specs.Prelude.{◌≡◌, ◌↔◌, true, List, ℕ, IsTrue, codes};
+ghost use Rattle.std.specs.Prelude.{◌≡◌, ◌↔◌, true, List, ℕ, IsTrue, codes, bytes_eq};
 ghost use Rattle.fare_codes.specs.Codes.{is_city, read_city};
 
 use crate::texts::{all_uppercase, ascii_text};
@@ -45,8 +45,10 @@ impl City {
     }
 
     /// Whether both are the same city.
+    #[tactic(auto, using(crate::proofs::SameLemmas::same_text))]
     pub fn is(self, other: City) -> bool
-        ensures { IsTrue result ↔ (self ≡ other) }
+        ensures same { IsTrue result ↔ (self ≡ other) }
+        ensures test { result ≡ bytes_eq self other }
     {
         self.letters == other.letters
     }

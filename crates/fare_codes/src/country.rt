@@ -1,4 +1,4 @@
-ghost use Rattle.std.specs.Prelude.{◌≡◌, ◌↔◌, true, List, ℕ, IsTrue};
+ghost use Rattle.std.specs.Prelude.{◌≡◌, ◌↔◌, true, List, ℕ, IsTrue, bytes_eq};
 ghost use Rattle.fare_codes.specs.Codes.{is_country, read_country};
 
 use crate::texts::{all_uppercase, ascii_text};
@@ -45,8 +45,10 @@ impl Country {
     }
 
     /// Whether both are the same country.
+    #[tactic(auto, using(crate::proofs::SameLemmas::same_text))]
     pub fn is(self, other: Country) -> bool
-        ensures { IsTrue result ↔ (self ≡ other) }
+        ensures same { IsTrue result ↔ (self ≡ other) }
+        ensures test { result ≡ bytes_eq self other }
     {
         self.letters == other.letters
     }

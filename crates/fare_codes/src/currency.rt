@@ -1,4 +1,4 @@
-ghost use Rattle.std.specs.Prelude.{◌≡◌, ◌↔◌, true, List, ℕ, IsTrue};
+ghost use Rattle.std.specs.Prelude.{◌≡◌, ◌↔◌, true, List, ℕ, IsTrue, bytes_eq};
 ghost use Rattle.fare_codes.specs.Codes.{is_currency, read_currency};
 
 use crate::texts::{all_uppercase, ascii_text};
@@ -45,8 +45,10 @@ impl Currency {
     }
 
     /// Whether both are the same currency.
+    #[tactic(auto, using(crate::proofs::SameLemmas::same_text))]
     pub fn is(self, other: Currency) -> bool
-        ensures { IsTrue result ↔ (self ≡ other) }
+        ensures same { IsTrue result ↔ (self ≡ other) }
+        ensures test { result ≡ bytes_eq self other }
     {
         self.letters == other.letters
     }

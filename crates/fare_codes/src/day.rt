@@ -1,5 +1,7 @@
 ghost use Rattle.std.specs.Prelude.{◌≡◌, ◌↔◌, ◌<◌, ◌≤◌, true, IsTrue, codes, IfSome, length, pos, if◌then◌else◌};
-ghost use Rattle.fare_codes.specs.Day.{is_day, read_day, day_number, calendar_number, has_day_shape, year_of, is_civil, month_day_of};
+ghost use Rattle.std.specs.Prelude.{bytes_eq};
+ghost use Rattle.fare_codes.specs.Day.{is_day, read_day, day_number, calendar_number, has_day_shape, year_of};
+ghost use Rattle.fare_codes.specs.Day.{is_civil, month_day_of};
 
 use crate::calendar::{day_number_of, has_two_digits, two_digits_at};
 use crate::month_day::MonthDay;
@@ -79,8 +81,10 @@ impl Day {
     }
 
     /// Whether both are the same day.
+    #[tactic(auto, using(crate::proofs::SameLemmas::same_text))]
     pub fn is(self, other: Day) -> bool
-        ensures { IsTrue result ↔ (self ≡ other) }
+        ensures same { IsTrue result ↔ (self ≡ other) }
+        ensures test { result ≡ bytes_eq self other }
     {
         self == other
     }

@@ -1,25 +1,29 @@
 //! Decimals: a number, a point and a fixed number of places, as whole units of the last place.
 
-ghost use Rattle.std.specs.Prelude.{◌≡◌, true, ◌+◌, ◌^◌, ◌<◌, ◌≤◌, ◌++◌, Some, IfSome, length, decimal};
+ghost use Rattle.std.specs.Prelude.{◌≡◌, true, ◌+◌, ◌<◌, ◌≤◌, ◌++◌, Some, IfSome, length, decimal};
 ghost use Rattle.std.specs.List.{list_all};
 ghost use Rattle.std.specs.Char.{is_ascii_digit};
 ghost use Rattle.std.specs.Str.Parse.{digits_value};
 ghost use Rattle.arrayvec.specs.ArrayString.{array_string_len};
-ghost use Rattle.fare_codes.specs.Numbers.{is_decimal, decimal_value, read_decimal, decimal_text, last_digits, read_rate, rate_text};
+ghost use Rattle.fare_codes.specs.Numbers.{is_decimal, decimal_value, read_decimal, decimal_text, last_digits};
+ghost use Rattle.fare_codes.specs.Numbers.{read_rate, rate_text};
 
 use crate::numbers::{is_number, value_after};
 use crate::texts::all_digits;
 use arrayvec::ArrayString;
 use itoa::Buffer;
 
-/// The greatest number of units: thirteen nines.
-const MOST_UNITS: u64 = 9_999_999_999_999;
+/// Every decimal has fewer units of its last place: it has at most fourteen characters, one of them its point.
+const UNIT_LIMIT: u64 = 10_000_000_000_000;
+
+/// Every rate is below this many millionths: it has at most seven digits before its point.
+pub const RATE_LIMIT: u64 = 10_000_000_000_000;
 
 /// The rate in millionths that these bytes write; nothing exactly where they are not a number of at most seven digits,
 /// a point and six digits. No other bytes write it.
 pub fn read_rate(bytes: &[u8]) -> Option<u64>
     ensures value { result ≡ read_rate bytes.now }
-    ensures bound { IfSome result (λ n. n < 10 ^ 13) }
+    ensures bound { IfSome result (λ n. n < RATE_LIMIT) }
     ensures only { IfSome result (λ n. bytes.now ≡ rate_text n) }
 {
     read_decimal(bytes, 6)
@@ -28,7 +32,7 @@ pub fn read_rate(bytes: &[u8]) -> Option<u64>
 /// The rate of this many millionths; read back it is the rate.
 #[tactic(auto, using(crate::proofs::DecimalLemmas::decimal_read_back))]
 pub fn rate_text(millionths: u64) -> ArrayString<16>
-    requires { millionths < 10 ^ 13 }
+    requires { millionths < RATE_LIMIT }
     ensures text { result.bytes ≡ rate_text millionths }
     ensures read_back { read_rate (rate_text millionths) ≡ Some millionths }
 {
@@ -40,7 +44,7 @@ pub fn rate_text(millionths: u64) -> ArrayString<16>
 pub(crate) fn read_decimal(bytes: &[u8], places: usize) -> Option<u64>
     requires { places ≤ 6 }
     ensures value { result ≡ read_decimal places bytes.now }
-    ensures bound { IfSome result (λ n. n < 10 ^ 13) }
+    ensures bound { IfSome result (λ n. n < UNIT_LIMIT) }
     ensures only { IfSome result (λ n. bytes.now ≡ decimal_text places n) }
 {
     if !is_decimal(bytes, places) {
@@ -77,16 +81,16 @@ fn value_of(bytes: &[u8], places: usize) -> Option<u64>
 fn joined_value(before: &[u8], behind: &[u8]) -> Option<u64>
     requires before { list_all is_ascii_digit before.now ≡ true }
     requires behind { list_all is_ascii_digit behind.now ≡ true }
-    requires small { digits_value 10 (before.now ++ behind.now) < 10 ^ 13 }
+    requires small { digits_value 10 (before.now ++ behind.now) < UNIT_LIMIT }
     ensures { result ≡ Some (digits_value 10 (before.now ++ behind.now)) }
 {
-    let whole = value_after(0, before, MOST_UNITS)?;
-    value_after(whole, behind, MOST_UNITS)
+    let whole = value_after(0, before, UNIT_LIMIT - 1)?;
+    value_after(whole, behind, UNIT_LIMIT - 1)
 }
 
 /// The units of the last place, written as a decimal.
 pub(crate) fn decimal_text(n: u64, places: usize) -> ArrayString<16>
-    requires units { n < 10 ^ 13 }
+    requires units { n < UNIT_LIMIT }
     requires places { places ≤ 6 }
     ensures { result.bytes ≡ decimal_text places n }
 {

@@ -1,4 +1,5 @@
-ghost use Rattle.std.specs.Prelude.{◌≡◌};
+ghost use Rattle.std.specs.Prelude.{◌≡◌, ◌↔◌, IsTrue};
+ghost use Rattle.fare_codes.specs.Same.{same_indicator};
 ghost use Rattle.fare_codes.specs.Words.{indicator_text, read_indicator};
 
 use crate::texts::ascii_text;
@@ -48,5 +49,14 @@ impl Indicator {
             Indicator::PA => ascii_text(b"PA"),
             Indicator::AP => ascii_text(b"AP"),
         }
+    }
+
+    /// Whether both are the same indicator.
+    #[tactic(auto, using(crate::proofs::SameLemmas::indicator_test))]
+    pub fn is(self, other: Indicator) -> bool
+        ensures same { IsTrue result ↔ (self ≡ other) }
+        ensures test { result ≡ same_indicator self other }
+    {
+        self == other
     }
 }

@@ -1,4 +1,5 @@
-ghost use Rattle.std.specs.Prelude.{◌≡◌};
+ghost use Rattle.std.specs.Prelude.{◌≡◌, ◌↔◌, IsTrue};
+ghost use Rattle.fare_codes.specs.Same.{same_kind};
 ghost use Rattle.fare_codes.specs.Words.{kind_text, read_kind};
 
 use crate::texts::ascii_text;
@@ -36,5 +37,14 @@ impl Kind {
             Kind::OW => ascii_text(b"OW"),
             Kind::HR => ascii_text(b"HR"),
         }
+    }
+
+    /// Whether both are the same kind of fare.
+    #[tactic(auto, using(crate::proofs::SameLemmas::kind_test))]
+    pub fn is(self, other: Kind) -> bool
+        ensures same { IsTrue result ↔ (self ≡ other) }
+        ensures test { result ≡ same_kind self other }
+    {
+        self == other
     }
 }

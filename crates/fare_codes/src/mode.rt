@@ -1,4 +1,4 @@
-ghost use Rattle.std.specs.Prelude.{◌≡◌};
+ghost use Rattle.std.specs.Prelude.{◌≡◌, ◌↔◌, IsTrue};
 ghost use Rattle.fare_codes.specs.Words.{mode_text, read_mode};
 
 use crate::texts::ascii_text;
@@ -36,5 +36,12 @@ impl Mode {
             Mode::Up => ascii_text(b"U"),
             Mode::Nearest => ascii_text(b"N"),
         }
+    }
+
+    /// Whether both are the same mode.
+    pub fn is(self, other: Mode) -> bool
+        ensures { IsTrue result ↔ (self ≡ other) }
+    {
+        self == other
     }
 }

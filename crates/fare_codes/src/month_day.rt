@@ -1,4 +1,4 @@
-ghost use Rattle.std.specs.Prelude.{◌≡◌, ◌↔◌, ◌≤◌, true, IsTrue, length};
+ghost use Rattle.std.specs.Prelude.{◌≡◌, ◌↔◌, ◌≤◌, true, IsTrue, length, bytes_eq};
 ghost use Rattle.fare_codes.specs.Day.{is_month_day, read_month_day, has_month_day_shape, place_in_year};
 
 use crate::calendar::{day_number_of, has_two_digits, two_digits_at};
@@ -71,8 +71,10 @@ impl MonthDay {
     }
 
     /// Whether both are the same day of the year.
+    #[tactic(auto, using(crate::proofs::SameLemmas::same_text))]
     pub fn is(self, other: MonthDay) -> bool
-        ensures { IsTrue result ↔ (self ≡ other) }
+        ensures same { IsTrue result ↔ (self ≡ other) }
+        ensures test { result ≡ bytes_eq self other }
     {
         self == other
     }

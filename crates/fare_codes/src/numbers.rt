@@ -1,6 +1,7 @@
 //! Plain numbers: decimal digits with no zero in front.
 
-ghost use Rattle.std.specs.Prelude.{◌≡◌, ◌^◌, ◌<◌, ◌≤◌, ℕ, List, true, Some, None, IfSome, ◌&&◌, nat_le, length, decimal, if◌then◌else◌};
+ghost use Rattle.std.specs.Prelude.{◌≡◌, ◌^◌, ◌<◌, ◌≤◌, ℕ, List, true, Some, None, IfSome, ◌&&◌, nat_le, length};
+ghost use Rattle.std.specs.Prelude.{decimal, if◌then◌else◌};
 ghost use Rattle.std.specs.List.{list_all};
 ghost use Rattle.std.specs.Char.{is_ascii_digit};
 ghost use Rattle.std.specs.Str.Parse.{digits_value_after};
@@ -51,7 +52,8 @@ pub(crate) fn value_after(start: u64, bytes: &[u8], most: u64) -> Option<u64>
     requires form { list_all is_ascii_digit bytes.now ≡ true }
     requires small { start ≤ most }
     requires room { most < 10 ^ 18 }
-    ensures value { result ≡ (if nat_le (digits_value_after 10 start bytes.now) most then Some (digits_value_after 10 start bytes.now) else None) }
+    ensures value { result ≡ (if nat_le (digits_value_after 10 start bytes.now) most
+        then Some (digits_value_after 10 start bytes.now) else None) }
     ensures bound { IfSome result (λ n. n ≤ most) }
 {
     let mut value = start;

@@ -1,4 +1,4 @@
-ghost use Rattle.std.specs.Prelude.{◌≡◌};
+ghost use Rattle.std.specs.Prelude.{◌≡◌, ◌↔◌, IsTrue};
 ghost use Rattle.fare_codes.specs.Over.{over_text, read_over};
 
 use crate::texts::ascii_text;
@@ -40,5 +40,12 @@ impl Over {
             Over::AT => ascii_text(b"AT"),
             Over::PA => ascii_text(b"PA"),
         }
+    }
+
+    /// Whether both are the same mark.
+    pub fn is(self, other: Over) -> bool
+        ensures { IsTrue result ↔ (self ≡ other) }
+    {
+        self == other
     }
 }

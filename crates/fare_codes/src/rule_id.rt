@@ -1,4 +1,4 @@
-ghost use Rattle.std.specs.Prelude.{◌≡◌, ◌↔◌, ◌≤◌, true, IsTrue, length};
+ghost use Rattle.std.specs.Prelude.{◌≡◌, ◌↔◌, ◌≤◌, true, IsTrue, length, bytes_eq};
 ghost use Rattle.fare_codes.specs.Codes.{is_rule_id, read_rule_id, padded};
 
 use crate::texts::{all_code_characters, ascii_text};
@@ -21,7 +21,8 @@ impl Model for RuleId {
 
     ghost view = { λ r. take r.len r.characters };
 
-    ghost invariant = { λ r. (r.len ≤ 8) × (length r.characters ≡ 8) × (is_rule_id (take r.len r.characters) ≡ true) × (padded (take r.len r.characters) ≡ r.characters) };
+    ghost invariant = { λ r. (r.len ≤ 8) × (length r.characters ≡ 8)
+        × (is_rule_id (take r.len r.characters) ≡ true) × (padded (take r.len r.characters) ≡ r.characters) };
 
     ghost inverse = { λ bytes. record { characters = padded bytes; len = length bytes } };
 
@@ -56,8 +57,10 @@ impl RuleId {
     }
 
     /// Whether both are the same rule's id.
+    #[tactic(auto, using(crate::proofs::SameLemmas::same_text))]
     pub fn is(self, other: RuleId) -> bool
-        ensures { IsTrue result ↔ (self ≡ other) }
+        ensures same { IsTrue result ↔ (self ≡ other) }
+        ensures test { result ≡ bytes_eq self other }
     {
         self == other
     }

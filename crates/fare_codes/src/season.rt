@@ -1,5 +1,6 @@
 ghost use Rattle.std.specs.Prelude.{◌≡◌, ◌↔◌, ℕ, List, true, IsTrue};
 ghost use Rattle.fare_codes.specs.Day.{is_month_day};
+ghost use Rattle.fare_codes.specs.Same.{same_season};
 ghost use Rattle.fare_codes.specs.Season.{season_holds, whole_year};
 
 use crate::month_day::MonthDay;
@@ -44,7 +45,8 @@ impl Season {
 
     /// Whether both have the same first and last day.
     pub fn is(self, other: Season) -> bool
-        ensures { IsTrue result ↔ (self ≡ other) }
+        ensures same { IsTrue result ↔ (self ≡ other) }
+        ensures test { result ≡ same_season self other }
     {
         self.first.is(other.first) && self.last.is(other.last)
     }

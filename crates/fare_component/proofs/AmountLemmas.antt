@@ -10,14 +10,18 @@ use Rattle.fare_rules.specs.ComponentAmount.{span_surcharge, is_applicable, is_a
 use Rattle.fare_component.specs.Usable.{is_for_span, is_usable}
 
 -- the amount by whether the fare is usable, by the surcharge and by whether that is allowed
-by_tests : (tariff : Tariff) (trip : Itinerary) (a b : ℕ) (back : Bool) (fare : FareRecord) (usable : Bool) (step : Option ℕ) → is_usable tariff trip a b back fare ≡ usable → span_surcharge tariff trip a b ≡ step → fare_amount tariff trip a b back fare ≡ cond (usable && is_some step && is_allowed tariff fare step) (option_map (amount_from (base tariff trip a b fare back)) step) None
+by_tests : (tariff : Tariff) (trip : Itinerary) (a b : ℕ) (back : Bool) (fare : FareRecord) (usable : Bool)
+    (step : Option ℕ) → is_usable tariff trip a b back fare ≡ usable → span_surcharge tariff trip a b ≡ step
+    → fare_amount tariff trip a b back fare ≡ cond (usable && is_some step && is_allowed tariff fare step)
+    (option_map (amount_from (base tariff trip a b fare back)) step) None
 unfolding is_for_span is_usable is_applicable fare_amount
 by_tests tariff trip a b back fare usable step u s =
     ap (λ t. cond (is_usable tariff trip a b back fare && is_some t && is_allowed tariff fare t) (option_map (amount_from (base tariff trip a b fare back)) t) None) s
     ∙ ap (λ t. cond (t && is_some step && is_allowed tariff fare step) (option_map (amount_from (base tariff trip a b fare back)) step) None) u
 
 -- a fare that isn't usable has no amount
-pub unusable : (tariff : Tariff) (trip : Itinerary) (a b : ℕ) (back : Bool) (fare : FareRecord) → is_usable tariff trip a b back fare ≡ false → fare_amount tariff trip a b back fare ≡ None
+pub unusable : (tariff : Tariff) (trip : Itinerary) (a b : ℕ) (back : Bool) (fare : FareRecord)
+    → is_usable tariff trip a b back fare ≡ false → fare_amount tariff trip a b back fare ≡ None
 unusable tariff trip a b back fare u = by_tests tariff trip a b back fare false (span_surcharge tariff trip a b) u refl
 
 no_choice : (t : Bool) (o : Option Amount) → cond t o o ≡ o
@@ -25,11 +29,15 @@ no_choice true o = refl
 no_choice false o = refl
 
 -- nor has one where the mileage lets no fare be used
-pub no_surcharge : (tariff : Tariff) (trip : Itinerary) (a b : ℕ) (back : Bool) (fare : FareRecord) → span_surcharge tariff trip a b ≡ None → fare_amount tariff trip a b back fare ≡ None
+pub no_surcharge : (tariff : Tariff) (trip : Itinerary) (a b : ℕ) (back : Bool) (fare : FareRecord)
+    → span_surcharge tariff trip a b ≡ None → fare_amount tariff trip a b back fare ≡ None
 no_surcharge tariff trip a b back fare s =
     by_tests tariff trip a b back fare (is_usable tariff trip a b back fare) None refl s
     ∙ no_choice (is_usable tariff trip a b back fare && is_some {T = ℕ} None && is_allowed tariff fare None) None
 
 -- a usable fare whose mileage asks for a surcharge has an amount where its rule allows that
-pub by_rule : (tariff : Tariff) (trip : Itinerary) (a b : ℕ) (back : Bool) (fare : FareRecord) (step : ℕ) → is_usable tariff trip a b back fare ≡ true → span_surcharge tariff trip a b ≡ Some step → fare_amount tariff trip a b back fare ≡ cond (is_allowed tariff fare (Some step)) (Some (amount_from (base tariff trip a b fare back) step)) None
+pub by_rule : (tariff : Tariff) (trip : Itinerary) (a b : ℕ) (back : Bool) (fare : FareRecord) (step : ℕ)
+    → is_usable tariff trip a b back fare ≡ true → span_surcharge tariff trip a b ≡ Some step
+    → fare_amount tariff trip a b back fare ≡ cond (is_allowed tariff fare (Some step))
+    (Some (amount_from (base tariff trip a b fare back) step)) None
 by_rule tariff trip a b back fare step u s = by_tests tariff trip a b back fare true (Some step) u s

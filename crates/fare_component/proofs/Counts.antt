@@ -9,7 +9,9 @@ counted true n rest = omega arith
 counted false n rest = omega arith
 
 -- as many pass in a range as in the rest, and one more where the first passes
-pub count_next : (test : ℕ → Bool) (first past : ℕ) → first < past → length (filter test (numbers first past)) ≡ cond (test first) 1 0 + length (filter test (numbers (first + 1) past))
+pub count_next : (test : ℕ → Bool) (first past : ℕ) → first < past
+    → length (filter test (numbers first past))
+    ≡ cond (test first) 1 0 + length (filter test (numbers (first + 1) past))
 count_next test first past h =
     ap (λ l. length (filter test l)) (numbers_next first past h) ∙ counted (test first) first (filter test (numbers (first + 1) past))
 

@@ -1,6 +1,6 @@
 //! What a fare costs for a span.
 
-ghost use Rattle.std.specs.Prelude.{◌≡◌, ◌<◌, ◌≤◌, ◌^◌, IfSome, if◌then◌else◌};
+ghost use Rattle.std.specs.Prelude.{◌≡◌, ◌<◌, ◌≤◌, IfSome, if◌then◌else◌};
 ghost use Rattle.fare_trip.specs.Itinerary.{count};
 ghost use Rattle.fare_rules.specs.Base.{base};
 ghost use Rattle.fare_rules.specs.ComponentAmount.{is_allowed, amount_from, fare_amount, component_amount};
@@ -8,18 +8,18 @@ ghost use Rattle.fare_component.specs.Usable.{IsAmount};
 
 use crate::conditions::{is_allowed, span_surcharge};
 use crate::usable::is_usable;
-use fare_codes::{Nuc, surcharged};
+use fare_codes::{FARE_LIMIT, Nuc, surcharged};
 use fare_points::higher;
-use fare_rules::Amount;
+use fare_rules::{Amount, MOST_SURCHARGE};
 use fare_tariff::{Edition, FareRec};
 use fare_trip::Trip;
 
 /// The base of a fare for a span: its amount, or that of a higher intermediate point.
 fn base(edition: &Edition, trip: &Trip, a: usize, b: usize, fare: &FareRec, back: bool) -> Nuc
     requires rises { a < b }
-    requires ends { b ≤ count trip.now }
+    requires within { b ≤ count trip.now }
     ensures value { result ≡ base edition.now trip.now a b fare.now back }
-    ensures bound { result < 10 ^ 9 }
+    ensures bound { result < FARE_LIMIT }
 {
     match higher(edition, trip, a, b, fare, back) {
         None => fare.amount,
@@ -30,8 +30,8 @@ fn base(edition: &Edition, trip: &Trip, a: usize, b: usize, fare: &FareRec, back
 /// A base with a surcharge, rounded down.
 #[tactic(auto, unfolding(fare_codes::specs::Amounts::surcharged))]
 fn amount_from(base: Nuc, step: u32) -> Amount
-    requires low { base < 10 ^ 9 }
-    requires step { step ≤ 25 }
+    requires low { base < FARE_LIMIT }
+    requires step { step ≤ MOST_SURCHARGE }
     ensures value { result ≡ amount_from base step }
     ensures bound { IsAmount result }
 {
@@ -48,14 +48,15 @@ fn allowed_amount(
     trip: &Trip,
     a: usize,
     b: usize,
-    back: bool,
     fare: &FareRec,
+    back: bool,
     step: u32,
 ) -> Option<Amount>
     requires rises { a < b }
-    requires ends { b ≤ count trip.now }
-    requires step { step ≤ 25 }
-    ensures value { result ≡ (if is_allowed edition.now fare.now (Some step) then Some (amount_from (base edition.now trip.now a b fare.now back) step) else None) }
+    requires within { b ≤ count trip.now }
+    requires step { step ≤ MOST_SURCHARGE }
+    ensures value { result ≡ (if is_allowed edition.now fare.now (Some step)
+        then Some (amount_from (base edition.now trip.now a b fare.now back) step) else None) }
     ensures bound { IfSome result IsAmount }
 {
     if is_allowed(edition, fare, Some(step)) {
@@ -73,25 +74,25 @@ fn fare_amount(
     trip: &Trip,
     a: usize,
     b: usize,
-    back: bool,
     fare: &FareRec,
+    back: bool,
 ) -> Option<Amount>
     requires rises { a < b }
-    requires ends { b ≤ count trip.now }
+    requires within { b ≤ count trip.now }
     ensures value { result ≡ fare_amount edition.now trip.now a b back fare.now }
     ensures bound { IfSome result IsAmount }
 {
-    if !is_usable(edition, trip, a, b, back, fare) {
+    if !is_usable(edition, trip, a, b, fare, back) {
         return None;
     }
     match span_surcharge(edition, trip, a, b) {
         None => None,
-        Some(step) => allowed_amount(edition, trip, a, b, back, fare, step),
+        Some(step) => allowed_amount(edition, trip, a, b, fare, back, step),
     }
 }
 
-/// What the fare of a record number costs from point `a` to point `b` of a trip, priced back or not: its base, surcharge and
-/// amount; nothing exactly where the fare may not be used there or the record files no fare.
+/// What the fare of a record number costs from point `a` to point `b` of a trip, priced back or not: its base,
+/// surcharge and amount; nothing exactly where the fare may not be used there or the record files no fare.
 #[tactic(auto, unfolding(fare_rules::specs::ComponentAmount::component_amount))]
 pub fn applicable(
     edition: &Edition,
@@ -102,12 +103,12 @@ pub fn applicable(
     back: bool,
 ) -> Option<Amount>
     requires rises { a < b }
-    requires ends { b ≤ count trip.now }
+    requires within { b ≤ count trip.now }
     ensures value { result ≡ component_amount edition.now trip.now a b number back }
     ensures bound { IfSome result IsAmount }
 {
     match edition.fare_at(number) {
         None => None,
-        Some(fare) => fare_amount(edition, trip, a, b, back, fare),
+        Some(fare) => fare_amount(edition, trip, a, b, fare, back),
     }
 }

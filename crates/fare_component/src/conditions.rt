@@ -1,5 +1,10 @@
-//! The conditions under which a fare may be used for a span of a trip, each as its own test. A span begins at point `a` and
-//! ends at point `b`; a fare is priced back where it is paid from the end of a span to its start.
+//! The conditions under which a fare may be used for a span of a trip, each as its own test. A span begins at point `a`
+//! and ends at point `b`; a fare is priced back where it is paid from the end of a span to its start.
+//!
+//! - `spans`: no surface sector, no city twice, and how many stopovers and transfers there are;
+//! - `fares`: the cities, the indicator, the class, the carrier and the season of a fare;
+//! - `terms`: the stopovers, the transfers and the advance days that a rule allows;
+//! - `surcharges`: the mileage, and whether a rule allows its surcharge.
 
 mod fares;
 mod spans;

@@ -15,7 +15,7 @@ use fare_trip::Trip;
 
 /// Whether a span can be a component: it holds no surface sector and no city twice.
 fn is_plain(trip: &Trip, a: usize, b: usize) -> bool
-    requires { b ≤ count trip.now }
+    requires within { b ≤ count trip.now }
     ensures { result ≡ (not (holds_surface trip.now a b) && not (repeats_city trip.now a b)) }
 {
     !holds_surface(trip, a, b) && !repeats_city(trip, a, b)
@@ -29,16 +29,16 @@ fn is_for_span(
     trip: &Trip,
     a: usize,
     b: usize,
-    back: bool,
     fare: &FareRec,
+    back: bool,
 ) -> bool
     requires rises { a < b }
-    requires ends { b ≤ count trip.now }
+    requires within { b ≤ count trip.now }
     ensures { result ≡ is_for_span edition.now trip.now a b back fare.now }
 {
     is_plain(trip, a, b)
         && runs_between(trip, a, b, back, fare)
-        && may_be_priced(back, fare)
+        && may_be_priced(fare, back)
         && has_indicator(edition, trip, a, b, fare)
         && covers_cabins(trip, a, b, fare)
         && covers_carriers(trip, a, b, fare)
@@ -52,14 +52,14 @@ pub(crate) fn is_usable(
     trip: &Trip,
     a: usize,
     b: usize,
-    back: bool,
     fare: &FareRec,
+    back: bool,
 ) -> bool
     requires rises { a < b }
-    requires ends { b ≤ count trip.now }
+    requires within { b ≤ count trip.now }
     ensures { result ≡ is_usable edition.now trip.now a b back fare.now }
 {
-    is_for_span(edition, trip, a, b, back, fare)
+    is_for_span(edition, trip, a, b, fare, back)
         && stops_hold(edition, trip, a, b, fare)
         && transfers_hold(edition, trip, a, b, fare)
         && advance_holds(edition, trip, fare)

@@ -3,10 +3,10 @@ use Rattle.std.proofs.Common.{subst, sym, ◌∙◌, ◌≡◌, ℕ, List, [], �
 use Rattle.std.specs.Prelude.{Ok, is_none}
 use Rattle.std.specs.List.{All, list_all}
 use Rattle.std.proofs.lemmas.List.Elements.{All-head, All-tail}
-use Rattle.fare_tariff.specs.declared.record.Record.{Record}
+use Rattle.fare_tariff.specs.declared.records.record.Record.{Record}
 use Rattle.fare_tariff.specs.Tariff.{Tariff}
 use Rattle.fare_tariff.specs.Check.{IsEdition, first_fault}
-use Rattle.fare_csv.specs.declared.version.Version.TheVariants.{Two}
+use Rattle.fare_csv.specs.declared.head.Version.TheVariants.{Two}
 use Rattle.fare_csv.specs.Fields.{counted}
 use Rattle.fare_csv.specs.Lines.{is_plain_row}
 use Rattle.fare_csv.specs.CanonicalText.{canonical_rows, canonical_text, end_row, record_row}

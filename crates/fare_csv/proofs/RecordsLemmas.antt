@@ -3,12 +3,12 @@ use Rattle.std.proofs.Common.{◌≡◌, ℕ, List, [], ◌∷◌, ◌++◌, Boo
 use Rattle.std.specs.Prelude.{Result, Ok, Err, codes}
 use Rattle.std.specs.Str.{bytes_eq}
 use Rattle.std.proofs.lemmas.List.{append-nil}
-use Rattle.fare_tariff.specs.declared.record.Record.{Record}
+use Rattle.fare_tariff.specs.declared.records.record.Record.{Record}
 use Rattle.fare_csv.specs.declared.text_fault.TextFault.{TextFault}
-use Rattle.fare_csv.specs.declared.text_fault.TextFault.TheVariants.{Memory, NoHeader, UnknownRecord, BadRecord, AfterEnd, NoEnd, Check}
-use Rattle.fare_csv.specs.declared.version.Version.{Version}
+use Rattle.fare_csv.specs.declared.text_fault.TextFault.TheVariants.{NoEnd}
+use Rattle.fare_csv.specs.declared.head.Version.{Version}
 use Rattle.fare_csv.specs.Rows.{Fields}
-use Rattle.fare_csv.specs.Fields.{GivesFault, field}
+use Rattle.fare_csv.specs.Fields.{field}
 use Rattle.fare_csv.specs.TariffText.{end_of, ended_by, followed_by, number_after, record_of, records_of}
 
 -- records in front of those of a reading
@@ -30,27 +30,15 @@ behind-followed front one (Err fault) = refl
 
 -- the fault of a record is that of the records
 pub fault-followed : (front : List Record) (fault : TextFault) (first : Result Record TextFault) (others : Result (List Record) TextFault)
-    → GivesFault fault first → GivesFault fault (behind front (followed_by first others))
-unfolding GivesFault behind followed_by
-fault-followed front Memory first others h = tt
-fault-followed front NoHeader first others h = rw h refl
-fault-followed front (UnknownRecord n) first others h = rw h refl
-fault-followed front (BadRecord n f) first others h = rw h refl
-fault-followed front (AfterEnd n) first others h = rw h refl
-fault-followed front (NoEnd n) first others h = rw h refl
-fault-followed front (Check n kind) first others h = rw h refl
+    → first ≡ Err fault → behind front (followed_by first others) ≡ Err fault
+unfolding behind followed_by
+fault-followed front fault first others h = rw h refl
 
 -- and so is that of END
 pub fault-ended : (front : List Record) (fault : TextFault) (end : Result (Unit {0}) TextFault)
-    → GivesFault fault end → GivesFault fault (behind front (ended_by end))
-unfolding GivesFault behind ended_by
-fault-ended front Memory end h = tt
-fault-ended front NoHeader end h = rw h refl
-fault-ended front (UnknownRecord n) end h = rw h refl
-fault-ended front (BadRecord n f) end h = rw h refl
-fault-ended front (AfterEnd n) end h = rw h refl
-fault-ended front (NoEnd n) end h = rw h refl
-fault-ended front (Check n kind) end h = rw h refl
+    → end ≡ Err fault → behind front (ended_by end) ≡ Err fault
+unfolding behind ended_by
+fault-ended front fault end h = rw h refl
 
 -- END gives the records that were read
 pub behind-ended : (front : List Record) → behind front (ended_by (Ok tt)) ≡ Ok front

@@ -4,8 +4,9 @@ use Rattle.std.specs.List.{slice_split}
 use Rattle.std.specs.Str.{bytes_eq}
 use Rattle.fare_codes.specs.Codes.{read_rule_id}
 use Rattle.fare_codes.specs.declared.rule_id.RuleId.{RuleId}
-use Rattle.fare_tariff.specs.declared.names.Names.{Names}
-use Rattle.fare_tariff.specs.declared.names.Names.TheVariants.{All, Of}
+use Rattle.fare_tariff.specs.declared.limits.TheConstants.{MOST_NAMES}
+use Rattle.fare_tariff.specs.declared.records.names.Names.{Names}
+use Rattle.fare_tariff.specs.declared.records.names.Names.TheVariants.{All, Of}
 
 -- a name is a rule's id, or `-` for the free rule
 unfoldable pub read_name : List ℕ → Option (Option RuleId)
@@ -26,9 +27,9 @@ names_of (piece ∷ pieces) = name_and (read_name piece) (names_of pieces)
 abbrev pub pieces_of : List ℕ → List (List ℕ)
 pieces_of bytes = slice_split (λ byte. byte == 32) bytes
 
--- a list has at most 64 names
+-- a list has at most as many names as a rule may list
 unfoldable pub read_list : List ℕ → Option (List (Option RuleId))
-read_list bytes = if nat_le (length (pieces_of bytes)) 64 then names_of (pieces_of bytes) else None
+read_list bytes = if nat_le (length (pieces_of bytes)) MOST_NAMES then names_of (pieces_of bytes) else None
 
 -- a list is `*`, or empty, or names
 unfoldable pub read_names : List ℕ → Option Names

@@ -7,18 +7,21 @@ use Rattle.fare_codes.specs.Day.{read_month_day}
 use Rattle.fare_codes.specs.Numbers.{read_nuc, read_number, read_rate}
 use Rattle.fare_codes.specs.Season.{whole_year}
 use Rattle.fare_codes.specs.declared.city.City.{City}
+use Rattle.fare_codes.specs.declared.nuc.TheConstants.{FARE_LIMIT}
 use Rattle.fare_codes.specs.declared.rule_id.RuleId.{RuleId}
 use Rattle.fare_codes.specs.declared.season.Season.{Season}
-use Rattle.fare_tariff.specs.declared.fare_key.FareKey.{FareKey}
-use Rattle.fare_csv.specs.declared.version.Version.{Version}
-use Rattle.fare_csv.specs.declared.version.Version.TheVariants.{One, Two}
-use Rattle.fare_tariff.specs.declared.city_record.CityRec.{CityRec}
+use Rattle.fare_tariff.specs.declared.limits.TheConstants.{MOST_DAYS, MOST_MILES, MOST_STOPS, MOST_TRANSFERS, MOST_UNIT}
+use Rattle.fare_tariff.specs.declared.records.fare_key.FareKey.{FareKey}
+use Rattle.fare_csv.specs.declared.head.Version.{Version}
+use Rattle.fare_csv.specs.declared.head.Version.TheVariants.{One, Two}
+use Rattle.fare_tariff.specs.declared.records.city_record.CityRec.{CityRec}
 use Rattle.fare_tariff.specs.Record.{CurrencyRecord, RuleRecord, FareRecord, MileageRecord, PairRecord, AllowanceRecord}
 use Rattle.fare_csv.specs.declared.text_fault.TextFault.{TextFault}
 use Rattle.fare_csv.specs.Rows.{Fields}
 use Rattle.fare_csv.specs.NameList.{read_names}
 use Rattle.fare_csv.specs.Numbers.{above_zero}
-use Rattle.fare_csv.specs.Fields.{◌>>=◌, field, counted, in_form}
+use Rattle.fare_outside.specs.Memory.{◌>>=◌}
+use Rattle.fare_csv.specs.Fields.{field, counted, in_form}
 
 -- CITY: the code, the country and the area
 unfoldable pub city_of : ℕ → Fields → Result CityRec TextFault
@@ -37,7 +40,7 @@ currency_of number fields = do
   currency ← in_form number 3 (read_currency (field fields 2))
   roe ← in_form number 4 (above_zero (read_rate (field fields 3)))
   decimals ← in_form number 5 (read_number 2 (field fields 4))
-  unit ← in_form number 6 (above_zero (read_number 10_000 (field fields 5)))
+  unit ← in_form number 6 (above_zero (read_number MOST_UNIT (field fields 5)))
   mode ← in_form number 7 (read_mode (field fields 6))
   Ok (record { country = country; currency = currency; roe = roe; decimals = decimals; unit = unit; mode = mode })
 
@@ -48,7 +51,7 @@ mileage_of number fields = do
   from ← in_form number 2 (read_city (field fields 1))
   to ← in_form number 3 (read_city (field fields 2))
   ind ← in_form number 4 (read_indicator (field fields 3))
-  miles ← in_form number 5 (read_number 99_999 (field fields 4))
+  miles ← in_form number 5 (read_number MOST_MILES (field fields 4))
   Ok (record { from = from; to = to; ind = ind; miles = miles })
 
 -- TPM: the two cities and the miles
@@ -57,7 +60,7 @@ pair_of number fields = do
   _ ← counted number 4 fields
   from ← in_form number 2 (read_city (field fields 1))
   to ← in_form number 3 (read_city (field fields 2))
-  miles ← in_form number 4 (read_number 99_999 (field fields 3))
+  miles ← in_form number 4 (read_number MOST_MILES (field fields 3))
   Ok (record { from = from; to = to; miles = miles })
 
 -- a via city may be empty: every way
@@ -72,7 +75,7 @@ allowance_of number fields = do
   to ← in_form number 3 (read_city (field fields 2))
   ind ← in_form number 4 (read_indicator (field fields 3))
   via ← in_form number 5 (read_via (field fields 4))
-  miles ← in_form number 6 (read_number 99_999 (field fields 5))
+  miles ← in_form number 6 (read_number MOST_MILES (field fields 5))
   Ok (record { from = from; to = to; ind = ind; via = via; miles = miles })
 
 -- whether a surcharge is allowed, as `Y` or `N`
@@ -86,11 +89,11 @@ unfoldable pub rule_of : ℕ → Fields → Result RuleRecord TextFault
 rule_of number fields = do
   _ ← counted number 10 fields
   id ← in_form number 2 (read_rule_id (field fields 1))
-  stops ← in_form number 3 (read_number 16 (field fields 2))
-  transfers ← in_form number 4 (read_number 16 (field fields 3))
-  advance ← in_form number 5 (read_number 999 (field fields 4))
-  min_stay ← in_form number 6 (read_number 999 (field fields 5))
-  max_stay ← in_form number 7 (read_number 999 (field fields 6))
+  stops ← in_form number 3 (read_number MOST_STOPS (field fields 2))
+  transfers ← in_form number 4 (read_number MOST_TRANSFERS (field fields 3))
+  advance ← in_form number 5 (read_number MOST_DAYS (field fields 4))
+  min_stay ← in_form number 6 (read_number MOST_DAYS (field fields 5))
+  max_stay ← in_form number 7 (read_number MOST_DAYS (field fields 6))
   excess ← in_form number 8 (read_excess (field fields 7))
   units ← in_form number 9 (read_names (field fields 8))
   ends ← in_form number 10 (read_names (field fields 9))
@@ -99,7 +102,7 @@ rule_of number fields = do
 -- an amount below 10,000,000.00
 abbrev pub below_ten_million : Option ℕ → Option ℕ
 below_ten_million None = None
-below_ten_million (Some hundredths) = if nat_lt hundredths 1_000_000_000 then Some hundredths else None
+below_ten_million (Some hundredths) = if nat_lt hundredths FARE_LIMIT then Some hundredths else None
 
 -- the amount of a fare has at most seven digits before its point
 unfoldable pub read_amount : List ℕ → Option ℕ

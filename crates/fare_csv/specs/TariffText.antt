@@ -1,20 +1,21 @@
 -- A tariff text: HEAD, then records of the seven other kinds in any order, then END.
 use Rattle.std.specs.Prelude.{ℕ, ◌+◌, List, [], ◌∷◌, Option, Some, None, Result, Ok, Err, codes, min, if◌then◌else◌}
 use Rattle.std.specs.Str.{bytes_eq}
-use Rattle.fare_tariff.specs.declared.record.Record.{Record}
-use Rattle.fare_tariff.specs.declared.record.Record.TheVariants as filed
+use Rattle.fare_tariff.specs.declared.records.record.Record.{Record}
+use Rattle.fare_tariff.specs.declared.records.record.Record.TheVariants as filed
 use Rattle.fare_tariff.specs.Tariff.{Tariff}
 use Rattle.fare_tariff.specs.Check.{check_edition}
-use Rattle.fare_tariff.specs.declared.check_fault.CheckFault.{CheckFault}
+use Rattle.fare_tariff.specs.declared.check.check_fault.CheckFault.{CheckFault}
 use Rattle.fare_csv.specs.declared.text_fault.TextFault.{TextFault}
 use Rattle.fare_csv.specs.declared.text_fault.TextFault.TheVariants.{NoHeader, UnknownRecord, AfterEnd, NoEnd}
-use Rattle.fare_csv.specs.declared.version.Version.{Version}
+use Rattle.fare_csv.specs.declared.head.Version.{Version}
 use Rattle.fare_csv.specs.declared.record_kind.RecordKind.{RecordKind}
 use Rattle.fare_csv.specs.declared.record_kind.RecordKind.TheVariants as kind
 use Rattle.fare_csv.specs.RecordKind.{kind_named}
 use Rattle.fare_csv.specs.CheckedFault.{checked_fault}
 use Rattle.fare_csv.specs.Rows.{Fields, rows_of}
-use Rattle.fare_csv.specs.Fields.{◌>>=◌, field, counted}
+use Rattle.fare_outside.specs.Memory.{◌>>=◌}
+use Rattle.fare_csv.specs.Fields.{field, counted}
 use Rattle.fare_csv.specs.Head.{head_of}
 use Rattle.fare_csv.specs.RecordText.{allowance_of, city_of, currency_of, fare_of, mileage_of, pair_of, rule_of}
 

@@ -1,4 +1,4 @@
-ghost use Rattle.fare_csv.specs.Fields.{Gives};
+ghost use Rattle.fare_outside.specs.Memory.{Gives};
 ghost use Rattle.fare_csv.specs.TariffText.{edition_of};
 
 use crate::read_text::read_filed;
@@ -9,13 +9,13 @@ use std::thread::Threads;
 
 /// The edition that a text stands for, or its first fault: a fault of a row's spelling counts before
 /// any fault of a record among the others.
-#[tactic(auto, unfolding(crate::specs::Fields::Gives, crate::specs::Fields::GivesFault, crate::specs::TariffText::edition_of))]
+#[tactic(auto, unfolding(crate::specs::TariffText::edition_of))]
 pub fn read_edition<R: Threads + Sync>(
     rt: &R,
     alloc: Global,
     bytes: &[u8],
 ) -> Result<Edition, TextFault>
-    ensures { Gives (λ edition. edition) result (edition_of bytes.now) }
+    ensures { Gives TextFault.Memory (λ edition. edition) result (edition_of bytes.now) }
 {
     let filed = read_filed(alloc, bytes)?;
     Ok(Edition::check(rt, alloc, filed.number, filed.effective, filed.records)?)

@@ -7,14 +7,26 @@ use crate::numbers::read_edition_number;
 use crate::read_record::counted;
 use crate::rows::Row;
 use crate::text_fault::TextFault;
-use crate::version::Version;
 use fare_codes::Day;
+use fare_tariff::LAST_EDITION;
 
-/// What HEAD says of the edition, and how the fares behind it are spelled.
+/// How the fares of a text are spelled.
+#[derive(Clone, Copy, Debug, PartialEq, Eq)]
+pub enum Version {
+    /// Without a season: each fare is filed for the whole year.
+    One,
+    /// With the first and the last day of its season.
+    Two,
+}
+
+/// What the first record of a text says.
 #[derive(Clone, Copy, Debug)]
-pub(crate) struct Head {
+pub struct Head {
+    /// How the fares behind it are spelled.
     pub version: Version,
+    /// The number of the edition, 1 to 99,999.
     pub number: u32,
+    /// The day from which the edition may be selected.
     pub effective: Day,
 }
 
@@ -33,7 +45,7 @@ fn read_version(bytes: &[u8]) -> Option<Version>
 #[tactic(auto, unfolding(crate::specs::Head::head_of))]
 pub(crate) fn read_head(row: &Row) -> Result<Head, TextFault>
     ensures value { result ≡ head_of row.now }
-    ensures range { IfOk result (λ head. (0 < head.number) × (head.number ≤ 99_999)) }
+    ensures range { IfOk result (λ head. (0 < head.number) × (head.number ≤ LAST_EDITION)) }
 {
     counted(row, 1, 4)?;
     let version = read_version(row.field(1)).ok_or(TextFault::BadRecord(1, 2))?;

@@ -27,11 +27,12 @@ mod rows;
 #[cfg(test)]
 mod tests;
 mod text_fault;
-mod version;
 mod write_names;
 mod write_record;
 
 pub use canonical::edition_text;
 pub use edition::read_edition;
+pub use head::{Head, Version};
 pub use laws::{text_reads_back, text_tells};
+pub use record_kind::RecordKind;
 pub use text_fault::TextFault;

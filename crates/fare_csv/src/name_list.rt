@@ -6,7 +6,7 @@ ghost use Rattle.fare_csv.specs.NameList.{names_of, pieces_of, read_list, read_n
 
 use fare_codes::RuleId;
 use fare_outside::NoMemory;
-use fare_tariff::{Names, RuleList};
+use fare_tariff::{MOST_NAMES, Names, RuleList};
 use std::alloc::{AllocError, Global};
 
 /// A name of a list: a rule's id, or `-` for the free rule.
@@ -48,13 +48,13 @@ fn names_of(alloc: Global, pieces: &[&[u8]]) -> Result<Option<RuleList>, NoMemor
     Ok(Some(list))
 }
 
-/// One to 64 names with a space between two of them.
+/// One or more names, at most as many as a rule may list, with a space between two of them.
 #[tactic(auto, using(crate::proofs::NameLemmas::read_list_few, crate::proofs::NameLemmas::read_list_many, crate::proofs::NameLemmas::read_list_short))]
 fn read_list(alloc: Global, bytes: &[u8]) -> Result<Option<RuleList>, NoMemory>
     ensures value { IfOk result (λ list. list ≡ read_list bytes.now) }
-    ensures short { IfOk result (λ list. IfSome list (λ names. length names ≤ 64)) }
+    ensures short { IfOk result (λ list. IfSome list (λ names. length names ≤ MOST_NAMES)) }
 {
-    if spaces_of(bytes) >= 64 {
+    if spaces_of(bytes) >= MOST_NAMES {
         return Ok(None);
     }
     let pieces = pieces_of(alloc, bytes)?;
@@ -65,7 +65,7 @@ fn read_list(alloc: Global, bytes: &[u8]) -> Result<Option<RuleList>, NoMemory>
 #[tactic(auto, unfolding(crate::specs::NameList::read_names))]
 pub(crate) fn read_names(alloc: Global, bytes: &[u8]) -> Result<Option<Names>, NoMemory>
     ensures value { IfOk result (λ names. names ≡ read_names bytes.now) }
-    ensures short { IfOk result (λ names. IfSome names (λ all. name_count all ≤ 64)) }
+    ensures short { IfOk result (λ names. IfSome names (λ all. name_count all ≤ MOST_NAMES)) }
 {
     if bytes == b"*".as_slice() {
         return Ok(Some(Names::All));

@@ -1,23 +1,24 @@
 //! FARE records.
 
 ghost use Rattle.std.specs.Prelude.{◌≡◌, ◌<◌, ◌^◌, IfSome};
-ghost use Rattle.fare_csv.specs.RecordText.{fare_key_of, fare_of, fare_one_of, fare_two_of, fare_with, read_amount, read_fare_rule};
+ghost use Rattle.fare_csv.specs.RecordText.{fare_key_of, fare_of, fare_one_of, fare_two_of, fare_with, read_amount};
+ghost use Rattle.fare_csv.specs.RecordText.{read_fare_rule};
 
+use crate::head::Version;
 use crate::read_record::counted;
 use crate::rows::Row;
 use crate::text_fault::TextFault;
-use crate::version::Version;
-use fare_codes::{Cabin, Carrier, City, Indicator, Kind, MonthDay, Nuc, RuleId, Season};
+use fare_codes::{Cabin, Carrier, City, FARE_LIMIT, Indicator, Kind, MonthDay, Nuc, RuleId, Season};
 use fare_tariff::{FareKey, FareRec};
 
 /// The amount of a fare, at most 9999999.99.
 #[tactic(auto, unfolding(crate::specs::RecordText::read_amount))]
 fn read_amount(bytes: &[u8]) -> Option<Nuc>
     ensures value { result ≡ read_amount bytes.now }
-    ensures range { IfSome result (λ amount. amount < 10 ^ 9) }
+    ensures range { IfSome result (λ amount. amount < FARE_LIMIT) }
 {
     let amount = Nuc::read(bytes)?;
-    if amount.hundredths() < 1_000_000_000 {
+    if amount.hundredths() < FARE_LIMIT {
         Some(amount)
     } else {
         None
@@ -60,7 +61,7 @@ fn read_key(row: &Row, number: u32) -> Result<FareKey, TextFault>
 
 /// The fare of a key, a season and an amount.
 fn fare_with(key: FareKey, season: Season, amount: Nuc) -> FareRec
-    requires { amount < 10 ^ 9 }
+    requires { amount < FARE_LIMIT }
     ensures { result ≡ fare_with key season amount }
 {
     FareRec {

@@ -8,7 +8,7 @@ use crate::numbers::{read_roe, read_unit};
 use crate::rows::Row;
 use crate::text_fault::TextFault;
 use fare_codes::{Area, City, Country, Currency, Indicator, Mode, read_number};
-use fare_tariff::{CityRec, CurRec, EmaRec, MileRec, PairRec};
+use fare_tariff::{CityRec, CurRec, EmaRec, MOST_MILES, MileRec, PairRec};
 
 /// Refuses a row that has another count of fields.
 #[tactic(auto, unfolding(crate::specs::Fields::counted))]
@@ -69,7 +69,7 @@ pub(crate) fn read_mileage(row: &Row, number: u32) -> Result<MileRec, TextFault>
     let from = City::read(row.field(1)).ok_or(TextFault::BadRecord(number, 2))?;
     let to = City::read(row.field(2)).ok_or(TextFault::BadRecord(number, 3))?;
     let ind = Indicator::read(row.field(3)).ok_or(TextFault::BadRecord(number, 4))?;
-    let miles = read_number(row.field(4), 99_999).ok_or(TextFault::BadRecord(number, 5))?;
+    let miles = read_number(row.field(4), MOST_MILES).ok_or(TextFault::BadRecord(number, 5))?;
     Ok(MileRec {
         from,
         to,
@@ -86,7 +86,7 @@ pub(crate) fn read_pair(row: &Row, number: u32) -> Result<PairRec, TextFault>
     counted(row, number, 4)?;
     let from = City::read(row.field(1)).ok_or(TextFault::BadRecord(number, 2))?;
     let to = City::read(row.field(2)).ok_or(TextFault::BadRecord(number, 3))?;
-    let miles = read_number(row.field(3), 99_999).ok_or(TextFault::BadRecord(number, 4))?;
+    let miles = read_number(row.field(3), MOST_MILES).ok_or(TextFault::BadRecord(number, 4))?;
     Ok(PairRec { from, to, miles })
 }
 
@@ -111,7 +111,7 @@ pub(crate) fn read_allowance(row: &Row, number: u32) -> Result<EmaRec, TextFault
     let to = City::read(row.field(2)).ok_or(TextFault::BadRecord(number, 3))?;
     let ind = Indicator::read(row.field(3)).ok_or(TextFault::BadRecord(number, 4))?;
     let via = read_via(row.field(4)).ok_or(TextFault::BadRecord(number, 5))?;
-    let miles = read_number(row.field(5), 99_999).ok_or(TextFault::BadRecord(number, 6))?;
+    let miles = read_number(row.field(5), MOST_MILES).ok_or(TextFault::BadRecord(number, 6))?;
     Ok(EmaRec {
         from,
         to,

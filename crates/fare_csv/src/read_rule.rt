@@ -1,7 +1,7 @@
 //! RULE records.
 
 ghost use Rattle.std.specs.Prelude.{◌≡◌};
-ghost use Rattle.fare_csv.specs.Fields.{Gives};
+ghost use Rattle.fare_outside.specs.Memory.{Gives};
 ghost use Rattle.fare_csv.specs.RecordText.{read_excess, rule_of};
 
 use crate::name_list::read_names;
@@ -9,7 +9,7 @@ use crate::read_record::counted;
 use crate::rows::Row;
 use crate::text_fault::TextFault;
 use fare_codes::{RuleId, read_number};
-use fare_tariff::RuleRec;
+use fare_tariff::{MOST_DAYS, MOST_STOPS, MOST_TRANSFERS, RuleRec};
 use std::alloc::Global;
 
 /// Whether a surcharge is allowed.
@@ -25,17 +25,19 @@ fn read_excess(bytes: &[u8]) -> Option<bool>
 }
 
 /// A RULE record.
-#[tactic(auto, unfolding(crate::specs::RecordText::rule_of, crate::specs::Fields::Gives, crate::specs::Fields::GivesFault))]
+#[tactic(auto, unfolding(crate::specs::RecordText::rule_of))]
 pub(crate) fn read_rule(alloc: Global, row: &Row, number: u32) -> Result<RuleRec, TextFault>
-    ensures { Gives (λ rule. rule) result (rule_of number row.now) }
+    ensures { Gives TextFault.Memory (λ rule. rule) result (rule_of number row.now) }
 {
     counted(row, number, 10)?;
     let id = RuleId::read(row.field(1)).ok_or(TextFault::BadRecord(number, 2))?;
-    let stops = read_number(row.field(2), 16).ok_or(TextFault::BadRecord(number, 3))?;
-    let transfers = read_number(row.field(3), 16).ok_or(TextFault::BadRecord(number, 4))?;
-    let advance = read_number(row.field(4), 999).ok_or(TextFault::BadRecord(number, 5))?;
-    let min_stay = read_number(row.field(5), 999).ok_or(TextFault::BadRecord(number, 6))?;
-    let max_stay = read_number(row.field(6), 999).ok_or(TextFault::BadRecord(number, 7))?;
+    let stops = read_number(row.field(2), MOST_STOPS).ok_or(TextFault::BadRecord(number, 3))?;
+    let transfers = read_number(row.field(3), MOST_TRANSFERS).ok_or(TextFault::BadRecord(
+        number, 4,
+    ))?;
+    let advance = read_number(row.field(4), MOST_DAYS).ok_or(TextFault::BadRecord(number, 5))?;
+    let min_stay = read_number(row.field(5), MOST_DAYS).ok_or(TextFault::BadRecord(number, 6))?;
+    let max_stay = read_number(row.field(6), MOST_DAYS).ok_or(TextFault::BadRecord(number, 7))?;
     let excess = read_excess(row.field(7)).ok_or(TextFault::BadRecord(number, 8))?;
     let units = read_names(alloc, row.field(8))?.ok_or(TextFault::BadRecord(number, 9))?;
     let ends = read_names(alloc, row.field(9))?.ok_or(TextFault::BadRecord(number, 10))?;

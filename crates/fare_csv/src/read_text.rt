@@ -1,12 +1,13 @@
 //! The records of a text, row by row.
 
 ghost use Rattle.std.specs.Prelude.{◌≡◌, [], ◌∷◌, ◌<◌, ◌≤◌, IfOk, Ok, codes, bytes_eq};
-ghost use Rattle.fare_csv.specs.Fields.{Gives, field};
+ghost use Rattle.fare_outside.specs.Memory.{Gives};
+ghost use Rattle.fare_csv.specs.Fields.{field};
 ghost use Rattle.fare_csv.specs.TariffText.{end_of, record_of, records_of, tariff_of};
 ghost use Rattle.fare_csv.specs.Filed.{filed_tariff};
 ghost use Rattle.fare_csv.specs.Rows.{rows_of};
 
-use crate::head::read_head;
+use crate::head::{Version, read_head};
 use crate::read_fare::read_fare;
 use crate::read_record::{
     counted, read_allowance, read_city, read_currency, read_mileage, read_pair,
@@ -15,15 +16,14 @@ use crate::read_rule::read_rule;
 use crate::record_kind::RecordKind;
 use crate::rows::{Row, Rows};
 use crate::text_fault::TextFault;
-use crate::version::Version;
 use fare_codes::Day;
-use fare_tariff::Record;
+use fare_tariff::{LAST_EDITION, Record};
 use std::alloc::Global;
 
 /// The record of a row that isn't END, by its first field.
-#[tactic(auto, unfolding(crate::specs::TariffText::record_of, crate::specs::TariffText::record_of_kind, crate::specs::Fields::Gives, crate::specs::Fields::GivesFault))]
+#[tactic(auto, unfolding(crate::specs::TariffText::record_of, crate::specs::TariffText::record_of_kind))]
 fn read_record(alloc: Global, row: &Row, version: Version, number: u32) -> Result<Record, TextFault>
-    ensures { Gives (λ one. one) result (record_of version number row.now) }
+    ensures { Gives TextFault.Memory (λ one. one) result (record_of version number row.now) }
 {
     let Some(kind) = RecordKind::named(row.field(0)) else {
         return Err(TextFault::UnknownRecord(number));
@@ -47,9 +47,9 @@ fn is_end(row: &Row) -> bool
 }
 
 /// Looks at an END row, behind which no row may stand.
-#[tactic(auto, unfolding(crate::specs::TariffText::end_of, crate::specs::TariffText::nothing_after, crate::specs::Fields::Gives, crate::specs::Fields::GivesFault))]
+#[tactic(auto, unfolding(crate::specs::TariffText::end_of, crate::specs::TariffText::nothing_after))]
 fn read_end(rows: &mut Rows, row: &mut Row, number: u32) -> Result<(), TextFault>
-    ensures { Gives (λ done. done) result (end_of number row.old rows.old) }
+    ensures { Gives TextFault.Memory (λ done. done) result (end_of number row.old rows.old) }
 {
     counted(row, number, 1)?;
     if rows.read_row(row)? {
@@ -59,9 +59,8 @@ fn read_end(rows: &mut Rows, row: &mut Row, number: u32) -> Result<(), TextFault
 }
 
 /// The records between HEAD and END.
-#[tactic(auto, unfolding(crate::specs::Fields::Gives, crate::specs::Fields::GivesFault))]
 fn read_records(alloc: Global, rows: &mut Rows, version: Version) -> Result<Vec<Record>, TextFault>
-    ensures { Gives (λ records. records.items) result (records_of version 2 rows.old) }
+    ensures { Gives TextFault.Memory (λ records. records.items) result (records_of version 2 rows.old) }
 {
     let mut records = Vec::new(alloc);
     let mut row = Row::new(alloc);
@@ -93,10 +92,10 @@ fn is_head(row: &Row) -> bool
 }
 
 /// HEAD and the records of a text.
-#[tactic(auto, unfolding(crate::specs::Fields::Gives, crate::specs::Fields::GivesFault, crate::specs::TariffText::headed, crate::specs::TariffText::tariff_of))]
+#[tactic(auto, unfolding(crate::specs::TariffText::headed, crate::specs::TariffText::tariff_of))]
 pub(crate) fn read_filed(alloc: Global, bytes: &[u8]) -> Result<Filed, TextFault>
-    ensures reading { Gives filed_tariff result (tariff_of (rows_of bytes.now)) }
-    ensures range { IfOk result (λ filed. (0 < filed.number) × (filed.number ≤ 99_999)) }
+    ensures reading { Gives TextFault.Memory filed_tariff result (tariff_of (rows_of bytes.now)) }
+    ensures range { IfOk result (λ filed. (0 < filed.number) × (filed.number ≤ LAST_EDITION)) }
 {
     let mut rows = Rows::new(alloc, bytes);
     let mut row = Row::new(alloc);

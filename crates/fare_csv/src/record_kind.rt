@@ -3,7 +3,7 @@ ghost use Rattle.fare_csv.specs.RecordKind.{kind_named};
 
 /// The kinds of records between HEAD and END.
 #[derive(Clone, Copy, Debug, PartialEq, Eq)]
-pub(crate) enum RecordKind {
+pub enum RecordKind {
     City,
     Cur,
     Rule,
@@ -16,7 +16,7 @@ pub(crate) enum RecordKind {
 impl RecordKind {
     /// The kind that a record's first field names.
     #[tactic(auto, unfolding(crate::specs::RecordKind::kind_named))]
-    pub fn named(name: &[u8]) -> Option<RecordKind>
+    pub(crate) fn named(name: &[u8]) -> Option<RecordKind>
         ensures { result ≡ kind_named name.now }
     {
         if name == b"CITY".as_slice() {

@@ -4,14 +4,15 @@ ghost use Rattle.std.specs.Prelude.{◌≡◌, ◌<◌, ◌≤◌, ◌++◌, tru
 ghost use Rattle.fare_csv.specs.Lines.{is_plain_field, line_of};
 ghost use Rattle.fare_csv.specs.RecordText.{read_fare_rule, read_via};
 ghost use Rattle.fare_csv.specs.ReadBack.{HeadReadsBack, ReadsBack};
-ghost use Rattle.fare_tariff.specs.declared.record.Record.TheVariants as filed;
-ghost use Rattle.fare_csv.specs.CanonicalText.{allowance_row, city_row, currency_row, end_row, excess_text, fare_row, head_row, mileage_row, pair_row, rule_row, text_or_empty};
+ghost use Rattle.fare_tariff.specs.declared.records.record.Record.TheVariants as filed;
+ghost use Rattle.fare_csv.specs.CanonicalText.{allowance_row, city_row, currency_row, end_row, excess_text, fare_row};
+ghost use Rattle.fare_csv.specs.CanonicalText.{head_row, mileage_row, pair_row, rule_row, text_or_empty};
 
 use crate::lines::Lines;
 use crate::write_names::names_text;
 use arrayvec::ArrayString;
 use fare_codes::{City, Day, RuleId, number_text, rate_text};
-use fare_tariff::{CityRec, CurRec, EmaRec, FareRec, MileRec, PairRec, RuleRec};
+use fare_tariff::{CityRec, CurRec, EmaRec, FareRec, LAST_EDITION, MileRec, PairRec, RuleRec};
 use std::alloc::{AllocError, Global};
 
 /// The bytes of a text.
@@ -24,7 +25,7 @@ pub(crate) fn bytes_of(text: &ArrayString<16>) -> &[u8]
 /// HEAD, in version 2.
 pub(crate) fn write_head(lines: &mut Lines, number: u32, effective: Day) -> Result<(), AllocError>
     requires above_zero { 0 < number }
-    requires in_range { number ≤ 99_999 }
+    requires in_range { number ≤ LAST_EDITION }
     ensures line { OnOk result (lines.new ≡ lines.old ++ line_of (head_row number effective)) }
     ensures read_back { HeadReadsBack number effective }
 {

@@ -3,7 +3,8 @@ use Rattle.std.proofs.Common.{◌≡◌, ℕ, ◌+◌, ◌<◌, ◌≤◌, Bool,
 use Rattle.std.proofs.lemmas.List.{at_drop_more, at_drop_all}
 
 -- what is found in what is left of a list is its first number, or what is found in the rest
-pub find_more : (test : ℕ → Bool) (xs : List ℕ) (i : ℕ) → i < length xs → find test (drop i xs) ≡ cond (test (get_or xs i 0)) (Some (get_or xs i 0)) (find test (drop (i + 1) xs))
+pub find_more : (test : ℕ → Bool) (xs : List ℕ) (i : ℕ) → i < length xs
+    → find test (drop i xs) ≡ cond (test (get_or xs i 0)) (Some (get_or xs i 0)) (find test (drop (i + 1) xs))
 find_more test xs i h = at_drop_more (find test) xs i 0 h
 
 -- nothing is found past the end

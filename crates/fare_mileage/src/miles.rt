@@ -1,21 +1,23 @@
-//! The ticketed miles of a span, and the allowance that is taken from them.
+//! The ticketed miles of a span, and the extra mileage allowance that is taken from them.
 
 ghost use Rattle.std.specs.Prelude.{◌≡◌, ◌<◌, ◌≤◌, IfSome};
 ghost use Rattle.fare_trip.specs.Itinerary.{count};
 ghost use Rattle.fare_rules.specs.Span.{interior_cities};
-ghost use Rattle.fare_rules.specs.Mileage.{sector_miles, has_no_tpm, miles_of_sector, first_without_tpm, sum_of_miles, allowance_of};
+ghost use Rattle.fare_rules.specs.Mileage.{sector_miles, has_no_tpm, miles_of_sector, first_without_tpm};
+ghost use Rattle.fare_rules.specs.Mileage.{sum_of_miles, allowance_of};
 
 use arrayvec::ArrayVec;
 use fare_codes::{City, Indicator};
-use fare_tariff::Edition;
+use fare_rules::MOST_SECTORS;
+use fare_tariff::{Edition, MOST_MILES};
 use fare_trip::Trip;
 
 /// The ticketed point mileage of a sector.
 fn sector_miles(edition: &Edition, trip: &Trip, number: usize) -> Option<u32>
     requires from_one { 1 ≤ number }
-    requires to_count { number ≤ count trip.now }
+    requires within { number ≤ count trip.now }
     ensures value { result ≡ sector_miles edition.now trip.now number }
-    ensures bound { IfSome result (λ miles. miles ≤ 99_999) }
+    ensures bound { IfSome result (λ miles. miles ≤ MOST_MILES) }
 {
     edition.tpm(trip.point(number - 1), trip.point(number))
 }
@@ -23,7 +25,7 @@ fn sector_miles(edition: &Edition, trip: &Trip, number: usize) -> Option<u32>
 /// Whether a sector has no ticketed point mileage.
 fn has_no_tpm(edition: &Edition, trip: &Trip, number: usize) -> bool
     requires from_one { 1 ≤ number }
-    requires to_count { number ≤ count trip.now }
+    requires within { number ≤ count trip.now }
     ensures { result ≡ has_no_tpm edition.now trip.now number }
 {
     sector_miles(edition, trip, number).is_none()
@@ -32,9 +34,9 @@ fn has_no_tpm(edition: &Edition, trip: &Trip, number: usize) -> bool
 /// The ticketed point mileage of a sector, 0 where it has none.
 fn miles_of_sector(edition: &Edition, trip: &Trip, number: usize) -> u32
     requires from_one { 1 ≤ number }
-    requires to_count { number ≤ count trip.now }
+    requires within { number ≤ count trip.now }
     ensures value { result ≡ miles_of_sector edition.now trip.now number }
-    ensures bound { result ≤ 99_999 }
+    ensures bound { result ≤ MOST_MILES }
 {
     match sector_miles(edition, trip, number) {
         None => 0,
@@ -45,8 +47,8 @@ fn miles_of_sector(edition: &Edition, trip: &Trip, number: usize) -> u32
 /// The number of the first sector of a span that has no ticketed point mileage.
 #[tactic(auto, using(fare_rules::proofs::NumberLemmas::find_next, fare_rules::proofs::NumberLemmas::find_done))]
 pub(crate) fn first_without_tpm(edition: &Edition, trip: &Trip, a: usize, b: usize) -> Option<u32>
-    requires ends { b ≤ count trip.now }
-    requires short { b ≤ 16 }
+    requires within { b ≤ count trip.now }
+    requires short { b ≤ MOST_SECTORS }
     ensures { result ≡ first_without_tpm edition.now trip.now a b }
 {
     for i in a..b {
@@ -60,8 +62,8 @@ pub(crate) fn first_without_tpm(edition: &Edition, trip: &Trip, a: usize, b: usi
 /// The sum of the ticketed point mileages of a span.
 #[tactic(auto, using(fare_rules::proofs::NumberLemmas::sum_next, fare_rules::proofs::NumberLemmas::sum_done), unfolding(fare_rules::specs::Mileage::sum_of_miles))]
 pub(crate) fn sum_of_miles(edition: &Edition, trip: &Trip, a: usize, b: usize) -> u32
-    requires ends { b ≤ count trip.now }
-    requires short { b ≤ 16 }
+    requires within { b ≤ count trip.now }
+    requires short { b ≤ MOST_SECTORS }
     ensures { result ≡ sum_of_miles edition.now trip.now a b }
 {
     let mut sum = 0;
@@ -73,10 +75,10 @@ pub(crate) fn sum_of_miles(edition: &Edition, trip: &Trip, a: usize, b: usize) -
 
 /// The cities of the interior points of a span.
 #[tactic(auto, using(crate::proofs::Cities::cities_next, crate::proofs::Cities::cities_done))]
-fn interior_cities(trip: &Trip, a: usize, b: usize) -> ArrayVec<City, 16>
+fn interior_cities(trip: &Trip, a: usize, b: usize) -> ArrayVec<City, MOST_SECTORS>
     requires rises { a < b }
-    requires ends { b ≤ count trip.now }
-    requires short { b ≤ 16 }
+    requires within { b ≤ count trip.now }
+    requires short { b ≤ MOST_SECTORS }
     ensures { result.items ≡ interior_cities trip.now a b }
 {
     let mut cities = ArrayVec::new();
@@ -95,8 +97,8 @@ pub(crate) fn allowance_of(
     ind: Indicator,
 ) -> u32
     requires rises { a < b }
-    requires ends { b ≤ count trip.now }
-    requires short { b ≤ 16 }
+    requires within { b ≤ count trip.now }
+    requires short { b ≤ MOST_SECTORS }
     ensures { result ≡ allowance_of edition.now trip.now a b ind }
 {
     let via = interior_cities(trip, a, b);

@@ -3,11 +3,11 @@
 ghost use Rattle.std.specs.Prelude.{◌≡◌, ◌≤◌, IfSome};
 ghost use Rattle.fare_rules.specs.Mileage.{is_covered_by, surcharge, surcharge_of, compared_miles, miles_from};
 
-use fare_rules::{Mileage, Miles};
+use fare_rules::{MOST_SURCHARGE, Mileage, Miles};
 
 /// Whether a step of the surcharge covers some miles above the permitted ones.
 fn is_covered_by(net: u32, mpm: u32, step: u32) -> bool
-    requires { step ≤ 25 }
+    requires { step ≤ MOST_SURCHARGE }
     ensures { result ≡ is_covered_by net mpm step }
 {
     100 * net as u64 <= mpm as u64 * (100 + step as u64)
@@ -17,9 +17,9 @@ fn is_covered_by(net: u32, mpm: u32, step: u32) -> bool
 #[tactic(auto, using(crate::proofs::Search::find_more, crate::proofs::Search::find_all), unfolding(fare_rules::specs::Mileage::surcharge))]
 fn surcharge(net: u32, mpm: u32) -> Option<u32>
     ensures value { result ≡ surcharge net mpm }
-    ensures bound { IfSome result (λ step. step ≤ 25) }
+    ensures bound { IfSome result (λ step. step ≤ MOST_SURCHARGE) }
 {
-    for step in [0, 5, 10, 15, 20, 25] {
+    for step in [0, 5, 10, 15, 20, MOST_SURCHARGE] {
         if is_covered_by(net, mpm, step) {
             return Some(step);
         }
@@ -43,7 +43,7 @@ fn miles_from(sum: u32, allowance: u32, mpm: u32) -> Miles
 #[tactic(auto, unfolding(fare_rules::specs::Mileage::compared_miles))]
 pub(crate) fn compared(sum: u32, allowance: u32, mpm: u32) -> Mileage
     ensures value { result ≡ compared_miles (miles_from sum allowance mpm) }
-    ensures bound { IfSome (surcharge_of result) (λ step. step ≤ 25) }
+    ensures bound { IfSome (surcharge_of result) (λ step. step ≤ MOST_SURCHARGE) }
 {
     let miles = miles_from(sum, allowance, mpm);
     match surcharge(miles.net, miles.mpm) {

@@ -6,3 +6,4 @@ pub mod Door
 pub mod Calls
 pub mod Room
 pub mod Objects
+pub mod Memory

@@ -1,4 +1,6 @@
-ghost use Rattle.std.specs.Prelude.{◌≡◌, ℕ, ◌<◌, ◌≤◌, [], ◌++◌, Bool, List, Option, Some, None, Ok, false, length, take, is_some, if◌then◌else◌, nat_lt, option_map, option_to_list, IfOk, IfSome, IsSome, IsTrue, OnErr, MatchBool, MatchResult};
+ghost use Rattle.std.specs.Prelude.{◌≡◌, ℕ, ◌<◌, ◌≤◌, [], ◌++◌, Bool, List, Option, Some, None, Ok, false, length};
+ghost use Rattle.std.specs.Prelude.{take, is_some, if◌then◌else◌, nat_lt, option_map, option_to_list, IfOk, IfSome};
+ghost use Rattle.std.specs.Prelude.{IsSome, IsTrue, OnErr, MatchBool, MatchResult};
 ghost use Rattle.std.specs.Bool.{OnTrue, OnFalse};
 ghost use Rattle.std.specs.Io.{ReadsAtMost, WritesAtMost};
 ghost use Rattle.std.specs.Io.KnownBytes.{ReadConsumes};

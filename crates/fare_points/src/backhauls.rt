@@ -1,21 +1,20 @@
-ghost use Rattle.std.specs.Prelude.{◌≡◌, ◌<◌, ◌≤◌, ◌^◌, ◌*◌, IfSome, None, max, if◌then◌else◌};
+ghost use Rattle.std.specs.Prelude.{◌≡◌, ◌<◌, ◌≤◌, ◌*◌, IfSome, None, if◌then◌else◌};
 ghost use Rattle.fare_trip.specs.Itinerary.{count};
-ghost use Rattle.fare_rules.specs.Numbers.{greater};
 ghost use Rattle.fare_rules.specs.Span.{is_stopover};
 ghost use Rattle.fare_rules.specs.Backhaul.{reference_to, greatest_reference, minimum_above, backhaul};
 
 use crate::indicators::indicator;
 use crate::references::reference;
-use fare_codes::Nuc;
+use fare_codes::{FARE_LIMIT, Nuc, greater};
 use fare_tariff::{Edition, FareRec};
 use fare_trip::Trip;
 
 /// The reference from the start of a component to a point, on the day of the component's first sector.
-fn reference_to(edition: &Edition, trip: &Trip, a: usize, fare: &FareRec, j: usize) -> Option<Nuc>
+fn reference_to(edition: &Edition, trip: &Trip, a: usize, j: usize, fare: &FareRec) -> Option<Nuc>
     requires rises { a < j }
-    requires ends { j ≤ count trip.now }
+    requires within { j ≤ count trip.now }
     ensures value { result ≡ reference_to edition.now trip.now a fare.now j }
-    ensures bound { IfSome result (λ amount. amount < 10 ^ 9) }
+    ensures bound { IfSome result (λ amount. amount < FARE_LIMIT) }
 {
     let ind = indicator(edition, trip, a, j);
     let on = trip.sector(a + 1).day;
@@ -27,43 +26,18 @@ fn reference_to_stopover(
     edition: &Edition,
     trip: &Trip,
     a: usize,
-    fare: &FareRec,
     j: usize,
+    fare: &FareRec,
 ) -> Option<Nuc>
     requires rises { a < j }
-    requires ends { j ≤ count trip.now }
+    requires within { j ≤ count trip.now }
     ensures value { result ≡ (if is_stopover trip.now j then reference_to edition.now trip.now a fare.now j else None) }
-    ensures bound { IfSome result (λ amount. amount < 10 ^ 9) }
+    ensures bound { IfSome result (λ amount. amount < FARE_LIMIT) }
 {
     if trip.sector(j).stop {
-        reference_to(edition, trip, a, fare, j)
+        reference_to(edition, trip, a, j, fare)
     } else {
         None
-    }
-}
-
-/// The greater of two amounts, of which either may be missing.
-fn greater(a: Option<Nuc>, b: Option<Nuc>) -> Option<Nuc>
-    requires first { IfSome a (λ amount. amount < 10 ^ 9) }
-    requires second { IfSome b (λ amount. amount < 10 ^ 9) }
-    ensures value { result ≡ greater a b }
-    ensures bound { IfSome result (λ amount. amount < 10 ^ 9) }
-{
-    match (a, b) {
-        (None, b) => b,
-        (Some(a), None) => Some(a),
-        (Some(a), Some(b)) => Some(greater_of(a, b)),
-    }
-}
-
-/// The greater of two amounts.
-fn greater_of(a: Nuc, b: Nuc) -> Nuc
-    ensures { result ≡ max a b }
-{
-    if a.hundredths() < b.hundredths() {
-        b
-    } else {
-        a
     }
 }
 
@@ -77,23 +51,23 @@ fn greatest_reference(
     fare: &FareRec,
 ) -> Option<Nuc>
     requires rises { a < b }
-    requires ends { b ≤ count trip.now }
+    requires within { b ≤ count trip.now }
     ensures value { result ≡ greatest_reference edition.now trip.now a b fare.now }
-    ensures bound { IfSome result (λ amount. amount < 10 ^ 9) }
+    ensures bound { IfSome result (λ amount. amount < FARE_LIMIT) }
 {
     let mut greatest = None;
     for j in a + 1..b {
-        greatest = greater(greatest, reference_to_stopover(edition, trip, a, fare, j));
+        greatest = greater(greatest, reference_to_stopover(edition, trip, a, j, fare));
     }
     greatest
 }
 
 /// The minimum of a lower and a higher amount: the higher one and their difference; nothing where it isn't higher.
 fn minimum_above(low: Nuc, high: Nuc) -> Option<Nuc>
-    requires low { low < 10 ^ 9 }
-    requires high { high < 10 ^ 9 }
+    requires low { low < FARE_LIMIT }
+    requires high { high < FARE_LIMIT }
     ensures value { result ≡ minimum_above low high }
-    ensures bound { IfSome result (λ minimum. minimum < 2 * 10 ^ 9) }
+    ensures bound { IfSome result (λ minimum. minimum < 2 * FARE_LIMIT) }
 {
     let (low, high) = (low.hundredths(), high.hundredths());
     if low < high {
@@ -103,14 +77,15 @@ fn minimum_above(low: Nuc, high: Nuc) -> Option<Nuc>
     }
 }
 
-/// The backhaul minimum of a one way fare from point `a` to point `b`: where a reference from `a` to an interior stopover is
-/// above the fare's amount, the greatest one and its difference from the amount; nothing exactly where none is above it.
+/// The backhaul minimum of a one way fare from point `a` to point `b`: where a reference from `a` to an interior
+/// stopover is above the fare's amount, the greatest one and its difference from the amount; nothing exactly where
+/// none is above it.
 #[tactic(auto, unfolding(fare_rules::specs::Backhaul::backhaul))]
 pub fn backhaul(edition: &Edition, trip: &Trip, a: usize, b: usize, fare: &FareRec) -> Option<Nuc>
     requires rises { a < b }
-    requires ends { b ≤ count trip.now }
+    requires within { b ≤ count trip.now }
     ensures value { result ≡ backhaul edition.now trip.now a b fare.now }
-    ensures bound { IfSome result (λ minimum. minimum < 2 * 10 ^ 9) }
+    ensures bound { IfSome result (λ minimum. minimum < 2 * FARE_LIMIT) }
 {
     let high = greatest_reference(edition, trip, a, b, fare)?;
     minimum_above(fare.amount, high)

@@ -1,13 +1,14 @@
 //! The pairs of points of a component whose references its fare is compared with.
 
-ghost use Rattle.std.specs.Prelude.{◌≡◌, ◌<◌, ◌≤◌, ◌^◌, ◌≢◌, ◌==◌, ◌&&◌, IfSome};
+ghost use Rattle.std.specs.Prelude.{◌≡◌, ◌<◌, ◌≤◌, ◌≢◌, ◌==◌, ◌&&◌, IfSome};
 ghost use Rattle.fare_trip.specs.Itinerary.{count};
-ghost use Rattle.fare_rules.specs.Base.{is_end_or_stopover, is_compared, reference_between, compared_reference, compared_pair};
+ghost use Rattle.fare_rules.specs.Base.{is_end_or_stopover, is_compared, reference_between, compared_reference};
+ghost use Rattle.fare_rules.specs.Base.{compared_pair};
 ghost use Rattle.fare_points.specs.Improved.{IsPairOf};
 
 use crate::indicators::indicator;
 use crate::references::reference;
-use fare_codes::{Day, Nuc};
+use fare_codes::{Day, FARE_LIMIT, Nuc};
 use fare_tariff::{Edition, FareRec};
 use fare_trip::Trip;
 
@@ -17,7 +18,7 @@ pub(crate) type Compared = (usize, usize, Nuc);
 /// Whether a point is the end of a component on its side or a stopover.
 fn is_end_or_stopover(trip: &Trip, end: usize, i: usize) -> bool
     requires reached { i ≢ end → 1 ≤ i }
-    requires to_count { i ≤ count trip.now }
+    requires within { i ≤ count trip.now }
     ensures { result ≡ is_end_or_stopover trip.now end i }
 {
     i == end || trip.sector(i).stop
@@ -30,31 +31,32 @@ fn is_whole(a: usize, b: usize, i: usize, j: usize) -> bool
     i == a && j == b
 }
 
-/// Whether a pair of points of a component is compared: it isn't the whole, and each of its points is the component's end
-/// on its side or a stopover.
+/// Whether a pair of points of a component is compared: it isn't the whole, and each of its points is the component's
+/// end on its side or a stopover.
 fn is_compared(trip: &Trip, a: usize, b: usize, i: usize, j: usize) -> bool
     requires begins { a ≤ i }
     requires rises { i < j }
-    requires ends { j ≤ count trip.now }
+    requires within { j ≤ count trip.now }
     ensures { result ≡ is_compared trip.now a b i j }
 {
     !is_whole(a, b, i, j) && is_end_or_stopover(trip, a, i) && is_end_or_stopover(trip, b, j)
 }
 
-/// The reference between two points of a component: from the earlier to the later, or the other way where it is priced back.
+/// The reference between two points of a component: from the earlier to the later, or the other way where it is
+/// priced back.
 fn reference_between(
     edition: &Edition,
     trip: &Trip,
+    i: usize,
+    j: usize,
     fare: &FareRec,
     back: bool,
     on: Day,
-    i: usize,
-    j: usize,
 ) -> Option<Nuc>
     requires rises { i < j }
-    requires ends { j ≤ count trip.now }
+    requires within { j ≤ count trip.now }
     ensures value { result ≡ reference_between edition.now trip.now fare.now back on i j }
-    ensures bound { IfSome result (λ amount. amount < 10 ^ 9) }
+    ensures bound { IfSome result (λ amount. amount < FARE_LIMIT) }
 {
     let ind = indicator(edition, trip, i, j);
     let (earlier, later) = (trip.point(i), trip.point(j));
@@ -78,12 +80,12 @@ fn compared_reference(
 ) -> Option<Nuc>
     requires begins { a ≤ i }
     requires rises { i < j }
-    requires ends { j ≤ count trip.now }
+    requires within { j ≤ count trip.now }
     ensures value { result ≡ compared_reference edition.now trip.now a b fare.now back i j }
-    ensures bound { IfSome result (λ amount. amount < 10 ^ 9) }
+    ensures bound { IfSome result (λ amount. amount < FARE_LIMIT) }
 {
     if is_compared(trip, a, b, i, j) {
-        reference_between(edition, trip, fare, back, trip.sector(a + 1).day, i, j)
+        reference_between(edition, trip, i, j, fare, back, trip.sector(a + 1).day)
     } else {
         None
     }
@@ -102,8 +104,8 @@ pub(crate) fn compared_pair(
 ) -> Option<Compared>
     requires begins { a ≤ i }
     requires rises { i < j }
-    requires within { j ≤ b }
-    requires ends { b ≤ count trip.now }
+    requires ends { j ≤ b }
+    requires within { b ≤ count trip.now }
     ensures value { result ≡ compared_pair edition.now trip.now a b fare.now back i j }
     ensures bound { IfSome result (IsPairOf a b) }
 {

@@ -2,7 +2,8 @@
 
 ghost use Rattle.std.specs.Prelude.{◌≡◌, ◌≤◌, ◌||◌, ◌&&◌, true, false};
 ghost use Rattle.fare_trip.specs.Itinerary.{count, point};
-ghost use Rattle.fare_rules.specs.Indicator.{area, ocean, crossing, is_atlantic, is_pacific, is_first_area, crosses_atlantic, crosses_pacific, is_within_one, indicator_by};
+ghost use Rattle.fare_rules.specs.Indicator.{area, ocean, crossing, is_atlantic, is_pacific, is_first_area};
+ghost use Rattle.fare_rules.specs.Indicator.{crosses_atlantic, crosses_pacific, is_within_one, indicator_by};
 
 use fare_codes::{Area, City, Indicator, Over};
 use fare_tariff::Edition;
@@ -31,7 +32,7 @@ impl Crossings {
     /// What the sector of a number crosses and touches.
     pub(crate) fn of(edition: &Edition, trip: &Trip, number: usize) -> Crossings
         requires from_one { 1 ≤ number }
-        requires to_count { number ≤ count trip.now }
+        requires within { number ≤ count trip.now }
         ensures atlantic { result.atlantic ≡ crosses_atlantic edition.now trip.now number }
         ensures pacific { result.pacific ≡ crosses_pacific edition.now trip.now number }
         ensures within_one { result.within_one ≡ is_within_one edition.now trip.now number }
@@ -46,7 +47,11 @@ impl Crossings {
 
     /// What these sectors and some others cross and touch.
     pub(crate) fn and(self, others: Crossings) -> Crossings
-        ensures { result ≡ record { atlantic = self.atlantic || others.atlantic; pacific = self.pacific || others.pacific; within_one = self.within_one && others.within_one } }
+        ensures { result ≡ record {
+          atlantic = self.atlantic || others.atlantic;
+          pacific = self.pacific || others.pacific;
+          within_one = self.within_one && others.within_one;
+        } }
     {
         Crossings {
             atlantic: self.atlantic || others.atlantic,
@@ -117,7 +122,7 @@ fn is_first_area(area: Option<Area>) -> bool
 
 /// The area of the city of a point.
 fn area_at(edition: &Edition, trip: &Trip, i: usize) -> Option<Area>
-    requires { i ≤ count trip.now }
+    requires within { i ≤ count trip.now }
     ensures { result ≡ area edition.now (point trip.now i) }
 {
     area(edition, trip.point(i))
@@ -126,7 +131,7 @@ fn area_at(edition: &Edition, trip: &Trip, i: usize) -> Option<Area>
 /// The ocean that a sector crosses.
 fn crossing(edition: &Edition, trip: &Trip, number: usize) -> Option<Indicator>
     requires from_one { 1 ≤ number }
-    requires to_count { number ≤ count trip.now }
+    requires within { number ≤ count trip.now }
     ensures { result ≡ crossing edition.now trip.now number }
 {
     let from = area_at(edition, trip, number - 1);
@@ -137,7 +142,7 @@ fn crossing(edition: &Edition, trip: &Trip, number: usize) -> Option<Indicator>
 /// Whether both cities that a sector touches are in area 1.
 fn is_within_one(edition: &Edition, trip: &Trip, number: usize) -> bool
     requires from_one { 1 ≤ number }
-    requires to_count { number ≤ count trip.now }
+    requires within { number ≤ count trip.now }
     ensures { result ≡ is_within_one edition.now trip.now number }
 {
     let from = is_first_area(area_at(edition, trip, number - 1));

@@ -57,7 +57,7 @@ fn improved_from(
 ) -> Option<Compared>
     requires begins { a ≤ i }
     requires rises { i < b }
-    requires ends { b ≤ count trip.now }
+    requires within { b ≤ count trip.now }
     requires best { IfSome best (IsPairOf a b) }
     ensures value { result ≡ improved fare.now.amount best (compared_from edition.now trip.now a b fare.now back i) }
     ensures bound { IfSome result (IsPairOf a b) }
@@ -70,9 +70,9 @@ fn improved_from(
     best
 }
 
-/// The higher intermediate point of a fare from point `a` to point `b`, priced back or not: the first pair of points whose
-/// reference is the base, with the base, where that is above the fare's amount; nothing exactly where no reference is
-/// above it.
+/// The higher intermediate point of a fare from point `a` to point `b`, priced back or not: the first pair of points
+/// whose reference is the base, with the base, where that is above the fare's amount; nothing exactly where no
+/// reference is above it.
 #[tactic(auto, using(crate::proofs::Highest::improved_end, crate::proofs::Highest::improved_at, crate::proofs::Highest::improved_first, crate::proofs::Highest::amount_of_highest), unfolding(fare_rules::specs::Base::higher, fare_rules::specs::Base::base, fare_rules::specs::Base::compared_pairs))]
 pub fn higher(
     edition: &Edition,
@@ -83,7 +83,7 @@ pub fn higher(
     back: bool,
 ) -> Option<(usize, usize, Nuc)>
     requires rises { a < b }
-    requires ends { b ≤ count trip.now }
+    requires within { b ≤ count trip.now }
     ensures value { result ≡ higher edition.now trip.now a b fare.now back }
     ensures base { base edition.now trip.now a b fare.now back ≡ amount_to_exceed fare.now.amount result }
     ensures bound { IfSome result (IsPairOf a b) }

@@ -11,7 +11,7 @@ use fare_trip::Trip;
 #[tactic(auto, using(fare_rules::proofs::NumberLemmas::any_next, fare_rules::proofs::NumberLemmas::any_done, fare_rules::proofs::NumberLemmas::all_next, fare_rules::proofs::NumberLemmas::all_done), unfolding(fare_rules::specs::Indicator::indicator_of))]
 pub fn indicator(edition: &Edition, trip: &Trip, a: usize, b: usize) -> Indicator
     requires rises { a < b }
-    requires ends { b ≤ count trip.now }
+    requires within { b ≤ count trip.now }
     ensures { result ≡ indicator edition.now trip.now a b }
 {
     let mut met = Crossings::none();
@@ -25,7 +25,7 @@ pub fn indicator(edition: &Edition, trip: &Trip, a: usize, b: usize) -> Indicato
 #[tactic(auto, using(crate::proofs::Scans::any_more, crate::proofs::Scans::any_all, crate::proofs::Scans::every_more, crate::proofs::Scans::every_all), unfolding(fare_rules::specs::Indicator::indicator_of))]
 pub fn indicator_of(edition: &Edition, trip: &Trip, sectors: &[usize]) -> Indicator
     requires from_one { EachIndex sectors.now (λ k. 1 ≤ slice_index sectors.now k) }
-    requires to_count { EachIndex sectors.now (λ k. slice_index sectors.now k ≤ count trip.now) }
+    requires within { EachIndex sectors.now (λ k. slice_index sectors.now k ≤ count trip.now) }
     ensures { result ≡ indicator_of edition.now trip.now sectors.now }
 {
     let mut met = Crossings::none();

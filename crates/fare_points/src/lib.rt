@@ -1,5 +1,11 @@
 //! What a span of a trip asks of an edition: the places, the global indicator of its sectors, the fares that a fare is
 //! compared with, and what they make of it: a higher intermediate point and a backhaul minimum. No call takes memory.
+//!
+//! - `places`: the first city of a trip that the edition doesn't file;
+//! - `crossings`, `indicators`: the oceans that a sector crosses, and the global indicator of some sectors;
+//! - `references`: the fare of another pair of cities, with which a fare is compared;
+//! - `comparison`, `highers`: the pairs of points that are compared, and the higher intermediate point among them;
+//! - `backhauls`: the backhaul minimum of a one way fare.
 #![tactic(auto)]
 
 mod backhauls;
@@ -15,6 +21,3 @@ pub use highers::higher;
 pub use indicators::{indicator, indicator_of};
 pub use places::placed;
 pub use references::{every_carrier, reference};
-
-#[cfg(test)]
-mod tests;

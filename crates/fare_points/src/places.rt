@@ -8,7 +8,7 @@ use fare_trip::Trip;
 
 /// Whether an edition has no record of the city of a point.
 fn is_unplaced(edition: &Edition, trip: &Trip, i: usize) -> bool
-    requires { i ≤ count trip.now }
+    requires within { i ≤ count trip.now }
     ensures { result ≡ is_unplaced edition.now trip.now i }
 {
     edition.city(trip.point(i)).is_none()

@@ -1,10 +1,10 @@
-ghost use Rattle.std.specs.Prelude.{◌≡◌, ◌<◌, ◌^◌, IfSome, option_and_then};
+ghost use Rattle.std.specs.Prelude.{◌≡◌, ◌<◌, IfSome, option_and_then};
 ghost use Rattle.std.specs.Option.{option_copied};
 ghost use Rattle.fare_codes.specs.Day.{month_day_of};
 ghost use Rattle.fare_tariff.specs.Lookup.{fare_at, fare_number};
 ghost use Rattle.fare_rules.specs.Reference.{every_carrier, key_by, amount_on, reference};
 
-use fare_codes::{Carrier, City, Day, Indicator, Nuc};
+use fare_codes::{Carrier, City, Day, FARE_LIMIT, Indicator, Nuc};
 use fare_tariff::{Edition, FareKey, FareRec};
 
 /// The carrier `YY`, by which a fare is filed for every carrier.
@@ -34,7 +34,8 @@ fn key_by(from: City, to: City, ind: Indicator, fare: &FareRec, carrier: Carrier
 
 /// The fare of a key on a day.
 fn fare_on<'a>(edition: &'a Edition, key: &FareKey, on: Day) -> Option<&'a FareRec>
-    ensures { option_copied result ≡ option_and_then (fare_at edition.now) (fare_number edition.now key.now (month_day_of on)) }
+    ensures { option_copied result ≡ option_and_then (fare_at edition.now)
+        (fare_number edition.now key.now (month_day_of on)) }
 {
     match edition.fare(key, on.month_day()) {
         None => None,
@@ -45,7 +46,7 @@ fn fare_on<'a>(edition: &'a Edition, key: &FareKey, on: Day) -> Option<&'a FareR
 /// The amount of the fare of a key on a day.
 fn amount_on(edition: &Edition, key: &FareKey, on: Day) -> Option<Nuc>
     ensures value { result ≡ amount_on edition.now key.now on }
-    ensures bound { IfSome result (λ amount. amount < 10 ^ 9) }
+    ensures bound { IfSome result (λ amount. amount < FARE_LIMIT) }
 {
     match fare_on(edition, key, on) {
         None => None,
@@ -64,13 +65,14 @@ fn amount_by(
     on: Day,
 ) -> Option<Nuc>
     ensures value { result ≡ amount_on edition.now (key_by from to ind fare.now carrier) on }
-    ensures bound { IfSome result (λ amount. amount < 10 ^ 9) }
+    ensures bound { IfSome result (λ amount. amount < FARE_LIMIT) }
 {
     amount_on(edition, &key_by(from, to, ind, fare, carrier), on)
 }
 
-/// The reference fare from a city to another for an indicator, with which a fare is compared on a day: the amount that is
-/// filed there with the fare's class, kind and rule by its carrier, else by `YY`; nothing exactly where none is filed.
+/// The reference fare from a city to another for an indicator, with which a fare is compared on a day: the amount that
+/// is filed there with the fare's class, kind and rule by its carrier and in season on the day, else by `YY` and in
+/// season; nothing exactly where neither is.
 #[tactic(auto, unfolding(fare_rules::specs::Reference::reference))]
 pub fn reference(
     edition: &Edition,
@@ -81,7 +83,7 @@ pub fn reference(
     on: Day,
 ) -> Option<Nuc>
     ensures value { result ≡ reference edition.now from to ind fare.now on }
-    ensures bound { IfSome result (λ amount. amount < 10 ^ 9) }
+    ensures bound { IfSome result (λ amount. amount < FARE_LIMIT) }
 {
     match amount_by(edition, from, to, ind, fare, fare.carrier, on) {
         Some(amount) => Some(amount),

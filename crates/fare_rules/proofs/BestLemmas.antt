@@ -19,7 +19,8 @@ irreflexive xs price =
       | inr f ↦ f
     ]
 
-pub transitive : (xs ys zs : List Part) (px py pz : ℕ) → is_before xs px ys py ≡ true → is_before ys py zs pz ≡ true → is_before xs px zs pz ≡ true
+pub transitive : (xs ys zs : List Part) (px py pz : ℕ) → is_before xs px ys py ≡ true → is_before ys py zs pz ≡ true
+    → is_before xs px zs pz ≡ true
 transitive xs ys zs px py pz a b =
     before_says xs zs px pz (before_trans xs ys zs px py pz (before_tells xs ys px py a) (before_tells ys zs py pz b))
 
@@ -30,7 +31,8 @@ same_cover trip xs ys a b (inl (next ∷ rest, e)) = absurd (cover_is_whole trip
 same_cover trip xs ys a b (inr ([], e)) = e ∙ append-nil ys
 same_cover trip xs ys a b (inr (next ∷ rest, e)) = absurd (cover_is_whole trip ys next rest b (subst (IsCover trip) e a))
 
-pub total : (trip : Itinerary) (xs ys : List Part) (px py : ℕ) → uncovered trip xs ≡ None → uncovered trip ys ≡ None → (is_before xs px ys py ≡ true) ⊎ (is_before ys py xs px ≡ true) ⊎ ((xs ≡ ys) × (px ≡ py))
+pub total : (trip : Itinerary) (xs ys : List Part) (px py : ℕ) → uncovered trip xs ≡ None → uncovered trip ys ≡ None
+    → (is_before xs px ys py ≡ true) ⊎ (is_before ys py xs px ≡ true) ⊎ ((xs ≡ ys) × (px ≡ py))
 total trip xs ys px py a b =
     elim (before_cases xs ys px py) [
       | inl h ↦ inl (before_says xs ys px py h)
@@ -40,7 +42,8 @@ total trip xs ys px py a b =
       ]
     ]
 
-pub one_best : (tariff : Tariff) (trip : Itinerary) (xs ys : List Part) (px py : ℕ) → IsBest tariff trip xs px → IsBest tariff trip ys py → (xs ≡ ys) × (px ≡ py)
+pub one_best : (tariff : Tariff) (trip : Itinerary) (xs ys : List Part) (px py : ℕ) → IsBest tariff trip xs px
+    → IsBest tariff trip ys py → (xs ≡ ys) × (px ≡ py)
 one_best tariff trip xs ys px py a b =
     elim (total trip xs ys px py (kept tariff trip xs px a.lawful).cover (kept tariff trip ys py b.lawful).cover) [
       | inl h ↦ absurd (both_ways (is_before xs px ys py) (b.first xs px a.lawful) h)

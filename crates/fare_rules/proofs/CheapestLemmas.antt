@@ -30,7 +30,8 @@ false_of true h = absurd (h refl)
 false_of false h = refl
 
 module _ (tariff : Tariff) (trip : Itinerary) (one : count trip ≡ 1) where
-  pub best_of_cheapest : (number price : ℕ) → IsCheapest tariff trip number price → IsBest tariff trip (single_part number) price
+  pub best_of_cheapest : (number price : ℕ) → IsCheapest tariff trip number price
+      → IsBest tariff trip (single_part number) price
   best_of_cheapest number price cheapest = record {
     lawful = lawful_single tariff trip one number price cheapest.usable;
     first = λ other cost lawful. let single = single_lawful tariff trip one other cost lawful in
@@ -38,7 +39,8 @@ module _ (tariff : Tariff) (trip : Itinerary) (one : count trip ≡ 1) where
         (false_of (is_before (single_part single.0) cost (single_part number) price) (λ t. not_before single.0 number cost price (cheapest.least single.0 cost single.2) (before_tells (single_part single.0) (single_part number) cost price t)));
   }
 
-  cheaper : (number price other cost : ℕ) → is_before (single_part other) cost (single_part number) price ≡ false → (price < cost) ⊎ ((price ≡ cost) × (number ≤ other))
+  cheaper : (number price other cost : ℕ) → is_before (single_part other) cost (single_part number) price ≡ false
+      → (price < cost) ⊎ ((price ≡ cost) × (number ≤ other))
   cheaper number price other cost e =
       elim (cases_order price cost) [
         | inr order ↦ elim order [
@@ -51,7 +53,8 @@ module _ (tariff : Tariff) (trip : Itinerary) (one : count trip ≡ 1) where
         ]
       ]
 
-  pub cheapest_of_best : (parts : List Part) (price : ℕ) → IsBest tariff trip parts price → (number : ℕ) × (parts ≡ single_part number) × IsCheapest tariff trip number price
+  pub cheapest_of_best : (parts : List Part) (price : ℕ) → IsBest tariff trip parts price
+      → (number : ℕ) × (parts ≡ single_part number) × IsCheapest tariff trip number price
   cheapest_of_best parts price best =
       let single = single_lawful tariff trip one parts price best.lawful in
       let first = λ (other cost : ℕ) (usable : single_fare tariff trip other ≡ Some cost). subst (λ ps. is_before (single_part other) cost ps price ≡ false) single.1 (best.first (single_part other) cost (lawful_single tariff trip one other cost usable)) in (
@@ -63,10 +66,12 @@ module _ (tariff : Tariff) (trip : Itinerary) (one : count trip ≡ 1) where
         },
       )
 
-  pub none_without_fare : ((number price : ℕ) → single_fare tariff trip number ≡ Some price → ⊥) → NoneIsLawful tariff trip
+  pub none_without_fare : ((number price : ℕ) → single_fare tariff trip number ≡ Some price → ⊥)
+      → NoneIsLawful tariff trip
   none_without_fare none parts price lawful =
       let single = single_lawful tariff trip one parts price lawful in
       none single.0 price single.2
 
-  pub no_fare_without_lawful : NoneIsLawful tariff trip → (number price : ℕ) → single_fare tariff trip number ≡ Some price → ⊥
+  pub no_fare_without_lawful : NoneIsLawful tariff trip → (number price : ℕ)
+      → single_fare tariff trip number ≡ Some price → ⊥
   no_fare_without_lawful none number price usable = none (single_part number) price (lawful_single tariff trip one number price usable)

@@ -8,7 +8,8 @@ use Rattle.fare_trip.specs.Itinerary.{Itinerary}
 use Rattle.fare_tariff.specs.Record.{FareRecord}
 use Rattle.fare_tariff.specs.Tariff.{Tariff}
 use Rattle.fare_rules.specs.declared.part.Part.{Part}
-use Rattle.fare_rules.specs.Numbers.{greater, greatest_of}
+use Rattle.fare_codes.specs.Amounts.{greater}
+use Rattle.fare_rules.specs.Numbers.{greatest_of}
 use Rattle.fare_rules.specs.Span.{first_day}
 use Rattle.fare_rules.specs.Indicator.{indicator_of}
 use Rattle.fare_rules.specs.Reference.{reference}
@@ -24,12 +25,14 @@ greatest_same f g h [] = refl
 greatest_same f g h (x ∷ xs) = rw (h x, greatest_same f g h xs)
 
 -- a last member that gives nothing changes nothing
-greatest_without : (f : ℕ → Option ℕ) (xs : List ℕ) (x : ℕ) → f x ≡ None → greatest_of f (xs ++ x ∷ []) ≡ greatest_of f xs
+greatest_without : (f : ℕ → Option ℕ) (xs : List ℕ) (x : ℕ) → f x ≡ None
+    → greatest_of f (xs ++ x ∷ []) ≡ greatest_of f xs
 greatest_without f [] x e = rw e
 greatest_without f (y ∷ ys) x e = ap (greater (f y)) (greatest_without f ys x e)
 
 module _ (tariff : Tariff) (trip : Itinerary) (parts : List Part) (own : List ℕ) (differ : HasNoFareToItself tariff) (home : comes_home trip parts own ≡ true) where
-  reference_home : (k : ℕ) → k ≡ last_of own → (found : Option FareRecord) → option_and_then (reference_from_origin tariff trip parts own k (end_of parts k)) found ≡ None
+  reference_home : (k : ℕ) → k ≡ last_of own → (found : Option FareRecord)
+      → option_and_then (reference_from_origin tariff trip parts own k (end_of parts k)) found ≡ None
   reference_home k e None = refl
   reference_home k e (Some fare) =
       let at : end_city trip parts k ≡ origin trip parts own = subst (λ j. end_city trip parts j ≡ origin trip parts own) (sym e) ((bytes_eq-Decides _ _).0 home) in
@@ -51,7 +54,8 @@ module _ (tariff : Tariff) (trip : Itinerary) (parts : List Part) (own : List �
   same_minimum = ap (option_map twice) (greatest_same (greatest_turning tariff trip parts own) (greatest_in_part tariff trip parts own) same_in_part own)
 
 -- a unit that closes comes home
-pub home_of_closes : (trip : Itinerary) (parts : List Part) (own : List ℕ) → closes trip parts own ≡ true → comes_home trip parts own ≡ true
+pub home_of_closes : (trip : Itinerary) (parts : List Part) (own : List ℕ) → closes trip parts own ≡ true
+    → comes_home trip parts own ≡ true
 unfolding closes
 home_of_closes trip parts own e =
     let a = and_parts _ _ e in
@@ -59,6 +63,8 @@ home_of_closes trip parts own e =
     (and_parts _ _ b.0).1
 
 -- the circle minimum of a unit that closes is that over all its parts
-pub minimum_of_closed : (tariff : Tariff) (trip : Itinerary) (parts : List Part) (own : List ℕ) → HasNoFareToItself tariff → closes trip parts own ≡ true → unit_circle_minimum tariff trip parts own ≡ circle_minimum tariff trip parts own
+pub minimum_of_closed : (tariff : Tariff) (trip : Itinerary) (parts : List Part) (own : List ℕ)
+    → HasNoFareToItself tariff → closes trip parts own ≡ true
+    → unit_circle_minimum tariff trip parts own ≡ circle_minimum tariff trip parts own
 minimum_of_closed tariff trip parts own differ e =
     same_minimum tariff trip parts own differ (home_of_closes trip parts own e)

@@ -55,7 +55,8 @@ pub same_end : (parts rest : List Part) (k : ℕ) → 1 ≤ k → k ≤ length p
 same_end parts rest k low high = ap (λ (p : Part). p.end) (get_or-append parts rest no_part (k - 1) (omega arith))
 
 -- a list that covers a trip has nothing behind it in a list that covers it too
-pub cover_is_whole : (trip : Itinerary) (parts : List Part) (next : Part) (rest : List Part) → IsCover trip parts → IsCover trip (parts ++ next ∷ rest) → ⊥
+pub cover_is_whole : (trip : Itinerary) (parts : List Part) (next : Part) (rest : List Part) → IsCover trip parts
+    → IsCover trip (parts ++ next ∷ rest) → ⊥
 cover_is_whole trip [] next rest a b =
     let e : end_of (next ∷ rest) 1 ≤ count trip = b.within 1 (omega arith) (omega arith) in
     let h : start_of trip (next ∷ rest) 1 < end_of (next ∷ rest) 1 = b.above 1 (omega arith) (omega arith) in

@@ -1,15 +1,14 @@
 -- Example editions: each is a list of records, of which the first has the record number 2.
-use Prim.Native.String.{String}
 use Rattle.std.specs.Prelude.{ℕ, List, [], ◌∷◌, ◌++◌, true, false}
 use Rattle.fare_codes.specs.declared.area.Area.TheVariants.{One, Two, Three}
 use Rattle.fare_codes.specs.declared.cabin.Cabin.TheVariants.{Y}
 use Rattle.fare_codes.specs.declared.indicator.Indicator.TheVariants.{EH, AT, PA, AP}
 use Rattle.fare_codes.specs.declared.kind.Kind.TheVariants.{OW, HR}
 use Rattle.fare_codes.specs.declared.mode.Mode.TheVariants.{Up, Nearest}
-use Rattle.fare_tariff.specs.declared.names.Names.TheVariants.{All, Of}
-use Rattle.fare_tariff.specs.declared.record.Record.{Record}
+use Rattle.fare_tariff.specs.declared.records.names.Names.TheVariants.{All, Of}
+use Rattle.fare_tariff.specs.declared.records.record.Record.{Record}
 use Rattle.fare_tariff.specs.Tariff.{Tariff}
-use Rattle.fare_rules.proofs.Filed.{city, currency, rule, fare, seasonal, permitted, ticketed, allowed, edition, free, under}
+use Rattle.fare_rules.proofs.Filed.{city, currency, rule, fare, seasonal, permitted, ticketed, edition, free, under}
 
 -- records 2 to 7: London, Paris and Rome, and the currencies of their countries
 abbrev pub three_cities : List Record
@@ -31,14 +30,14 @@ through_fare amount miles = edition (three_cities ++
     ∷ permitted "LON" "ROM" EH 1_000
     ∷ [])
 
--- the same with an allowance by way of a city
-abbrev pub with_allowance : String → ℕ → Tariff
-with_allowance via miles = edition (three_cities ++
+-- the same with an extra mileage allowance
+abbrev pub with_allowance : Record → Tariff
+with_allowance allowance = edition (three_cities ++
     fare "LON" "ROM" EH "YY" Y OW free 40_000
     ∷ ticketed "LON" "PAR" 300
     ∷ ticketed "PAR" "ROM" 751
     ∷ permitted "LON" "ROM" EH 1_000
-    ∷ allowed "LON" "ROM" EH via miles
+    ∷ allowance
     ∷ city "FRA" "DE" Two
     ∷ [])
 
@@ -178,4 +177,50 @@ limited = edition (three_cities ++
     ∷ ticketed "LON" "PAR" 300
     ∷ ticketed "PAR" "ROM" 750
     ∷ permitted "LON" "ROM" EH 1_000
+    ∷ [])
+
+-- records 5 to 8: half round trips between London, Manchester and Paris, and 9 a fare from Paris to Manchester
+abbrev pub home_by_manchester : Tariff
+home_by_manchester = edition (
+    city "LON" "GB" Two
+    ∷ city "MAN" "GB" Two
+    ∷ city "PAR" "FR" Two
+    ∷ fare "LON" "PAR" EH "YY" Y HR free 10_000
+    ∷ fare "MAN" "PAR" EH "YY" Y HR free 9_000
+    ∷ fare "LON" "MAN" EH "YY" Y HR free 6_000
+    ∷ fare "MAN" "LON" EH "YY" Y HR free 4_000
+    ∷ fare "PAR" "MAN" EH "YY" Y HR free 7_000
+    ∷ [])
+
+-- records 6 to 10: half round trips round Paris and Rome, from Paris over the Atlantic, and from London to Rome by that
+-- ocean
+abbrev pub with_new_york : Tariff
+with_new_york = edition (
+    city "LON" "GB" Two
+    ∷ city "PAR" "FR" Two
+    ∷ city "ROM" "IT" Two
+    ∷ city "NYC" "US" One
+    ∷ fare "LON" "PAR" EH "YY" Y HR free 10_000
+    ∷ fare "PAR" "NYC" AT "YY" Y HR free 20_000
+    ∷ fare "PAR" "ROM" EH "YY" Y HR free 3_000
+    ∷ fare "LON" "ROM" EH "YY" Y HR free 15_000
+    ∷ fare "LON" "ROM" AT "YY" Y HR free 50_000
+    ∷ [])
+
+-- records 8 to 11: half round trips round Paris and Rome, of which that from London to Rome is dearer in April
+abbrev pub dear_in_april : Tariff
+dear_in_april = edition (three_cities ++
+    fare "LON" "PAR" EH "YY" Y HR free 10_000
+    ∷ fare "PAR" "ROM" EH "YY" Y HR free 1_000
+    ∷ seasonal "LON" "ROM" EH "YY" Y HR free "04-01" "04-30" 20_000
+    ∷ seasonal "LON" "ROM" EH "YY" Y HR free "05-01" "03-31" 12_000
+    ∷ [])
+
+-- record 8 is a carrier's fare to Rome, beside which its fare to Paris is one of the summer, and that of every carrier
+-- is not
+abbrev pub carrier_in_summer : Tariff
+carrier_in_summer = edition (three_cities ++
+    fare "LON" "ROM" EH "Q1" Y OW free 30_000
+    ∷ seasonal "LON" "PAR" EH "Q1" Y OW free "05-01" "10-31" 50_000
+    ∷ fare "LON" "PAR" EH "YY" Y OW free 35_000
     ∷ [])

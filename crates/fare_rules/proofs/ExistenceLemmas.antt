@@ -49,7 +49,9 @@ abbrev lists_of : List Part → ℕ → List (List Part)
 lists_of members zero = [] ∷ []
 lists_of members (suc n) = [] ∷ flat_map (each_in_front members) (lists_of members n)
 
-possible_part : (tariff : Tariff) (trip : Itinerary) (one : Part) → 1 ≤ one.end → one.end ≤ count trip → 1 ≤ one.unit → one.unit ≤ count trip → 2 ≤ one.fare → one.fare < length tariff.records + 2 → Member one (possible_parts tariff trip)
+possible_part : (tariff : Tariff) (trip : Itinerary) (one : Part) → 1 ≤ one.end → one.end ≤ count trip → 1 ≤ one.unit
+    → one.unit ≤ count trip → 2 ≤ one.fare → one.fare < length tariff.records + 2
+    → Member one (possible_parts tariff trip)
 possible_part tariff trip one e1 e2 u1 u2 f1 f2 =
     let fares : Member one.fare (record_numbers tariff) = member_numbers 2 (length tariff.records + 2) one.fare f1 f2 in
     let with : Member one (parts_with tariff one.end one.unit) = member_map (part_of one.end one.unit) one.fare (record_numbers tariff) fares in
@@ -59,7 +61,8 @@ possible_part tariff trip one e1 e2 u1 u2 f1 f2 =
     member_flat_map (parts_to tariff trip) one.end one (numbers 1 (count trip + 1)) end to
 
 -- a list of members up to a length is one of their lists
-member_list : (members : List Part) (n : ℕ) (parts : List Part) → length parts ≤ n → ((k : ℕ) → k < length parts → Member (slice_index_or parts k no_part) members) → Member parts (lists_of members n)
+member_list : (members : List Part) (n : ℕ) (parts : List Part) → length parts ≤ n
+    → ((k : ℕ) → k < length parts → Member (slice_index_or parts k no_part) members) → Member parts (lists_of members n)
 member_list members zero [] h each = inl refl
 member_list members zero (one ∷ rest) h each = absurd (omega arith)
 member_list members (suc n) [] h each = inl refl
@@ -69,13 +72,15 @@ member_list members (suc n) (one ∷ rest) h each =
     inr (member_flat_map (each_in_front members) rest (one ∷ rest) (lists_of members n) more (member_map (in_front rest) one members first))
 
 -- the unit numbers of the first parts are no greater than their places
-greatest_more : (parts : List Part) (xs : List ℕ) (y : ℕ) → greatest_unit parts (xs ++ y ∷ []) ≤ max (greatest_unit parts xs) (unit_of parts y)
+greatest_more : (parts : List Part) (xs : List ℕ) (y : ℕ)
+    → greatest_unit parts (xs ++ y ∷ []) ≤ max (greatest_unit parts xs) (unit_of parts y)
 greatest_more parts [] y = omega arith
 greatest_more parts (x ∷ xs) y =
     let more : greatest_unit parts (xs ++ y ∷ []) ≤ max (greatest_unit parts xs) (unit_of parts y) = greatest_more parts xs y in
     omega arith
 
-pub units_numbered : (parts : List Part) → misnumbered parts ≡ None → (k : ℕ) → 1 ≤ k → k ≤ length parts → (1 ≤ unit_of parts k) × (unit_of parts k ≤ greatest_unit parts (numbers 1 k) + 1)
+pub units_numbered : (parts : List Part) → misnumbered parts ≡ None → (k : ℕ) → 1 ≤ k → k ≤ length parts
+    → (1 ≤ unit_of parts k) × (unit_of parts k ≤ greatest_unit parts (numbers 1 k) + 1)
 unfolding misnumbered
 units_numbered parts e k low high =
     let fails = find_none (is_misnumbered parts) 1 (length parts + 1) e k low (omega arith) in
@@ -83,7 +88,8 @@ units_numbered parts e k low high =
     let some : unit_of parts k ≡ 0 → ⊥ = eqb-false (unit_of parts k) 0 both.0 in
     (omega arith, ltb-false (greatest_unit parts (numbers 1 k) + 1) (unit_of parts k) both.1)
 
-pub greatest_up_to_place : (parts : List Part) → misnumbered parts ≡ None → (n : ℕ) → n ≤ length parts → greatest_unit parts (range_with_len 1 n) ≤ n
+pub greatest_up_to_place : (parts : List Part) → misnumbered parts ≡ None → (n : ℕ) → n ≤ length parts
+    → greatest_unit parts (range_with_len 1 n) ≤ n
 greatest_up_to_place parts e zero high = omega arith
 greatest_up_to_place parts e (suc n) high =
     let before : greatest_unit parts (range_with_len 1 n) ≤ n = greatest_up_to_place parts e n (omega arith) in
@@ -94,14 +100,16 @@ greatest_up_to_place parts e (suc n) high =
     let all : greatest_unit parts (range_with_len 1 (suc n)) ≡ greatest_unit parts (range_with_len 1 n ++ (1 + n) ∷ []) = ap (greatest_unit parts) (range_more 1 n) in
     omega arith
 
-pub unit_up_to_place : (parts : List Part) → misnumbered parts ≡ None → (k : ℕ) → 1 ≤ k → k ≤ length parts → unit_of parts k ≤ k
+pub unit_up_to_place : (parts : List Part) → misnumbered parts ≡ None → (k : ℕ) → 1 ≤ k → k ≤ length parts
+    → unit_of parts k ≤ k
 unit_up_to_place parts e k low high =
     let numbered : unit_of parts k ≤ greatest_unit parts (numbers 1 k) + 1 = (units_numbered parts e k low high).1 in
     let before : greatest_unit parts (numbers 1 k) ≤ k - 1 = greatest_up_to_place parts e (k - 1) (omega arith) in
     omega arith
 
 -- each lawful construction is one of the lists
-lawful_is_possible : (tariff : Tariff) (trip : Itinerary) (parts : List Part) (cost : ℕ) → IsLawful tariff trip parts cost → Member parts (lists_of (possible_parts tariff trip) (count trip))
+lawful_is_possible : (tariff : Tariff) (trip : Itinerary) (parts : List Part) (cost : ℕ)
+    → IsLawful tariff trip parts cost → Member parts (lists_of (possible_parts tariff trip) (count trip))
 lawful_is_possible tariff trip parts cost lawful =
     let holds = kept tariff trip parts cost lawful in
     let covers = cover trip parts holds.cover in
@@ -131,36 +139,42 @@ same_price found x y e f = cc
 
 module _ (tariff : Tariff) (trip : Itinerary) where
   -- a list that is this lawful one is not before it
-  itself : (x one : List Part) (price cost : ℕ) → one ≡ x → IsLawful tariff trip x price → IsLawful tariff trip one cost → is_before one cost x price ≡ false
+  itself : (x one : List Part) (price cost : ℕ) → one ≡ x → IsLawful tariff trip x price
+      → IsLawful tariff trip one cost → is_before one cost x price ≡ false
   itself x one price cost same lawful other =
       let here : IsLawful tariff trip x cost = subst (λ ps. IsLawful tariff trip ps cost) same other in
       let equal : price ≡ cost = same_price (lawful_price tariff trip x) price cost lawful here in
       subst (λ ps. is_before ps cost x price ≡ false) (sym same) (subst (λ c. is_before x c x price ≡ false) equal (irreflexive x price))
 
-  unlawful : (x one : List Part) (found : Broken) (cost : ℕ) → one ≡ x → lawful_price tariff trip x ≡ Err found → IsLawful tariff trip one cost → ⊥
+  unlawful : (x one : List Part) (found : Broken) (cost : ℕ) → one ≡ x → lawful_price tariff trip x ≡ Err found
+      → IsLawful tariff trip one cost → ⊥
   unlawful x one found cost same broken lawful =
       let here : IsLawful tariff trip x cost = subst (λ ps. IsLawful tariff trip ps cost) same lawful in
       err_ok found cost (sym broken ∙ here)
 
-  not_before_first : (one x best : List Part) (cost price most : ℕ) → is_before x price best most ≡ true → is_before one cost best most ≡ false → is_before one cost x price ≡ false
+  not_before_first : (one x best : List Part) (cost price most : ℕ) → is_before x price best most ≡ true
+      → is_before one cost best most ≡ false → is_before one cost x price ≡ false
   not_before_first one x best cost price most h k =
       elim (cases_Bool (is_before one cost x price)) [
         | inl t ↦ absurd (both_ways (is_before one cost best most) k (transitive one x best cost price most t h))
         | inr f ↦ f
       ]
 
-  not_before_by : (x one best : List Part) (price cost most : ℕ) → one ≡ x → IsLawful tariff trip x price → IsLawful tariff trip one cost → is_before x price best most ≡ false → is_before one cost best most ≡ false
+  not_before_by : (x one best : List Part) (price cost most : ℕ) → one ≡ x → IsLawful tariff trip x price
+      → IsLawful tariff trip one cost → is_before x price best most ≡ false → is_before one cost best most ≡ false
   not_before_by x one best price cost most same lawful other f =
       let here : IsLawful tariff trip x cost = subst (λ ps. IsLawful tariff trip ps cost) same other in
       let equal : price ≡ cost = same_price (lawful_price tariff trip x) price cost lawful here in
       subst (λ ps. is_before ps cost best most ≡ false) (sym same) (subst (λ c. is_before x c best most ≡ false) equal f)
 
-  with_unlawful : (x : List Part) (xs : List (List Part)) (found : Broken) → lawful_price tariff trip x ≡ Err found → LeastOf tariff trip xs → LeastOf tariff trip (x ∷ xs)
+  with_unlawful : (x : List Part) (xs : List (List Part)) (found : Broken) → lawful_price tariff trip x ≡ Err found
+      → LeastOf tariff trip xs → LeastOf tariff trip (x ∷ xs)
   with_unlawful x xs found e (inl none) = inl (λ one cost member lawful. elim member [ inl same ↦ unlawful x one found cost same e lawful | inr later ↦ none one cost later lawful ])
   with_unlawful x xs found e (inr (best, price, lawful, first)) =
       inr (best, price, lawful, λ one cost member other. elim member [ inl same ↦ absurd (unlawful x one found cost same e other) | inr later ↦ first one cost later other ])
 
-  with_lawful : (x : List Part) (xs : List (List Part)) (price : ℕ) → IsLawful tariff trip x price → LeastOf tariff trip xs → LeastOf tariff trip (x ∷ xs)
+  with_lawful : (x : List Part) (xs : List (List Part)) (price : ℕ) → IsLawful tariff trip x price
+      → LeastOf tariff trip xs → LeastOf tariff trip (x ∷ xs)
   with_lawful x xs price e (inl none) =
       inr (x, price, e, λ one cost member other. elim member [ inl same ↦ itself x one price cost same e other | inr later ↦ absurd (none one cost later other) ])
   with_lawful x xs price e (inr (best, most, lawful, first)) =
@@ -169,7 +183,8 @@ module _ (tariff : Tariff) (trip : Itinerary) where
         | inr f ↦ inr (best, most, lawful, λ one cost member other. elim member [ inl same ↦ not_before_by x one best price cost most same e other f | inr later ↦ first one cost later other ])
       ]
 
-  with_first : (x : List Part) (xs : List (List Part)) (found : Result ℕ Broken) → lawful_price tariff trip x ≡ found → LeastOf tariff trip xs → LeastOf tariff trip (x ∷ xs)
+  with_first : (x : List Part) (xs : List (List Part)) (found : Result ℕ Broken) → lawful_price tariff trip x ≡ found
+      → LeastOf tariff trip xs → LeastOf tariff trip (x ∷ xs)
   with_first x xs (Ok price) e least = with_lawful x xs price e least
   with_first x xs (Err found) e least = with_unlawful x xs found e least
 

@@ -12,9 +12,9 @@ use Rattle.fare_codes.specs.declared.over.Over.TheVariants.{Unmarked}
 use Rattle.fare_codes.specs.declared.rule_id.RuleId.{RuleId}
 use Rattle.fare_trip.specs.declared.sector.Sector.{Sector}
 use Rattle.fare_trip.specs.Itinerary.{Itinerary}
-use Rattle.fare_tariff.specs.declared.names.Names.{Names}
-use Rattle.fare_tariff.specs.declared.record.Record.{Record}
-use Rattle.fare_tariff.specs.declared.record.Record.TheVariants as filed
+use Rattle.fare_tariff.specs.declared.records.names.Names.{Names}
+use Rattle.fare_tariff.specs.declared.records.record.Record.{Record}
+use Rattle.fare_tariff.specs.declared.records.record.Record.TheVariants as filed
 use Rattle.fare_tariff.specs.Tariff.{Tariff}
 use Rattle.fare_rules.specs.declared.part.Part.{Part}
 
@@ -58,12 +58,12 @@ abbrev pub ticketed : String → String → ℕ → Record
 ticketed from to miles = filed.Tpm (record { from = codes from; to = codes to; miles = miles })
 
 -- an extra mileage allowance by way of a city
-abbrev pub allowed : String → String → Indicator → String → ℕ → Record
-allowed from to ind via miles = filed.Ema (record { from = codes from; to = codes to; ind = ind; via = Some (codes via); miles = miles })
+abbrev pub allowance : String → String → Indicator → String → ℕ → Record
+allowance from to ind via miles = filed.Ema (record { from = codes from; to = codes to; ind = ind; via = Some (codes via); miles = miles })
 
 -- an extra mileage allowance by any way
-abbrev pub allowed_anyhow : String → String → Indicator → ℕ → Record
-allowed_anyhow from to ind miles = filed.Ema (record { from = codes from; to = codes to; ind = ind; via = None; miles = miles })
+abbrev pub allowance_anyhow : String → String → Indicator → ℕ → Record
+allowance_anyhow from to ind miles = filed.Ema (record { from = codes from; to = codes to; ind = ind; via = None; miles = miles })
 
 -- an edition of some records
 abbrev pub edition : List Record → Tariff

@@ -48,7 +48,8 @@ home_is_home (Some a) None = refl
 home_is_home (Some a) (Some o) = rw ((bytes_eq-Decides o o).1 refl) (and_right (bytes_eq a o) false refl)
 
 -- the places of the unit of the first part begin with it
-pub own_of_first : (part : Part) (rest : List Part) → own (part ∷ rest) part.unit ≡ 1 ∷ filter (is_own (part ∷ rest) part.unit) (range_with_len 2 (length rest))
+pub own_of_first : (part : Part) (rest : List Part)
+    → own (part ∷ rest) part.unit ≡ 1 ∷ filter (is_own (part ∷ rest) part.unit) (range_with_len 2 (length rest))
 unfolding own
 own_of_first part rest =
     let n : suc (length rest) + 1 - 1 ≡ suc (length rest) = omega arith in
@@ -80,14 +81,16 @@ module _ (tariff : Tariff) (trip : Itinerary) (part : Part) (rest : List Part) (
       omega arith
 
   -- a unit of half round trips has more than its first part
-  pub not_alone : is_hr tariff (part ∷ rest) (own (part ∷ rest) part.unit) ≡ true → own (part ∷ rest) part.unit ≡ 1 ∷ [] → ⊥
+  pub not_alone : is_hr tariff (part ∷ rest) (own (part ∷ rest) part.unit) ≡ true
+      → own (part ∷ rest) part.unit ≡ 1 ∷ [] → ⊥
   unfolding unclosed is_open_jaw
   not_alone h e =
       let closed = find_none (is_unclosed tariff trip (part ∷ rest)) 1 (greatest_unit (part ∷ rest) (places (part ∷ rest)) + 1) kept.close part.unit unit_above unit_within in
       let here : is_hr tariff (part ∷ rest) (1 ∷ []) ≡ true = rw e at h in
       true_false (rw (e, here) at closed)
 
-  first_is_not_last : is_hr tariff (part ∷ rest) (own (part ∷ rest) part.unit) ≡ true → eqb 1 (last_of (own (part ∷ rest) part.unit)) ≡ false
+  first_is_not_last : is_hr tariff (part ∷ rest) (own (part ∷ rest) part.unit) ≡ true
+      → eqb 1 (last_of (own (part ∷ rest) part.unit)) ≡ false
   first_is_not_last h =
       let tail : List ℕ = filter (is_own (part ∷ rest) part.unit) (range_with_len 2 (length rest)) in
       let e : own (part ∷ rest) part.unit ≡ 1 ∷ tail = own_of_first part rest in
@@ -111,7 +114,9 @@ module _ (tariff : Tariff) (trip : Itinerary) (part : Part) (rest : List Part) (
       rw first_is_out at amount
 
 -- a part that may begin is one of the choices
-begins_by_choice : (tariff : Tariff) (trip : Itinerary) (end number : ℕ) → 1 ≤ end → end ≤ count trip → 2 ≤ number → number < length tariff.records + 2 → may_begin tariff trip end number ≡ true → Contains (first_part_choices tariff trip) (end, number)
+begins_by_choice : (tariff : Tariff) (trip : Itinerary) (end number : ℕ) → 1 ≤ end → end ≤ count trip → 2 ≤ number
+    → number < length tariff.records + 2 → may_begin tariff trip end number ≡ true
+    → Contains (first_part_choices tariff trip) (end, number)
 unfolding first_part_choices
 begins_by_choice tariff trip end number above within low high begins =
     let filed : Member number (record_numbers tariff) = member_numbers 2 (length tariff.records + 2) number low high in
@@ -121,7 +126,9 @@ begins_by_choice tariff trip end number above within low high begins =
     contains (end, number) (flat_map (choices_to tariff trip) (numbers_down (count trip))) (member_flat_map (choices_to tariff trip) end (choice end number) (numbers_down (count trip)) ends chosen)
 
 -- a construction of a trip has a first part, which is one of the choices
-pub first_is_choice : (tariff : Tariff) (trip : Itinerary) (parts : List Part) → 0 < count trip → IsKept tariff trip parts → (first : Part) × (rest : List Part) × (parts ≡ first ∷ rest) × Contains (first_part_choices tariff trip) (first.end, first.fare)
+pub first_is_choice : (tariff : Tariff) (trip : Itinerary) (parts : List Part) → 0 < count trip
+    → IsKept tariff trip parts → (first : Part) × (rest : List Part) × (parts ≡ first ∷ rest)
+    × Contains (first_part_choices tariff trip) (first.end, first.fare)
 first_is_choice tariff trip [] some kept =
     let last : 0 ≡ count trip = (cover trip [] kept.cover).last in
     absurd (omega arith)

@@ -10,7 +10,7 @@ use Rattle.fare_codes.specs.declared.rule_id.RuleId.{RuleId}
 use Rattle.fare_codes.specs.Day.{is_month_day, month_day_of, place_in_year, two_digits}
 use Rattle.fare_codes.specs.Season.{season_holds, whole_year}
 use Rattle.fare_trip.specs.Itinerary.{Itinerary}
-use Rattle.fare_tariff.specs.declared.terms.Terms.{Terms}
+use Rattle.fare_tariff.specs.declared.records.terms.Terms.{Terms}
 use Rattle.fare_tariff.specs.Record.{FareRecord}
 use Rattle.fare_tariff.specs.Tariff.{Tariff}
 use Rattle.fare_tariff.specs.Lookup.{terms, free_terms}
@@ -32,7 +32,8 @@ or_true : (b : Bool) → (b || true) ≡ true
 or_true true = refl
 or_true false = refl
 
-holds_free : (tariff : Tariff) (test : Terms → Bool) (rule : Option RuleId) → rule ≡ None → test free_terms ≡ true → term_holds test (terms tariff rule) ≡ true
+holds_free : (tariff : Tariff) (test : Terms → Bool) (rule : Option RuleId) → rule ≡ None → test free_terms ≡ true
+    → term_holds test (terms tariff rule) ≡ true
 holds_free tariff test rule e h = rw e h
 
 module _ (tariff : Tariff) (trip : Itinerary) (a b : ℕ) (fare : FareRecord) (free : fare.rule ≡ None) (short : b ≤ 16) where
@@ -52,7 +53,8 @@ module _ (tariff : Tariff) (trip : Itinerary) (a b : ℕ) (fare : FareRecord) (f
   free_step None = refl
   free_step (Some step) = holds_free tariff (allows_surcharge step) fare.rule free (or_true (eqb step 0))
 
-  free_applicable : (back : Bool) → in_season trip a fare ≡ true → is_applicable tariff trip a b back fare ≡ is_applicable_freely tariff trip a b back fare
+  free_applicable : (back : Bool) → in_season trip a fare ≡ true
+      → is_applicable tariff trip a b back fare ≡ is_applicable_freely tariff trip a b back fare
   unfolding is_applicable
   free_applicable back season =
       rw (season, free_stops, free_transfers, free_advance, free_step (span_surcharge tariff trip a b)) (simp and-true)
@@ -95,13 +97,17 @@ whole_year_holds on e =
     and_from (leb 101 (place_in_year on)) (leb (place_in_year on) 1_231) (le-leb 101 (place_in_year on) range.0) (le-leb (place_in_year on) 1_231 range.1)
 
 -- so a fare of the whole year is in season on each day
-pub whole_year_in_season : (trip : Itinerary) (a : ℕ) (fare : FareRecord) → fare.season ≡ whole_year → is_month_day (month_day_of (first_day trip a)) ≡ true → in_season trip a fare ≡ true
+pub whole_year_in_season : (trip : Itinerary) (a : ℕ) (fare : FareRecord) → fare.season ≡ whole_year
+    → is_month_day (month_day_of (first_day trip a)) ≡ true → in_season trip a fare ≡ true
 unfolding in_season
 whole_year_in_season trip a fare e day = rw e (whole_year_holds (month_day_of (first_day trip a)) day)
 
-pub applicable_freely : (tariff : Tariff) (trip : Itinerary) (a b : ℕ) (back : Bool) (fare : FareRecord) → fare.rule ≡ None → fare.season ≡ whole_year → b ≤ 16 → is_month_day (month_day_of (first_day trip a)) ≡ true → is_applicable tariff trip a b back fare ≡ is_applicable_freely tariff trip a b back fare
+pub applicable_freely : (tariff : Tariff) (trip : Itinerary) (a b : ℕ) (back : Bool) (fare : FareRecord)
+    → fare.rule ≡ None → fare.season ≡ whole_year → b ≤ 16 → is_month_day (month_day_of (first_day trip a)) ≡ true
+    → is_applicable tariff trip a b back fare ≡ is_applicable_freely tariff trip a b back fare
 applicable_freely tariff trip a b back fare free year short day = free_applicable tariff trip a b fare free short back (whole_year_in_season trip a fare year day)
 
 -- the free rule allows any stay that is a number of days
-pub free_stay : (tariff : Tariff) (days : ℕ) (fare : FareRecord) → fare.rule ≡ None → days < 2 ^ 32 → allows_stay_of tariff days (Some fare) ≡ true
+pub free_stay : (tariff : Tariff) (days : ℕ) (fare : FareRecord) → fare.rule ≡ None → days < 2 ^ 32
+    → allows_stay_of tariff days (Some fare) ≡ true
 free_stay tariff days fare free h = holds_free tariff (allows_stay days) fare.rule free (and_from (leb 0 days) (leb days 4_294_967_295) (le-leb 0 days (omega arith)) (le-leb days 4_294_967_295 (omega arith)))

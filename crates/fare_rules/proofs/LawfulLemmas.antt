@@ -57,7 +57,8 @@ unplaced : (rule : ℕ) (place : Option ℕ) → at_rule rule place ≡ None →
 unplaced rule None e = refl
 unplaced rule (Some k) e = absurd (some_none (broken_at rule k) e)
 
-pub kept_from_unbroken : (tariff : Tariff) (trip : Itinerary) (parts : List Part) → first_broken tariff trip parts ≡ None → IsKept tariff trip parts
+pub kept_from_unbroken : (tariff : Tariff) (trip : Itinerary) (parts : List Part)
+    → first_broken tariff trip parts ≡ None → IsKept tariff trip parts
 unfolding first_broken breaks
 kept_from_unbroken tariff trip parts e =
     let a = none_given (breaks tariff trip parts) e in
@@ -86,19 +87,23 @@ kept_from_unbroken tariff trip parts e =
       season = unplaced 22 _ a.1.1.1.1.1.1.1.1.1.1.1.1.1.1.1.1.1.1.1.1.1.0;
     }
 
-unbroken_of : (found : Option Broken) (cost price : ℕ) → unless_broken found cost ≡ Ok price → (found ≡ None) × (cost ≡ price)
+unbroken_of : (found : Option Broken) (cost price : ℕ) → unless_broken found cost ≡ Ok price
+    → (found ≡ None) × (cost ≡ price)
 unbroken_of None cost price e = (refl, cc)
 unbroken_of (Some found) cost price e = absurd (err_ok found price e)
 
 -- where a construction is lawful, nothing is broken
-pub unbroken : (tariff : Tariff) (trip : Itinerary) (parts : List Part) (cost : ℕ) → lawful_price tariff trip parts ≡ Ok cost → first_broken tariff trip parts ≡ None
+pub unbroken : (tariff : Tariff) (trip : Itinerary) (parts : List Part) (cost : ℕ)
+    → lawful_price tariff trip parts ≡ Ok cost → first_broken tariff trip parts ≡ None
 unfolding lawful_price
 unbroken tariff trip parts cost e = (unbroken_of (first_broken tariff trip parts) (price tariff trip parts) cost e).0
 
 -- and its price is that of its units
-pub price_of_lawful : (tariff : Tariff) (trip : Itinerary) (parts : List Part) (cost : ℕ) → lawful_price tariff trip parts ≡ Ok cost → price tariff trip parts ≡ cost
+pub price_of_lawful : (tariff : Tariff) (trip : Itinerary) (parts : List Part) (cost : ℕ)
+    → lawful_price tariff trip parts ≡ Ok cost → price tariff trip parts ≡ cost
 unfolding lawful_price
 price_of_lawful tariff trip parts cost e = (unbroken_of (first_broken tariff trip parts) (price tariff trip parts) cost e).1
 
-pub kept : (tariff : Tariff) (trip : Itinerary) (parts : List Part) (cost : ℕ) → lawful_price tariff trip parts ≡ Ok cost → IsKept tariff trip parts
+pub kept : (tariff : Tariff) (trip : Itinerary) (parts : List Part) (cost : ℕ)
+    → lawful_price tariff trip parts ≡ Ok cost → IsKept tariff trip parts
 kept tariff trip parts cost e = kept_from_unbroken tariff trip parts (unbroken tariff trip parts cost e)

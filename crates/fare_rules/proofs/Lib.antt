@@ -7,6 +7,7 @@ pub mod WorkedMiles
 pub mod WorkedPrices
 pub mod BrokenRules
 pub mod SampledPrices
+pub mod FinerPrices
 pub mod NumberLemmas
 pub mod OrderLemmas
 pub mod LawfulLemmas
@@ -19,6 +20,7 @@ pub mod MemberLemmas
 pub mod FirstPartLemmas
 pub mod RuleLemmas
 pub mod OneSectorLemmas
+pub mod OneWayLemmas
 pub mod CheapestLemmas
 pub mod PriceLemmas
 pub mod TotalLemmas

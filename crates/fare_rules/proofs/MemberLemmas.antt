@@ -29,7 +29,8 @@ member_map f x [] h = absurd h
 member_map f x (y ∷ ys) (inl e) = inl (ap f e)
 member_map f x (y ∷ ys) (inr h) = inr (member_map f x ys h)
 
-pub member_filter : {A : Type 0} (test : A → Bool) (x : A) (xs : List A) → test x ≡ true → Member x xs → Member x (filter test xs)
+pub member_filter : {A : Type 0} (test : A → Bool) (x : A) (xs : List A) → test x ≡ true → Member x xs
+    → Member x (filter test xs)
 member_filter test x [] t h = absurd h
 member_filter test x (y ∷ ys) t (inl e) =
     let here : test y ≡ true = subst (λ z. test z ≡ true) e t in
@@ -40,7 +41,8 @@ member_filter test x (y ∷ ys) t (inr h) =
       | inr fails ↦ rw fails (member_filter test x ys t h)
     ]
 
-pub member_flat_map : {A B : Type 0} (f : A → List B) (x : A) (y : B) (xs : List A) → Member x xs → Member y (f x) → Member y (flat_map f xs)
+pub member_flat_map : {A B : Type 0} (f : A → List B) (x : A) (y : B) (xs : List A) → Member x xs → Member y (f x)
+    → Member y (flat_map f xs)
 member_flat_map f x y [] h k = absurd h
 member_flat_map f x y (z ∷ zs) (inl e) k = member_left y (f z) (flat_map f zs) (subst (λ w. Member y (f w)) e k)
 member_flat_map f x y (z ∷ zs) (inr h) k = member_right y (f z) (flat_map f zs) (member_flat_map f x y zs h k)

@@ -4,7 +4,8 @@ use Rattle.std.specs.Prelude.{Option, Some, None, find, filter, sum_by}
 use Rattle.std.specs.List.{range_with_len, list_any, list_all}
 use Rattle.std.proofs.lemmas.Bool.{cases_Bool, cases_eq}
 use Rattle.std.proofs.lemmas.List.Sums.{sum_by-cons}
-use Rattle.fare_rules.specs.Numbers.{numbers, greater, greatest_of}
+use Rattle.fare_codes.specs.Amounts.{greater}
+use Rattle.fare_rules.specs.Numbers.{numbers, greatest_of}
 
 -- a range that is not empty is its first number and the rest
 pub numbers_next : (first past : ℕ) → first < past → numbers first past ≡ first ∷ numbers (first + 1) past
@@ -32,41 +33,49 @@ numbers_more first past h =
     ap (range_with_len first) e ∙ subst (λ k. range_with_len first (suc (past - first)) ≡ numbers first past ++ k ∷ []) f (range_more first (past - first))
 
 -- what is looked for, counted, summed or gathered over a range, by its first number and the rest
-pub find_next : (test : ℕ → Bool) (first past : ℕ) → first < past → find test (numbers first past) ≡ cond (test first) (Some first) (find test (numbers (first + 1) past))
+pub find_next : (test : ℕ → Bool) (first past : ℕ) → first < past
+    → find test (numbers first past) ≡ cond (test first) (Some first) (find test (numbers (first + 1) past))
 find_next test first past h = ap (find test) (numbers_next first past h)
 
 pub find_done : (test : ℕ → Bool) (first past : ℕ) → past ≤ first → find test (numbers first past) ≡ None
 find_done test first past h = ap (find test) (numbers_none first past h)
 
-pub any_next : (test : ℕ → Bool) (first past : ℕ) → first < past → list_any test (numbers first past) ≡ (test first || list_any test (numbers (first + 1) past))
+pub any_next : (test : ℕ → Bool) (first past : ℕ) → first < past
+    → list_any test (numbers first past) ≡ (test first || list_any test (numbers (first + 1) past))
 any_next test first past h = ap (list_any test) (numbers_next first past h)
 
 pub any_done : (test : ℕ → Bool) (first past : ℕ) → past ≤ first → list_any test (numbers first past) ≡ false
 any_done test first past h = ap (list_any test) (numbers_none first past h)
 
-pub all_next : (test : ℕ → Bool) (first past : ℕ) → first < past → list_all test (numbers first past) ≡ (test first && list_all test (numbers (first + 1) past))
+pub all_next : (test : ℕ → Bool) (first past : ℕ) → first < past
+    → list_all test (numbers first past) ≡ (test first && list_all test (numbers (first + 1) past))
 all_next test first past h = ap (list_all test) (numbers_next first past h)
 
 pub all_done : (test : ℕ → Bool) (first past : ℕ) → past ≤ first → list_all test (numbers first past) ≡ true
 all_done test first past h = ap (list_all test) (numbers_none first past h)
 
-pub filter_next : (test : ℕ → Bool) (first past : ℕ) → first < past → filter test (numbers first past) ≡ cond (test first) (first ∷ filter test (numbers (first + 1) past)) (filter test (numbers (first + 1) past))
+pub filter_next : (test : ℕ → Bool) (first past : ℕ) → first < past
+    → filter test (numbers first past) ≡ cond (test first) (first ∷ filter test (numbers (first + 1) past))
+    (filter test (numbers (first + 1) past))
 filter_next test first past h = ap (filter test) (numbers_next first past h)
 
 pub filter_done : (test : ℕ → Bool) (first past : ℕ) → past ≤ first → filter test (numbers first past) ≡ []
 filter_done test first past h = ap (filter test) (numbers_none first past h)
 
-pub sum_next : (amount : ℕ → ℕ) (first past : ℕ) → first < past → sum_by amount (numbers first past) ≡ amount first + sum_by amount (numbers (first + 1) past)
+pub sum_next : (amount : ℕ → ℕ) (first past : ℕ) → first < past
+    → sum_by amount (numbers first past) ≡ amount first + sum_by amount (numbers (first + 1) past)
 sum_next amount first past h =
     ap (sum_by amount) (numbers_next first past h) ∙ sum_by-cons amount first (numbers (first + 1) past)
 
 pub sum_done : (amount : ℕ → ℕ) (first past : ℕ) → past ≤ first → sum_by amount (numbers first past) ≡ 0
 sum_done amount first past h = ap (sum_by amount) (numbers_none first past h)
 
-pub greatest_next : (amount : ℕ → Option ℕ) (first past : ℕ) → first < past → greatest_of amount (numbers first past) ≡ greater (amount first) (greatest_of amount (numbers (first + 1) past))
+pub greatest_next : (amount : ℕ → Option ℕ) (first past : ℕ) → first < past
+    → greatest_of amount (numbers first past) ≡ greater (amount first) (greatest_of amount (numbers (first + 1) past))
 greatest_next amount first past h = ap (greatest_of amount) (numbers_next first past h)
 
-pub greatest_done : (amount : ℕ → Option ℕ) (first past : ℕ) → past ≤ first → greatest_of amount (numbers first past) ≡ None
+pub greatest_done : (amount : ℕ → Option ℕ) (first past : ℕ) → past ≤ first
+    → greatest_of amount (numbers first past) ≡ None
 greatest_done amount first past h = ap (greatest_of amount) (numbers_none first past h)
 
 -- the greater of three amounts, whichever two come first
@@ -80,7 +89,8 @@ some_none : (k : ℕ) → Some k ≡ None → ⊥
 some_none k e = cc
 
 -- where nothing is found in a range, each of its members fails the test
-found_none : (test : ℕ → Bool) (first n : ℕ) → find test (range_with_len first n) ≡ None → (k : ℕ) → first ≤ k → k < first + n → test k ≡ false
+found_none : (test : ℕ → Bool) (first n : ℕ) → find test (range_with_len first n) ≡ None → (k : ℕ) → first ≤ k
+    → k < first + n → test k ≡ false
 found_none test first zero e k low high = absurd (omega arith)
 found_none test first (suc n) e k low high =
     elim (cases_Bool (test first)) [
@@ -91,7 +101,8 @@ found_none test first (suc n) e k low high =
       ]
     ]
 
-pub find_none : (test : ℕ → Bool) (first past : ℕ) → find test (numbers first past) ≡ None → (k : ℕ) → first ≤ k → k < past → test k ≡ false
+pub find_none : (test : ℕ → Bool) (first past : ℕ) → find test (numbers first past) ≡ None → (k : ℕ) → first ≤ k
+    → k < past → test k ≡ false
 find_none test first past e k low high = found_none test first (past - first) e k low (omega arith)
 
 true_false : true ≡ false → ⊥
@@ -101,7 +112,8 @@ neither_true : (a b : Bool) → (a || b) ≡ false → (a ≡ false) × (b ≡ f
 neither_true false b e = (refl, e)
 neither_true true b e = absurd (true_false e)
 
-rest_none : (p test : ℕ → Bool) (first n : ℕ) → list_any test (filter p (range_with_len first (suc n))) ≡ false → list_any test (filter p (range_with_len (first + 1) n)) ≡ false
+rest_none : (p test : ℕ → Bool) (first n : ℕ) → list_any test (filter p (range_with_len first (suc n))) ≡ false
+    → list_any test (filter p (range_with_len (first + 1) n)) ≡ false
 rest_none p test first n e =
     elim (cases_Bool (p first)) [
       | inl t ↦ (neither_true (test first) (list_any test (filter p (range_with_len (first + 1) n))) (rw t at e)).1
@@ -109,7 +121,8 @@ rest_none p test first n e =
     ]
 
 -- where no member of a range that passes one test passes another, each member that passes the first fails the other
-kept_none : (p test : ℕ → Bool) (first n : ℕ) → list_any test (filter p (range_with_len first n)) ≡ false → (k : ℕ) → first ≤ k → k < first + n → p k ≡ true → test k ≡ false
+kept_none : (p test : ℕ → Bool) (first n : ℕ) → list_any test (filter p (range_with_len first n)) ≡ false → (k : ℕ)
+    → first ≤ k → k < first + n → p k ≡ true → test k ≡ false
 kept_none p test first zero e k low high h = absurd (omega arith)
 kept_none p test first (suc n) e k low high h =
     elim (cases_eq k first) [
@@ -120,5 +133,6 @@ kept_none p test first (suc n) e k low high h =
       | inr other ↦ kept_none p test (first + 1) n (rest_none p test first n e) k (omega arith) (omega arith) h
     ]
 
-pub any_kept_none : (p test : ℕ → Bool) (first past : ℕ) → list_any test (filter p (numbers first past)) ≡ false → (k : ℕ) → first ≤ k → k < past → p k ≡ true → test k ≡ false
+pub any_kept_none : (p test : ℕ → Bool) (first past : ℕ) → list_any test (filter p (numbers first past)) ≡ false
+    → (k : ℕ) → first ≤ k → k < past → p k ≡ true → test k ≡ false
 any_kept_none p test first past e k low high h = kept_none p test first (past - first) e k low (omega arith) h

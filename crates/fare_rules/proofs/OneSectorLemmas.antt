@@ -5,7 +5,8 @@ use Rattle.std.proofs.lemmas.Bool.{cases_Bool, ltb-false}
 use Rattle.fare_trip.specs.Itinerary.{Itinerary, count}
 use Rattle.fare_tariff.specs.Record.{FareRecord}
 use Rattle.fare_tariff.specs.Tariff.{Tariff}
-use Rattle.fare_tariff.specs.Lookup.{fare_at, same_kind}
+use Rattle.fare_codes.specs.Same.{same_kind}
+use Rattle.fare_tariff.specs.Lookup.{fare_at}
 use Rattle.fare_codes.specs.declared.kind.Kind.TheVariants.{OW}
 use Rattle.fare_rules.specs.declared.amount.Amount.{Amount}
 use Rattle.fare_rules.specs.declared.part.Part.{Part}
@@ -28,7 +29,8 @@ use Rattle.fare_rules.proofs.FirstPartLemmas.{unit_above, not_alone, own_of_firs
 false_true : false ≡ true → ⊥
 false_true e = cc
 
-one_way_is_there : (found : Option FareRecord) → is_one_way found ≡ true → (fare : FareRecord) × (found ≡ Some fare) × (same_kind fare.kind OW ≡ true)
+one_way_is_there : (found : Option FareRecord) → is_one_way found ≡ true
+    → (fare : FareRecord) × (found ≡ Some fare) × (same_kind fare.kind OW ≡ true)
 one_way_is_there None e = absurd (false_true e)
 one_way_is_there (Some fare) e = (fare, refl, e)
 
@@ -61,10 +63,13 @@ module _ (tariff : Tariff) (trip : Itinerary) (one : count trip ≡ 1) (number :
   unfolding is_back_in own is_hr
   single_out = rw way
 
-  single_amount : is_some (component_amount tariff trip 0 1 number false) ≡ true → (k : ℕ) → k ≡ 1 → is_some (component_amount tariff trip (start_of trip (single_part number) k) (end_of (single_part number) k) (part_at (single_part number) k).fare (is_back tariff trip (single_part number) k)) ≡ true
+  single_amount : is_some (component_amount tariff trip 0 1 number false) ≡ true → (k : ℕ) → k ≡ 1
+      → is_some (component_amount tariff trip (start_of trip (single_part number) k) (end_of (single_part number) k)
+      (part_at (single_part number) k).fare (is_back tariff trip (single_part number) k)) ≡ true
   single_amount some k e = subst (λ j. is_some (component_amount tariff trip (start_of trip (single_part number) j) (end_of (single_part number) j) (part_at (single_part number) j).fare (is_back tariff trip (single_part number) j)) ≡ true) (sym e) (rw single_out some)
 
-  single_meets : is_some (component_amount tariff trip 0 1 number false) ≡ true → MeetsTheRules tariff trip (single_part number)
+  single_meets : is_some (component_amount tariff trip 0 1 number false) ≡ true
+      → MeetsTheRules tariff trip (single_part number)
   unfolding misnumbered crossed misfitted clashed own
   single_meets some = record {
     cover = single_cover;
@@ -81,7 +86,8 @@ module _ (tariff : Tariff) (trip : Itinerary) (one : count trip ≡ 1) (number :
   }
 
   single_cost : price tariff trip (single_part number) ≡ hundredths_of (component_amount tariff trip 0 1 number false)
-  unfolding price unit_sheet unit_kind unit_minimum unit_sum part_amount own is_back_in is_hr backhaul greatest_reference
+  unfolding price unit_sheet unit_kind unit_minimum unit_sum part_amount own is_back_in is_hr backhaul
+      greatest_reference
   single_cost =
       let fare = one_way_is_there (fare_at tariff number) way in
       rw (way, fare.1) (omega arith)
@@ -93,17 +99,21 @@ some_same : (x y : ℕ) → Some x ≡ Some y → x ≡ y
 some_same x y e = cc
 
 -- what a single fare is made of
-single_of : (way : Bool) (found : Option Amount) (price : ℕ) → cond way (option_map (λ a. a.amount) found) None ≡ Some price → (way ≡ true) × (is_some found ≡ true) × (hundredths_of found ≡ price)
+single_of : (way : Bool) (found : Option Amount) (price : ℕ)
+    → cond way (option_map (λ a. a.amount) found) None ≡ Some price
+    → (way ≡ true) × (is_some found ≡ true) × (hundredths_of found ≡ price)
 single_of true None price e = absurd (none_some price e)
 single_of true (Some a) price e = (refl, refl, some_same a.amount price e)
 single_of false found price e = absurd (none_some price e)
 
-single_from : (way : Bool) (found : Option Amount) (price : ℕ) → way ≡ true → is_some found ≡ true → hundredths_of found ≡ price → cond way (option_map (λ a. a.amount) found) None ≡ Some price
+single_from : (way : Bool) (found : Option Amount) (price : ℕ) → way ≡ true → is_some found ≡ true
+    → hundredths_of found ≡ price → cond way (option_map (λ a. a.amount) found) None ≡ Some price
 single_from way None price w e h = absurd (false_true e)
 single_from way (Some a) price w e h = rw w (ap Some h)
 
 -- a fare that may be used for one sector makes a lawful construction of its amount
-pub lawful_single : (tariff : Tariff) (trip : Itinerary) → count trip ≡ 1 → (number price : ℕ) → single_fare tariff trip number ≡ Some price → IsLawful tariff trip (single_part number) price
+pub lawful_single : (tariff : Tariff) (trip : Itinerary) → count trip ≡ 1 → (number price : ℕ)
+    → single_fare tariff trip number ≡ Some price → IsLawful tariff trip (single_part number) price
 unfolding single_fare
 lawful_single tariff trip one number cost e =
     let parts = single_of (is_one_way (fare_at tariff number)) (component_amount tariff trip 0 1 number false) cost e in
@@ -116,7 +126,8 @@ or_false true e = refl
 or_false false e = e
 
 -- a unit of one part is one way
-lone_is_one_way : (tariff : Tariff) (trip : Itinerary) (part : Part) → IsKept tariff trip (part ∷ []) → is_one_way (fare_at tariff part.fare) ≡ true
+lone_is_one_way : (tariff : Tariff) (trip : Itinerary) (part : Part) → IsKept tariff trip (part ∷ [])
+    → is_one_way (fare_at tariff part.fare) ≡ true
 unfolding is_hr
 lone_is_one_way tariff trip part kept =
     let alone : own (part ∷ []) part.unit ≡ 1 ∷ [] = own_of_first part [] in
@@ -136,7 +147,8 @@ lone_unit tariff trip part kept =
     omega arith
 
 -- a lawful construction of one sector is a single part
-single_parts : (tariff : Tariff) (trip : Itinerary) → count trip ≡ 1 → (parts : List Part) → IsKept tariff trip parts → (number : ℕ) × (parts ≡ single_part number) × (is_one_way (fare_at tariff number) ≡ true)
+single_parts : (tariff : Tariff) (trip : Itinerary) → count trip ≡ 1 → (parts : List Part) → IsKept tariff trip parts
+    → (number : ℕ) × (parts ≡ single_part number) × (is_one_way (fare_at tariff number) ≡ true)
 single_parts tariff trip one [] kept =
     let last : 0 ≡ count trip = (cover trip [] kept.cover).last in
     absurd (omega arith)
@@ -156,7 +168,9 @@ single_parts tariff trip one (part ∷ next ∷ rest) kept =
     absurd (omega arith)
 
 -- a lawful construction of one sector is a fare that may be used, at its amount
-pub single_lawful : (tariff : Tariff) (trip : Itinerary) → count trip ≡ 1 → (parts : List Part) (cost : ℕ) → IsLawful tariff trip parts cost → (number : ℕ) × (parts ≡ single_part number) × (single_fare tariff trip number ≡ Some cost)
+pub single_lawful : (tariff : Tariff) (trip : Itinerary) → count trip ≡ 1 → (parts : List Part) (cost : ℕ)
+    → IsLawful tariff trip parts cost → (number : ℕ) × (parts ≡ single_part number)
+    × (single_fare tariff trip number ≡ Some cost)
 unfolding single_fare
 single_lawful tariff trip one parts cost lawful =
     let shape = single_parts tariff trip one parts (kept tariff trip parts cost lawful) in

@@ -9,7 +9,8 @@ use Rattle.fare_rules.specs.Order.{compare_numbers, compare_parts, tie, is_less,
 abbrev pub PartBefore : Part → Part → Type 0
 PartBefore x y = (y.end < x.end) ⊎ ((y.end ≡ x.end) × ((x.fare < y.fare) ⊎ ((x.fare ≡ y.fare) × (x.unit < y.unit))))
 
-numbers_tell : (a b : ℕ) → ((compare_numbers a b ≡ Less) × (a < b)) ⊎ ((compare_numbers a b ≡ Equal) × (a ≡ b)) ⊎ ((compare_numbers a b ≡ Greater) × (b < a))
+numbers_tell : (a b : ℕ) → ((compare_numbers a b ≡ Less) × (a < b)) ⊎ ((compare_numbers a b ≡ Equal) × (a ≡ b))
+    ⊎ ((compare_numbers a b ≡ Greater) × (b < a))
 numbers_tell a b =
     elim (cases_order a b) [
       | inl e ↦ inr (inl (rw (le-ltb a b (omega arith), le-ltb b a (omega arith)), e))
@@ -22,7 +23,8 @@ numbers_tell a b =
 same_part : (x y : Part) → y.end ≡ x.end → x.fare ≡ y.fare → x.unit ≡ y.unit → x ≡ y
 same_part x y e f u = λ i. record { end = sym e i; unit = u i; fare = f i }
 
-pub parts_tell : (x y : Part) → ((compare_parts x y ≡ Less) × PartBefore x y) ⊎ ((compare_parts x y ≡ Equal) × (x ≡ y)) ⊎ ((compare_parts x y ≡ Greater) × PartBefore y x)
+pub parts_tell : (x y : Part) → ((compare_parts x y ≡ Less) × PartBefore x y) ⊎ ((compare_parts x y ≡ Equal) × (x ≡ y))
+    ⊎ ((compare_parts x y ≡ Greater) × PartBefore y x)
 unfolding compare_parts
 parts_tell x y =
     elim (numbers_tell y.end x.end) [
@@ -73,7 +75,8 @@ front_more : (x y : Part) (xs ys : List Part) → x ≡ y → IsFront xs ys → 
 front_more x y xs ys e (inl (rest, f)) = inl (rest, λ i. sym e i ∷ f i)
 front_more x y xs ys e (inr (rest, f)) = inr (rest, λ i. e i ∷ f i)
 
-pub tie_tells : (xs ys : List Part) → ((tie xs ys ≡ Less) × ListBefore xs ys) ⊎ ((tie xs ys ≡ Equal) × IsFront xs ys) ⊎ ((tie xs ys ≡ Greater) × ListBefore ys xs)
+pub tie_tells : (xs ys : List Part) → ((tie xs ys ≡ Less) × ListBefore xs ys) ⊎ ((tie xs ys ≡ Equal) × IsFront xs ys)
+    ⊎ ((tie xs ys ≡ Greater) × ListBefore ys xs)
 tie_tells [] ys = inr (inl (refl, inl (ys, refl)))
 tie_tells (x ∷ xs) [] = inr (inl (refl, inr (x ∷ xs, refl)))
 tie_tells (x ∷ xs) (y ∷ ys) =
@@ -173,7 +176,8 @@ before_itself xs p (inl a) = omega arith
 before_itself xs p (inr (e, h)) = list_before_itself xs h
 
 -- two constructions, of which neither is a front of the other, are in order
-pub before_cases : (xs ys : List Part) (px py : ℕ) → Before xs px ys py ⊎ Before ys py xs px ⊎ ((px ≡ py) × IsFront xs ys)
+pub before_cases : (xs ys : List Part) (px py : ℕ)
+    → Before xs px ys py ⊎ Before ys py xs px ⊎ ((px ≡ py) × IsFront xs ys)
 before_cases xs ys px py =
     elim (cases_order px py) [
       | inl e ↦ elim (tie_tells xs ys) [

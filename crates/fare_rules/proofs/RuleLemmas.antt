@@ -26,22 +26,27 @@ true_false : true ≡ false → ⊥
 true_false e = cc
 
 -- where no member of a range passes a test, nothing is found
-nothing_found : (test : ℕ → Bool) (first n : ℕ) → ((k : ℕ) → first ≤ k → k < first + n → test k ≡ false) → find test (range_with_len first n) ≡ None
+nothing_found : (test : ℕ → Bool) (first n : ℕ) → ((k : ℕ) → first ≤ k → k < first + n → test k ≡ false)
+    → find test (range_with_len first n) ≡ None
 nothing_found test first zero h = refl
 nothing_found test first (suc n) h =
     rw (h first (omega arith) (omega arith)) (nothing_found test (first + 1) n (λ k low high. h k (omega arith) (omega arith)))
 
-pub find_nothing : (test : ℕ → Bool) (first past : ℕ) → ((k : ℕ) → first ≤ k → k < past → test k ≡ false) → find test (numbers first past) ≡ None
+pub find_nothing : (test : ℕ → Bool) (first past : ℕ) → ((k : ℕ) → first ≤ k → k < past → test k ≡ false)
+    → find test (numbers first past) ≡ None
 find_nothing test first past h = nothing_found test first (past - first) (λ k low high. h k low (omega arith))
 
 -- where nothing is broken, no rule is
-pub unbroken_from_kept : (tariff : Tariff) (trip : Itinerary) (parts : List Part) → IsKept tariff trip parts → first_broken tariff trip parts ≡ None
+pub unbroken_from_kept : (tariff : Tariff) (trip : Itinerary) (parts : List Part) → IsKept tariff trip parts
+    → first_broken tariff trip parts ≡ None
 unfolding first_broken breaks
 unbroken_from_kept tariff trip parts h =
     rw (h.cover, h.numbering, h.filed, h.crossing, h.alone, h.chain, h.close, h.distinct, h.pair, h.indicator, h.cabin, h.carrier, h.stops, h.transfers, h.advance, h.mileage, h.excess, h.stay, h.combine, h.ends, h.surface, h.season)
 
 -- thirteen tests that hold together hold each
-thirteen : (a b c d e f g h i j k l m : Bool) → ((((((((((((a && b) && c) && d) && e) && f) && g) && h) && i) && j) && k) && l) && m) ≡ true → (a ≡ true) × (b ≡ true) × (c ≡ true) × (d ≡ true) × (e ≡ true) × (f ≡ true) × (g ≡ true) × (h ≡ true) × (i ≡ true) × (j ≡ true) × (k ≡ true) × (l ≡ true) × (m ≡ true)
+thirteen : (a b c d e f g h i j k l m : Bool) → ((((((((((((a && b) && c) && d) && e) && f) && g) && h) && i) && j)
+    && k) && l) && m) ≡ true → (a ≡ true) × (b ≡ true) × (c ≡ true) × (d ≡ true) × (e ≡ true) × (f ≡ true) × (g ≡ true)
+    × (h ≡ true) × (i ≡ true) × (j ≡ true) × (k ≡ true) × (l ≡ true) × (m ≡ true)
 thirteen a b c d e f g h i j k l m t =
     let r12 = and_parts (((((((((((a && b) && c) && d) && e) && f) && g) && h) && i) && j) && k) && l) m t in
     let r11 = and_parts ((((((((((a && b) && c) && d) && e) && f) && g) && h) && i) && j) && k) l r12.0 in
@@ -58,7 +63,8 @@ thirteen a b c d e f g h i j k l m t =
     (r1.0, r1.1, r2.1, r3.1, r4.1, r5.1, r6.1, r7.1, r8.1, r9.1, r10.1, r11.1, r12.1)
 
 -- what makes a fare applicable, test by test
-pub may_be_used : (tariff : Tariff) (trip : Itinerary) (a b : ℕ) (back : Bool) (fare : FareRecord) → is_applicable tariff trip a b back fare ≡ true → MayBeUsed tariff trip a b back fare
+pub may_be_used : (tariff : Tariff) (trip : Itinerary) (a b : ℕ) (back : Bool) (fare : FareRecord)
+    → is_applicable tariff trip a b back fare ≡ true → MayBeUsed tariff trip a b back fare
 unfolding is_applicable
 may_be_used tariff trip a b back fare e =
     let each = thirteen (not (holds_surface trip a b)) (not (repeats_city trip a b)) (runs_between trip a b back fare) (may_be_priced back fare)
@@ -88,13 +94,17 @@ used_where : (test : Bool) (o : Option Amount) → is_some (cond test o None) �
 used_where true o e = refl
 used_where false o e = absurd (none_is_some e)
 
-used_of : (tariff : Tariff) (trip : Itinerary) (a b : ℕ) (back : Bool) (found : Option FareRecord) (fare : FareRecord) → found ≡ Some fare → is_some (option_and_then (fare_amount tariff trip a b back) found) ≡ true → is_applicable tariff trip a b back fare ≡ true
+used_of : (tariff : Tariff) (trip : Itinerary) (a b : ℕ) (back : Bool) (found : Option FareRecord) (fare : FareRecord)
+    → found ≡ Some fare → is_some (option_and_then (fare_amount tariff trip a b back) found) ≡ true
+    → is_applicable tariff trip a b back fare ≡ true
 unfolding fare_amount
 used_of tariff trip a b back found fare f e =
     used_where (is_applicable tariff trip a b back fare) (option_map (amount_from (base tariff trip a b fare back)) (span_surcharge tariff trip a b)) (rw f at e)
 
 -- where the component amount of a number is defined, its fare may be used
-pub usable_from_amount : (tariff : Tariff) (trip : Itinerary) (a b number : ℕ) (back : Bool) (fare : FareRecord) → fare_at tariff number ≡ Some fare → is_some (component_amount tariff trip a b number back) ≡ true → MayBeUsed tariff trip a b back fare
+pub usable_from_amount : (tariff : Tariff) (trip : Itinerary) (a b number : ℕ) (back : Bool) (fare : FareRecord)
+    → fare_at tariff number ≡ Some fare → is_some (component_amount tariff trip a b number back) ≡ true
+    → MayBeUsed tariff trip a b back fare
 unfolding component_amount
 usable_from_amount tariff trip a b number back fare f e =
     may_be_used tariff trip a b back fare (used_of tariff trip a b back (fare_at tariff number) fare f e)
@@ -103,7 +113,8 @@ some_there : {A : Type 0} (o : Option A) → is_none o ≡ false → (x : A) × 
 some_there None e = absurd (true_false e)
 some_there (Some x) e = (x, refl)
 
-passes_not_fails : (test : FareRecord → Bool) (found : Option FareRecord) (fare : FareRecord) → found ≡ Some fare → test fare ≡ true → fails test found ≡ false
+passes_not_fails : (test : FareRecord → Bool) (found : Option FareRecord) (fare : FareRecord) → found ≡ Some fare
+    → test fare ≡ true → fails test found ≡ false
 passes_not_fails test found fare f t = rw (f, t)
 
 in_air_too : (gap : Bool) (failing : Bool) → failing ≡ false → (not gap && failing) ≡ false
@@ -114,14 +125,19 @@ module _ (tariff : Tariff) (trip : Itinerary) (parts : List Part) (meets : Meets
   unfolding unfiled
   filed_fare k low high = some_there (fare_of tariff parts k) (find_none (is_unfiled tariff parts) 1 (length parts + 1) meets.filed k low (omega arith))
 
-  usable : (k : ℕ) (low : 1 ≤ k) (high : k ≤ length parts) → MayBeUsed tariff trip (start_of trip parts k) (end_of parts k) (is_back tariff trip parts k) (filed_fare k low high).0
+  usable : (k : ℕ) (low : 1 ≤ k) (high : k ≤ length parts)
+      → MayBeUsed tariff trip (start_of trip parts k) (end_of parts k) (is_back tariff trip parts k)
+      (filed_fare k low high).0
   usable k low high = usable_from_amount tariff trip (start_of trip parts k) (end_of parts k) (part_at parts k).fare (is_back tariff trip parts k) (filed_fare k low high).0 (filed_fare k low high).1 (meets.amounts k low high)
 
-  nothing_at : (test : ℕ → Bool) → ((k : ℕ) → 1 ≤ k → k ≤ length parts → test k ≡ false) → find test (places parts) ≡ None
+  nothing_at : (test : ℕ → Bool) → ((k : ℕ) → 1 ≤ k → k ≤ length parts → test k ≡ false)
+      → find test (places parts) ≡ None
   nothing_at test h = find_nothing test 1 (length parts + 1) (λ k low high. h k low (omega arith))
 
   -- a test of fares that each fare passes is failed nowhere
-  failed_nowhere : (test : ℕ → FareRecord → Bool) → ((k : ℕ) (low : 1 ≤ k) (high : k ≤ length parts) → test k (filed_fare k low high).0 ≡ true) → (k : ℕ) → 1 ≤ k → k ≤ length parts → (not (holds_gap trip parts k) && fails (test k) (fare_of tariff parts k)) ≡ false
+  failed_nowhere : (test : ℕ → FareRecord → Bool)
+      → ((k : ℕ) (low : 1 ≤ k) (high : k ≤ length parts) → test k (filed_fare k low high).0 ≡ true) → (k : ℕ) → 1 ≤ k
+      → k ≤ length parts → (not (holds_gap trip parts k) && fails (test k) (fare_of tariff parts k)) ≡ false
   failed_nowhere test h k low high =
       in_air_too (holds_gap trip parts k) (fails (test k) (fare_of tariff parts k)) (passes_not_fails (test k) (fare_of tariff parts k) (filed_fare k low high).0 (filed_fare k low high).1 (h k low high))
 
@@ -152,11 +168,13 @@ module _ (tariff : Tariff) (trip : Itinerary) (parts : List Part) (meets : Meets
   }
 
 -- nothing is broken where a construction meets the rules
-pub unbroken_where_met : (tariff : Tariff) (trip : Itinerary) (parts : List Part) → MeetsTheRules tariff trip parts → first_broken tariff trip parts ≡ None
+pub unbroken_where_met : (tariff : Tariff) (trip : Itinerary) (parts : List Part) → MeetsTheRules tariff trip parts
+    → first_broken tariff trip parts ≡ None
 unbroken_where_met tariff trip parts meets = unbroken_from_kept tariff trip parts (kept_where_met tariff trip parts meets)
 
 -- a construction meets the rules where nothing is broken
-pub met_where_unbroken : (tariff : Tariff) (trip : Itinerary) (parts : List Part) → first_broken tariff trip parts ≡ None → MeetsTheRules tariff trip parts
+pub met_where_unbroken : (tariff : Tariff) (trip : Itinerary) (parts : List Part)
+    → first_broken tariff trip parts ≡ None → MeetsTheRules tariff trip parts
 unfolding part_amount
 met_where_unbroken tariff trip parts e =
     let h = kept_from_unbroken tariff trip parts e in
@@ -175,6 +193,7 @@ met_where_unbroken tariff trip parts e =
     }
 
 -- the price of a construction that meets the rules
-pub price_where_met : (tariff : Tariff) (trip : Itinerary) (parts : List Part) → MeetsTheRules tariff trip parts → lawful_price tariff trip parts ≡ Ok (price tariff trip parts)
+pub price_where_met : (tariff : Tariff) (trip : Itinerary) (parts : List Part) → MeetsTheRules tariff trip parts
+    → lawful_price tariff trip parts ≡ Ok (price tariff trip parts)
 unfolding lawful_price
 price_where_met tariff trip parts meets = rw (unbroken_where_met tariff trip parts meets)

@@ -1,5 +1,5 @@
 -- An edition of fares each way between three cities, and constructions whose prices a separate program has worked out.
-use Rattle.std.specs.Prelude.{◌≡◌, refl, ℕ, List, [], ◌∷◌, Option, Some, None, map}
+use Rattle.std.specs.Prelude.{◌≡◌, refl, List, [], ◌∷◌, Some, None, map}
 use Rattle.fare_codes.specs.declared.area.Area.TheVariants.{Two}
 use Rattle.fare_codes.specs.declared.cabin.Cabin.TheVariants.{Y}
 use Rattle.fare_codes.specs.declared.indicator.Indicator.TheVariants.{EH}
@@ -7,11 +7,7 @@ use Rattle.fare_codes.specs.declared.kind.Kind.TheVariants.{OW, HR}
 use Rattle.fare_codes.specs.declared.mode.Mode.TheVariants.{Nearest}
 use Rattle.fare_trip.specs.Itinerary.{Itinerary}
 use Rattle.fare_tariff.specs.Tariff.{Tariff}
-use Rattle.fare_rules.specs.declared.part.Part.{Part}
-use Rattle.fare_rules.specs.declared.unit_sheet.UnitKind.{UnitKind}
 use Rattle.fare_rules.specs.declared.unit_sheet.UnitKind.TheVariants as unit
-use Rattle.fare_rules.specs.declared.unit_sheet.UnitSheet.{UnitSheet}
-use Rattle.fare_rules.specs.Construction.{units}
 use Rattle.fare_rules.specs.Backhaul.{greatest_reference, backhaul}
 use Rattle.fare_rules.specs.Base.{compared_pairs, base}
 use Rattle.fare_rules.specs.Circle.{own_sectors, circle_reference, unit_circle_minimum}
@@ -31,8 +27,8 @@ use Rattle.fare_codes.specs.Amounts.{surcharged}
 use Rattle.fare_codes.specs.Day.{day_number, days_since_1970}
 use Rattle.fare_codes.specs.Season.{season_holds}
 use Rattle.jiff_core.specs.Calendar.{days_of_months}
-use Rattle.fare_rules.proofs.Filed.{city, currency, fare, permitted, ticketed, allowed, edition, free, trip, stop, change, part}
-use Rattle.fare_rules.proofs.Cases.{Case, case, found, expected, priced, broken}
+use Rattle.fare_rules.proofs.Filed.{city, currency, fare, permitted, ticketed, allowance, edition, free, trip, stop, change, part}
+use Rattle.fare_rules.proofs.Cases.{Case, case, found, expected, sheets, sheet, priced, broken}
 
 -- fares of half round trips and one way between Manchester, Paris and Milan, of one carrier and of every carrier
 abbrev between_three_cities : Tariff
@@ -53,7 +49,7 @@ between_three_cities = edition (
     ∷ fare "MIL" "PAR" EH "Q2" Y OW free 10_000
     ∷ fare "PAR" "MIL" EH "Q2" Y HR free 20_000
     ∷ fare "MAN" "MIL" EH "YY" Y HR free 15_000
-    ∷ allowed "MAN" "MIL" EH "MAN" 901
+    ∷ allowance "MAN" "MIL" EH "MAN" 901
     ∷ fare "MIL" "MAN" EH "Q2" Y HR free 15_000
     ∷ fare "MIL" "MAN" EH "Q2" Y OW free 11_076
     ∷ fare "PAR" "MIL" EH "YY" Y OW free 28_446
@@ -97,20 +93,13 @@ sampled_constructions =
     ∷ []
 
 pub sampled_prices : map found sampled_constructions ≡ map expected sampled_constructions
-unfolding greatest_reference backhaul compared_pairs base own_sectors circle_reference unit_circle_minimum repeats_city runs_between has_indicator covers_cabins covers_carriers in_season span_surcharge is_applicable fare_amount component_amount uncovered misnumbered unfiled own is_back_in indicator_of breaks first_broken lawful_price surcharge sum_of_miles compared_miles mileage single_fare reference crossed is_hr mixed closes is_open_jaw unchained unclosed stops_hold transfers_hold advance_holds part_amount unit_sum is_round_trip unit_kind unit_minimum unit_sheet price stay mistimed misfitted clashed day_number season_holds days_of_months days_since_1970 surcharged
+unfolding greatest_reference backhaul compared_pairs base own_sectors circle_reference unit_circle_minimum repeats_city
+    runs_between has_indicator covers_cabins covers_carriers in_season span_surcharge is_applicable fare_amount
+    component_amount uncovered misnumbered unfiled own is_back_in indicator_of breaks first_broken lawful_price
+    surcharge sum_of_miles compared_miles mileage single_fare reference crossed is_hr mixed closes is_open_jaw unchained
+    unclosed stops_hold transfers_hold advance_holds part_amount unit_sum is_round_trip unit_kind unit_minimum
+    unit_sheet price stay mistimed misfitted clashed day_number season_holds days_of_months days_since_1970 surcharged
 sampled_prices = refl
-
--- the sheet of a unit by its number
-abbrev sheet_of_unit : Tariff → Itinerary → List Part → ℕ → UnitSheet
-sheet_of_unit tariff trip parts unit = unit_sheet tariff trip parts (own parts unit)
-
--- the sheets of the units of a construction
-abbrev sheets : Tariff → Itinerary → List Part → List UnitSheet
-sheets tariff trip parts = map (sheet_of_unit tariff trip parts) (units parts)
-
--- a sheet by its kind, sum, minimum and price
-abbrev sheet : UnitKind → ℕ → Option ℕ → ℕ → UnitSheet
-sheet kind sum minimum price = record { kind = kind; sum = sum; minimum = minimum; price = price }
 
 -- the units of the lawful ones
 pub sampled_sheets :
@@ -122,5 +111,10 @@ pub sampled_sheets :
     ∷ (sheet unit.CT 55_821 (Some 36_882) 55_821 ∷ [])
     ∷ (sheet unit.OW 20_000 None 20_000 ∷ sheet unit.RT 44_760 None 44_760 ∷ sheet unit.OW 27_102 None 27_102 ∷ [])
     ∷ [])
-unfolding greatest_reference backhaul compared_pairs base own_sectors circle_reference unit_circle_minimum repeats_city runs_between has_indicator covers_cabins covers_carriers in_season span_surcharge is_applicable fare_amount component_amount uncovered misnumbered unfiled own is_back_in indicator_of breaks first_broken lawful_price surcharge sum_of_miles compared_miles mileage single_fare reference crossed is_hr mixed closes is_open_jaw unchained unclosed stops_hold transfers_hold advance_holds part_amount unit_sum is_round_trip unit_kind unit_minimum unit_sheet price stay mistimed misfitted clashed day_number season_holds days_of_months days_since_1970 surcharged
+unfolding greatest_reference backhaul compared_pairs base own_sectors circle_reference unit_circle_minimum repeats_city
+    runs_between has_indicator covers_cabins covers_carriers in_season span_surcharge is_applicable fare_amount
+    component_amount uncovered misnumbered unfiled own is_back_in indicator_of breaks first_broken lawful_price
+    surcharge sum_of_miles compared_miles mileage single_fare reference crossed is_hr mixed closes is_open_jaw unchained
+    unclosed stops_hold transfers_hold advance_holds part_amount unit_sum is_round_trip unit_kind unit_minimum
+    unit_sheet price stay mistimed misfitted clashed day_number season_holds days_of_months days_since_1970 surcharged
 sampled_sheets = refl

@@ -28,7 +28,8 @@ use Rattle.fare_rules.proofs.LawfulLemmas.{kept, price_of_lawful}
 use Rattle.fare_rules.proofs.PriceLemmas.{UpTo, greatest_up_to, greatest_fare, reference_up_to, backhaul_up_to, component_up_to}
 
 -- a sum of amounts that are each at most some number
-sum_up_to : (most : ℕ) (amount : ℕ → ℕ) (xs : List ℕ) → ((x : ℕ) → amount x ≤ most) → sum_by amount xs ≤ most * length xs
+sum_up_to : (most : ℕ) (amount : ℕ → ℕ) (xs : List ℕ) → ((x : ℕ) → amount x ≤ most)
+    → sum_by amount xs ≤ most * length xs
 sum_up_to most amount [] h = omega arith
 sum_up_to most amount (x ∷ xs) h =
     let one : amount x ≤ most = h x in
@@ -60,7 +61,8 @@ sum_plus f g (x ∷ xs) =
     let b : sum_by g (x ∷ xs) ≡ g x + sum_by g xs = sum_by-cons g x xs in
     omega arith
 
-once_more : (w first rest all : ℕ) → all ≡ cond (eqb w first) 1 0 + rest → rest ≤ cond (leb (first + 1) w) 1 0 → all ≤ cond (leb first w) 1 0
+once_more : (w first rest all : ℕ) → all ≡ cond (eqb w first) 1 0 + rest → rest ≤ cond (leb (first + 1) w) 1 0
+    → all ≤ cond (leb first w) 1 0
 once_more w first rest all e h =
     elim (cases_order w first) [
       | inl same ↦
@@ -94,12 +96,15 @@ once_from w first (suc n) =
 once_in : (w first n : ℕ) → sum_by (λ u. cond (eqb w u) 1 0) (range_with_len first n) ≤ 1
 once_in w first n = at_most_one (leb first w) (sum_by (λ u. cond (eqb w u) 1 0) (range_with_len first n)) (once_from w first n)
 
-one_own : (parts : List Part) (x : ℕ) (xs : List ℕ) (u : ℕ) → length (filter (is_own parts u) (x ∷ xs)) ≤ cond (eqb (unit_of parts x) u) 1 0 + length (filter (is_own parts u) xs)
+one_own : (parts : List Part) (x : ℕ) (xs : List ℕ) (u : ℕ)
+    → length (filter (is_own parts u) (x ∷ xs)) ≤ cond (eqb (unit_of parts x) u) 1 0 + length
+    (filter (is_own parts u) xs)
 one_own parts x xs u =
     elim (cases_Bool (eqb (unit_of parts x) u)) [ inl t ↦ rw t (omega arith) | inr f ↦ rw f (omega arith) ]
 
 -- each place belongs to at most one unit
-own_lengths : (parts : List Part) (xs : List ℕ) (first n : ℕ) → sum_by (λ u. length (filter (is_own parts u) xs)) (range_with_len first n) ≤ length xs
+own_lengths : (parts : List Part) (xs : List ℕ) (first n : ℕ)
+    → sum_by (λ u. length (filter (is_own parts u) xs)) (range_with_len first n) ≤ length xs
 own_lengths parts [] first n =
     let h : sum_by (λ u. length (filter (is_own parts u) [])) (range_with_len first n) ≤ 0 * length (range_with_len first n) = sum_up_to 0 (λ u. length (filter (is_own parts u) [])) (range_with_len first n) (λ u. omega arith) in
     omega (arith, zero-mul (length (range_with_len first n)))
@@ -113,7 +118,8 @@ own_lengths parts (x ∷ xs) first n =
     omega arith
 
 -- a part ends no earlier than its place, so there are no more parts than sectors
-ends_at_place : (trip : Itinerary) (parts : List Part) → IsCover trip parts → (k : ℕ) → k ≤ length parts → k ≤ end_of parts k
+ends_at_place : (trip : Itinerary) (parts : List Part) → IsCover trip parts → (k : ℕ) → k ≤ length parts
+    → k ≤ end_of parts k
 ends_at_place trip parts covers zero high = omega arith
 ends_at_place trip parts covers (suc zero) high =
     let above : 0 < end_of parts 1 = covers.above 1 (omega arith) high in
@@ -140,7 +146,8 @@ up_to_more : (most more : ℕ) (o : Option ℕ) → most ≤ more → UpTo most 
 up_to_more most more None h k = tt
 up_to_more most more (Some amount) h k = omega arith
 
-then_up_to : (most : ℕ) (f : FareRecord → Option ℕ) (found : Option FareRecord) → ((fare : FareRecord) → UpTo most (f fare)) → UpTo most (option_and_then f found)
+then_up_to : (most : ℕ) (f : FareRecord → Option ℕ) (found : Option FareRecord)
+    → ((fare : FareRecord) → UpTo most (f fare)) → UpTo most (option_and_then f found)
 then_up_to most f None h = tt
 then_up_to most f (Some fare) h = h fare
 
@@ -188,7 +195,8 @@ module _ (tariff : Tariff) (trip : Itinerary) (form : HasFaresInForm tariff) (pa
       omega arith
 
 -- a lawful price
-pub lawful_price_up_to : (tariff : Tariff) (trip : Itinerary) (parts : List Part) (cost : ℕ) → HasFaresInForm tariff → count trip ≤ 16 → IsLawful tariff trip parts cost → cost < 40_000_000_000
+pub lawful_price_up_to : (tariff : Tariff) (trip : Itinerary) (parts : List Part) (cost : ℕ) → HasFaresInForm tariff
+    → count trip ≤ 16 → IsLawful tariff trip parts cost → cost < 40_000_000_000
 lawful_price_up_to tariff trip parts cost form short lawful =
     let same : price tariff trip parts ≡ cost = price_of_lawful tariff trip parts cost lawful in
     let bound : price tariff trip parts ≤ 2_000_000_000 * length parts = price_up_to tariff trip form parts in

@@ -79,3 +79,42 @@ on_from_lyon = sold (
     ∷ overland "LYS" "Q1" "2025-04-12"
     ∷ stop "ROM" "Q1" "2025-04-16"
     ∷ [])
+
+-- London to Paris and back, twice
+abbrev pub there_and_back_twice : Itinerary
+there_and_back_twice = sold (
+    stop "PAR" "Q1" "2025-04-10"
+    ∷ stop "LON" "Q1" "2025-04-12"
+    ∷ stop "PAR" "Q1" "2025-04-14"
+    ∷ stop "LON" "Q1" "2025-04-16"
+    ∷ [])
+
+-- London to Paris, and to Manchester
+abbrev pub on_to_manchester : Itinerary
+on_to_manchester = sold (stop "PAR" "Q1" "2025-04-10" ∷ stop "MAN" "Q1" "2025-04-12" ∷ [])
+
+-- London to Paris, and home by way of Manchester
+abbrev pub back_by_manchester : Itinerary
+back_by_manchester = sold (
+    stop "PAR" "Q1" "2025-04-10"
+    ∷ stop "MAN" "Q1" "2025-04-12"
+    ∷ stop "LON" "Q1" "2025-04-14"
+    ∷ [])
+
+-- London to Paris, from there to New York and back, and home by way of Rome
+abbrev pub new_york_from_paris : Itinerary
+new_york_from_paris = sold (
+    stop "PAR" "Q1" "2025-04-10"
+    ∷ stop "NYC" "Q1" "2025-04-12"
+    ∷ stop "PAR" "Q1" "2025-04-14"
+    ∷ stop "ROM" "Q1" "2025-04-16"
+    ∷ stop "LON" "Q1" "2025-04-18"
+    ∷ [])
+
+-- London to Paris in April, and home by way of Rome in May
+abbrev pub rome_in_may : Itinerary
+rome_in_may = sold (
+    stop "PAR" "Q1" "2025-04-10"
+    ∷ stop "ROM" "Q1" "2025-05-12"
+    ∷ stop "LON" "Q1" "2025-05-20"
+    ∷ [])

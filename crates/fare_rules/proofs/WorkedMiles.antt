@@ -1,11 +1,12 @@
 -- The miles and the amount of a fare from London to Rome by way of Paris, computed on the definitions.
+use Prim.Native.String.{String}
 use Rattle.std.specs.Prelude.{◌≡◌, refl, ℕ, List, [], ◌∷◌, Option, Some, None, map, codes, false}
 use Rattle.fare_codes.specs.declared.city.City.{City}
-use Rattle.fare_codes.specs.declared.indicator.Indicator.TheVariants.{EH}
+use Rattle.fare_codes.specs.declared.indicator.Indicator.TheVariants.{EH, AT}
 use Rattle.fare_tariff.specs.Tariff.{Tariff}
 use Rattle.fare_rules.specs.declared.amount.Amount.{Amount}
 use Rattle.fare_rules.specs.declared.miles.Mileage.{Mileage}
-use Rattle.fare_rules.specs.declared.miles.Mileage.TheVariants.{Within, Excess, NoTpm, Over}
+use Rattle.fare_rules.specs.declared.miles.Mileage.TheVariants.{Direct, Within, Excess, NoTpm, NoMpm, Over}
 use Rattle.fare_rules.specs.declared.miles.Miles.{Miles}
 use Rattle.fare_rules.specs.Completion.{Choice}
 use Rattle.fare_rules.specs.ComponentAmount.{component_amount, fare_amount, is_applicable, repeats_city, runs_between, has_indicator, covers_cabins, covers_carriers, in_season, span_surcharge}
@@ -20,6 +21,7 @@ use Rattle.fare_rules.specs.Base.{base, compared_pairs}
 use Rattle.fare_rules.specs.Reference.{reference}
 use Rattle.fare_rules.specs.Completion.{first_part_choices}
 use Rattle.fare_rules.specs.Span.{placed}
+use Rattle.fare_rules.proofs.Filed.{allowance, allowance_anyhow}
 use Rattle.fare_rules.proofs.Editions.{through_fare, with_allowance, without_miles, without_paris}
 use Rattle.fare_rules.proofs.Trips.{stopping_in_paris}
 
@@ -27,11 +29,18 @@ use Rattle.fare_rules.proofs.Trips.{stopping_in_paris}
 abbrev miles : ℕ → ℕ → ℕ → ℕ → Miles
 miles sum allowance net mpm = record { sum = sum; allowance = allowance; net = net; mpm = mpm }
 
+-- the edition of the through fare with an extra mileage allowance by way of a city, or by any way
+abbrev by_way_of : String → ℕ → Tariff
+by_way_of via miles = with_allowance (allowance "LON" "ROM" EH via miles)
+
+abbrev by_any_way : ℕ → Tariff
+by_any_way miles = with_allowance (allowance_anyhow "LON" "ROM" EH miles)
+
 -- what the way from London to Rome asks for
 abbrev way_to_rome : Tariff → Mileage
 way_to_rome tariff = mileage tariff stopping_in_paris 0 2 EH
 
--- each surcharge step holds up to its last mile, and an allowance is taken off by way of its city alone
+-- each surcharge step holds up to its last mile, and an allowance is taken off by way of its city, or by any way
 pub ways_to_rome :
     map way_to_rome (
     through_fare 40_000 700
@@ -46,9 +55,10 @@ pub ways_to_rome :
     ∷ through_fare 40_000 901
     ∷ through_fare 40_000 950
     ∷ through_fare 40_000 951
-    ∷ with_allowance "PAR" 60
-    ∷ with_allowance "PAR" 2_000
-    ∷ with_allowance "FRA" 60
+    ∷ by_way_of "PAR" 60
+    ∷ by_way_of "PAR" 2_000
+    ∷ by_way_of "FRA" 60
+    ∷ by_any_way 60
     ∷ without_miles
     ∷ [])
     ≡ (Within (miles 1_000 0 1_000 1_000)
@@ -66,10 +76,21 @@ pub ways_to_rome :
     ∷ Within (miles 1_051 60 991 1_000)
     ∷ Within (miles 1_051 2_000 0 1_000)
     ∷ Excess 10 (miles 1_051 0 1_051 1_000)
+    ∷ Within (miles 1_051 60 991 1_000)
     ∷ NoTpm 2
     ∷ [])
 unfolding mileage compared_miles surcharge sum_of_miles
 ways_to_rome = refl
+
+-- one sector is direct, and where no miles are permitted for an indicator there are none to compare with
+pub ways_apart :
+    (mileage (through_fare 40_000 700) stopping_in_paris 0 1 EH
+    ∷ mileage (through_fare 40_000 700) stopping_in_paris 0 2 AT
+    ∷ mileage without_miles stopping_in_paris 0 2 AT
+    ∷ [])
+    ≡ (Direct ∷ NoMpm ∷ NoTpm 2 ∷ [])
+unfolding mileage compared_miles surcharge sum_of_miles
+ways_apart = refl
 
 -- the amount of the through fare
 abbrev through_amount : Tariff → Option Amount
@@ -88,8 +109,8 @@ pub through_amounts :
     ∷ through_fare 33_333 750
     ∷ through_fare 40_000 950
     ∷ through_fare 40_000 951
-    ∷ with_allowance "PAR" 60
-    ∷ with_allowance "FRA" 60
+    ∷ by_way_of "PAR" 60
+    ∷ by_way_of "FRA" 60
     ∷ without_miles
     ∷ [])
     ≡ (amount 40_000 0 40_000
@@ -102,7 +123,10 @@ pub through_amounts :
     ∷ amount 40_000 10 44_000
     ∷ None
     ∷ [])
-unfolding component_amount fare_amount is_applicable repeats_city runs_between has_indicator indicator_of covers_cabins covers_carriers in_season season_holds stops_hold transfers_hold advance_holds day_number days_of_months days_since_1970 surcharged span_surcharge mileage compared_miles surcharge sum_of_miles base compared_pairs reference
+unfolding component_amount fare_amount is_applicable repeats_city runs_between has_indicator indicator_of covers_cabins
+    covers_carriers in_season season_holds stops_hold transfers_hold advance_holds day_number days_of_months
+    days_since_1970 surcharged span_surcharge mileage compared_miles surcharge sum_of_miles base compared_pairs
+    reference
 through_amounts = refl
 
 -- the first parts that a construction can have
@@ -113,7 +137,10 @@ first_parts tariff = first_part_choices tariff stopping_in_paris
 pub first_parts_to_rome :
     map first_parts (through_fare 40_000 700 ∷ through_fare 40_000 951 ∷ without_miles ∷ [])
     ≡ (((2, 8) ∷ []) ∷ [] ∷ [] ∷ [])
-unfolding first_part_choices component_amount fare_amount is_applicable repeats_city runs_between has_indicator indicator_of covers_cabins covers_carriers in_season season_holds stops_hold transfers_hold advance_holds day_number days_of_months days_since_1970 surcharged span_surcharge mileage compared_miles surcharge sum_of_miles base compared_pairs reference
+unfolding first_part_choices component_amount fare_amount is_applicable repeats_city runs_between has_indicator
+    indicator_of covers_cabins covers_carriers in_season season_holds stops_hold transfers_hold advance_holds day_number
+    days_of_months days_since_1970 surcharged span_surcharge mileage compared_miles surcharge sum_of_miles base
+    compared_pairs reference
 first_parts_to_rome = refl
 
 -- the first city of a trip that an edition does not know

@@ -7,11 +7,9 @@ use Rattle.fare_tariff.specs.Lookup.{fare_at}
 use Rattle.fare_tariff.specs.Record.{FareRecord}
 use Rattle.fare_tariff.specs.Tariff.{Tariff}
 use Rattle.fare_rules.specs.declared.part.Part.{Part}
-use Rattle.fare_rules.specs.declared.unit_sheet.UnitKind.{UnitKind}
 use Rattle.fare_rules.specs.declared.unit_sheet.UnitKind.TheVariants as unit
-use Rattle.fare_rules.specs.declared.unit_sheet.UnitSheet.{UnitSheet}
 use Rattle.fare_rules.specs.Base.{Compared}
-use Rattle.fare_rules.specs.Construction.{units, places}
+use Rattle.fare_rules.specs.Construction.{places}
 use Rattle.fare_rules.specs.Direction.{is_back}
 use Rattle.fare_rules.specs.Indicator.{indicator}
 use Rattle.fare_rules.specs.Backhaul.{greatest_reference, backhaul}
@@ -34,7 +32,7 @@ use Rattle.fare_codes.specs.Season.{season_holds}
 use Rattle.jiff_core.specs.Calendar.{days_of_months}
 use Rattle.fare_rules.specs.Order.{is_before, compare_parts}
 use Rattle.fare_rules.proofs.Filed.{city, part}
-use Rattle.fare_rules.proofs.Cases.{Case, case, found, expected, priced}
+use Rattle.fare_rules.proofs.Cases.{Case, case, found, expected, sheets, sheet, priced}
 use Rattle.fare_rules.proofs.Editions.{through_fare, beside_paris, pacific_circle, round_the_world, end_on_end, side_trip, paris_and_lyon, inside_a_country, summer_and_winter}
 use Rattle.fare_rules.proofs.Trips.{stopping_in_paris, changing_in_paris, straight_to_rome, paris_twice, by_the_pacific, on_two_carriers, back_from_lyon, manchester_and_back}
 
@@ -79,20 +77,13 @@ lawful_constructions =
 
 -- each costs that
 pub lawful_prices : map found lawful_constructions ≡ map expected lawful_constructions
-unfolding greatest_reference backhaul compared_pairs base own_sectors circle_reference unit_circle_minimum repeats_city runs_between has_indicator covers_cabins covers_carriers in_season span_surcharge is_applicable fare_amount component_amount uncovered misnumbered unfiled own is_back_in indicator_of breaks first_broken lawful_price surcharge sum_of_miles compared_miles mileage reference crossed is_hr mixed closes is_open_jaw unchained unclosed stops_hold transfers_hold advance_holds part_amount unit_sum is_round_trip unit_kind unit_minimum unit_sheet price stay mistimed misfitted clashed day_number season_holds days_of_months days_since_1970 surcharged
+unfolding greatest_reference backhaul compared_pairs base own_sectors circle_reference unit_circle_minimum repeats_city
+    runs_between has_indicator covers_cabins covers_carriers in_season span_surcharge is_applicable fare_amount
+    component_amount uncovered misnumbered unfiled own is_back_in indicator_of breaks first_broken lawful_price
+    surcharge sum_of_miles compared_miles mileage reference crossed is_hr mixed closes is_open_jaw unchained unclosed
+    stops_hold transfers_hold advance_holds part_amount unit_sum is_round_trip unit_kind unit_minimum unit_sheet price
+    stay mistimed misfitted clashed day_number season_holds days_of_months days_since_1970 surcharged
 lawful_prices = refl
-
--- the sheet of a unit by its number
-abbrev sheet_of_unit : Tariff → Itinerary → List Part → ℕ → UnitSheet
-sheet_of_unit tariff trip parts unit = unit_sheet tariff trip parts (own parts unit)
-
--- the sheets of the units of a construction
-abbrev sheets : Tariff → Itinerary → List Part → List UnitSheet
-sheets tariff trip parts = map (sheet_of_unit tariff trip parts) (units parts)
-
--- a sheet by its kind, sum, minimum and price
-abbrev sheet : UnitKind → ℕ → Option ℕ → ℕ → UnitSheet
-sheet kind sum minimum price = record { kind = kind; sum = sum; minimum = minimum; price = price }
 
 -- a backhaul minimum, a circle minimum, a round trip, two units, and an open jaw
 pub worked_sheets :
@@ -110,7 +101,12 @@ pub worked_sheets :
     ∷ (sheet unit.CT 277_500 (Some 280_000) 280_000 ∷ [])
     ∷ (sheet unit.OJ 19_000 None 19_000 ∷ [])
     ∷ [])
-unfolding greatest_reference backhaul compared_pairs base own_sectors circle_reference unit_circle_minimum repeats_city runs_between has_indicator covers_cabins covers_carriers in_season span_surcharge is_applicable fare_amount component_amount uncovered misnumbered unfiled own is_back_in indicator_of breaks first_broken lawful_price surcharge sum_of_miles compared_miles mileage reference crossed is_hr mixed closes is_open_jaw unchained unclosed stops_hold transfers_hold advance_holds part_amount unit_sum is_round_trip unit_kind unit_minimum unit_sheet price stay mistimed misfitted clashed day_number season_holds days_of_months days_since_1970 surcharged
+unfolding greatest_reference backhaul compared_pairs base own_sectors circle_reference unit_circle_minimum repeats_city
+    runs_between has_indicator covers_cabins covers_carriers in_season span_surcharge is_applicable fare_amount
+    component_amount uncovered misnumbered unfiled own is_back_in indicator_of breaks first_broken lawful_price
+    surcharge sum_of_miles compared_miles mileage reference crossed is_hr mixed closes is_open_jaw unchained unclosed
+    stops_hold transfers_hold advance_holds part_amount unit_sum is_round_trip unit_kind unit_minimum unit_sheet price
+    stay mistimed misfitted clashed day_number season_holds days_of_months days_since_1970 surcharged
 worked_sheets = refl
 
 -- the higher intermediate point of a fare
@@ -137,7 +133,8 @@ abbrev world_parts : List Part
 world_parts = part 2 1 12 ∷ part 5 1 13 ∷ []
 
 -- its first part goes out, and its second back
-pub world_directions : map (is_back round_the_world on_two_carriers world_parts) (places world_parts) ≡ (false ∷ true ∷ [])
+pub world_directions : map (is_back round_the_world on_two_carriers world_parts) (places world_parts)
+    ≡ (false ∷ true ∷ [])
 unfolding is_back_in is_hr own
 world_directions = refl
 
@@ -151,7 +148,10 @@ world_indicators = refl
 pub world_amount :
     component_amount round_the_world on_two_carriers 2 5 13 true
     ≡ Some (record { base = 150_000; surcharge = 5; amount = 157_500 })
-unfolding component_amount fare_amount is_applicable repeats_city runs_between has_indicator indicator_of covers_cabins covers_carriers in_season season_holds stops_hold transfers_hold advance_holds day_number days_of_months days_since_1970 surcharged span_surcharge mileage compared_miles surcharge sum_of_miles base compared_pairs reference
+unfolding component_amount fare_amount is_applicable repeats_city runs_between has_indicator indicator_of covers_cabins
+    covers_carriers in_season season_holds stops_hold transfers_hold advance_holds day_number days_of_months
+    days_since_1970 surcharged span_surcharge mileage compared_miles surcharge sum_of_miles base compared_pairs
+    reference
 world_amount = refl
 
 -- at equal prices the construction whose first part is longer is before

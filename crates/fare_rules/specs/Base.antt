@@ -18,13 +18,14 @@ Compared = ℕ × ℕ × Nuc
 abbrev pub is_end_or_stopover : Itinerary → ℕ → ℕ → Bool
 is_end_or_stopover trip end i = (i == end) || is_stopover trip i
 
--- a pair of points of a component a to b is compared: it is not the whole, it begins at a or at an interior stopover, and
--- it ends at b or at an interior stopover
+-- a pair of points of a component a to b is compared: it is not the whole, it begins at a or at an interior stopover,
+-- and it ends at b or at an interior stopover
 abbrev pub is_compared : Itinerary → ℕ → ℕ → ℕ → ℕ → Bool
 is_compared trip a b i j =
     not ((i == a) && (j == b)) && is_end_or_stopover trip a i && is_end_or_stopover trip b j
 
--- the reference between two points of a component: from the earlier to the later, or the other way where it is priced back
+-- the reference between two points of a component: from the earlier to the later, or the other way where it is priced
+-- back
 abbrev pub reference_between : Tariff → Itinerary → FareRecord → Bool → Day → ℕ → ℕ → Option Nuc
 reference_between tariff trip fare back on i j =
     if back then reference tariff (point trip j) (point trip i) (indicator tariff trip i j) fare on
@@ -72,6 +73,7 @@ highest amount pairs =
     let greatest = greatest_amount amount pairs in
     if nat_lt amount greatest then find (gives greatest) pairs else None
 
--- the higher intermediate point: the first pair that gives the base, with the base, where that is above the fare's amount
+-- the higher intermediate point: the first pair that gives the base, with the base, where that is above the fare's
+-- amount
 unfoldable pub higher : Tariff → Itinerary → ℕ → ℕ → FareRecord → Bool → Option Compared
 higher tariff trip a b fare back = highest fare.amount (compared_pairs tariff trip a b fare back)

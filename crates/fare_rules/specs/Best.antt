@@ -13,7 +13,8 @@ IsLawful tariff trip parts price = lawful_price tariff trip parts ≡ Ok price
 -- a construction with its price is lawful, and no lawful one is before it
 pub record IsBest (tariff : Tariff) (trip : Itinerary) (parts : List Part) (price : ℕ) : Type 0 where
   pub lawful : IsLawful tariff trip parts price
-  pub first : (other : List Part) (cost : ℕ) → IsLawful tariff trip other cost → is_before other cost parts price ≡ false
+  pub first : (other : List Part) (cost : ℕ) → IsLawful tariff trip other cost
+      → is_before other cost parts price ≡ false
 
 -- no construction is lawful
 abbrev pub NoneIsLawful : Tariff → Itinerary → Type 0

@@ -24,8 +24,8 @@ is_own_sector trip parts own number = list_any (holds_sector trip parts number) 
 unfoldable pub own_sectors : Itinerary → List Part → List ℕ → ℕ → List ℕ
 own_sectors trip parts own i = filter (is_own_sector trip parts own) (numbers 1 (i + 1))
 
--- the reference from a unit's origin to a point of one of its parts, for the fare of that part: its indicator is that of the
--- unit's own sectors up to the point, and its day that of the first sector of the part
+-- the reference from a unit's origin to a point of one of its parts, for the fare of that part: its indicator is that
+-- of the unit's own sectors up to the point, and its day that of the first sector of the part
 abbrev pub reference_from_origin : Tariff → Itinerary → List Part → List ℕ → ℕ → ℕ → FareRecord → Option Nuc
 reference_from_origin tariff trip parts own k i fare =
     reference tariff (origin trip parts own) (point trip i) (indicator_of tariff trip (own_sectors trip parts own i))
@@ -44,7 +44,8 @@ part_stopovers trip parts k = stopovers trip (start_of trip parts k) (end_of par
 abbrev pub part_points : Itinerary → List Part → ℕ → List ℕ
 part_points trip parts k = part_stopovers trip parts k ++ end_of parts k ∷ []
 
--- the stopover points of a circle trip in a part: its interior stopovers, and its end but where it is the unit's last part
+-- the stopover points of a circle trip in a part: its interior stopovers, and its end but where it is the unit's last
+-- part
 abbrev pub turning_points : Itinerary → List Part → List ℕ → ℕ → List ℕ
 turning_points trip parts own k = if k == last_of own then part_stopovers trip parts k else part_points trip parts k
 
@@ -67,8 +68,8 @@ abbrev pub greatest_in_part : Tariff → Itinerary → List Part → List ℕ �
 greatest_in_part tariff trip parts own k =
     greatest_of (circle_reference tariff trip parts own k) (part_points trip parts k)
 
--- the circle minimum over the parts that are given of a unit, each with its end: that of the unit where they are all its parts
--- and close it, since no fare runs from a city to itself
+-- the circle minimum over the parts that are given of a unit, each with its end: that of the unit where they are all
+-- its parts and close it, since no fare runs from a city to itself
 unfoldable pub circle_minimum : Tariff → Itinerary → List Part → List ℕ → Option Nuc
 circle_minimum tariff trip parts own =
     option_map twice (greatest_of (greatest_in_part tariff trip parts own) own)

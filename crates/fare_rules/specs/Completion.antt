@@ -32,6 +32,7 @@ may_begin tariff trip end number = is_some (component_amount tariff trip 0 end n
 abbrev pub choices_to : Tariff → Itinerary → ℕ → List Choice
 choices_to tariff trip end = map (choice end) (filter (may_begin tariff trip end) (record_numbers tariff))
 
--- the first-part choices: each end with each fare that may be used up to there, by greater end and then by record number
+-- the first-part choices: each end with each fare that may be used up to there, by greater end and then by record
+-- number
 unfoldable pub first_part_choices : Tariff → Itinerary → List Choice
 first_part_choices tariff trip = flat_map (choices_to tariff trip) (numbers_down (count trip))

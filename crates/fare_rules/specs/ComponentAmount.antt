@@ -13,7 +13,8 @@ use Rattle.fare_codes.specs.Season.{season_holds}
 use Rattle.fare_trip.specs.Itinerary.{Itinerary, sector, point}
 use Rattle.fare_tariff.specs.Record.{FareRecord}
 use Rattle.fare_tariff.specs.Tariff.{Tariff}
-use Rattle.fare_tariff.specs.Lookup.{fare_at, same_indicator, same_kind}
+use Rattle.fare_codes.specs.Same.{same_indicator, same_kind}
+use Rattle.fare_tariff.specs.Lookup.{fare_at}
 use Rattle.fare_rules.specs.declared.amount.Amount.{Amount}
 use Rattle.fare_rules.specs.Numbers.{numbers}
 use Rattle.fare_rules.specs.Span.{sectors, holds_surface, first_day}

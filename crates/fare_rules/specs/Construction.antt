@@ -56,8 +56,8 @@ abbrev pub ends_early : Itinerary → List Part → Option ℕ
 ends_early trip parts =
     if end_of parts (length parts) == count trip then None else Some (length parts + 1)
 
--- where the parts do not cover the trip: at the first that does not end between its start and the trip's end, else behind
--- the last where that does not end at the trip's end
+-- where the parts do not cover the trip: at the first that does not end between its start and the trip's end, else
+-- behind the last where that does not end at the trip's end
 unfoldable pub uncovered : Itinerary → List Part → Option ℕ
 uncovered trip parts = option_or (find (is_misended trip parts) (places parts)) (ends_early trip parts)
 

@@ -18,10 +18,11 @@ IsPriced tariff trip one = IsLawful tariff trip one.0 one.1
 abbrev pub IsBefore : Priced → Priced → Type 0
 IsBefore one other = is_before one.0 one.1 other.0 other.1 ≡ true
 
--- a list is the first k lawful constructions by Order, or all where there are fewer: each is lawful and before those behind
--- it, and each lawful one is in the list, or the list has k members and each of them is before it
+-- a list is the first k lawful constructions by Order, or all where there are fewer: each is lawful and before those
+-- behind it, and each lawful one is in the list, or the list has k members and each of them is before it
 pub record IsFirstK (tariff : Tariff) (trip : Itinerary) (k : ℕ) (first : List Priced) : Type 0 where
   pub at_most : length first ≤ k
   pub lawful : All (IsPriced tariff trip) first
   pub rising : AllPairs IsBefore first
-  pub others : (other : Priced) → IsPriced tariff trip other → Contains first other ⊎ ((length first ≡ k) × All (λ one. IsBefore one other) first)
+  pub others : (other : Priced) → IsPriced tariff trip other
+      → Contains first other ⊎ ((length first ≡ k) × All (λ one. IsBefore one other) first)

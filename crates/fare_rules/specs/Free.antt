@@ -6,8 +6,8 @@ use Rattle.fare_tariff.specs.Tariff.{Tariff}
 use Rattle.fare_rules.specs.Span.{holds_surface}
 use Rattle.fare_rules.specs.ComponentAmount.{repeats_city, runs_between, may_be_priced, has_indicator, covers_cabins, covers_carriers, mileage_holds}
 
--- a fare without a rule and a season may be used for a span: there is no surface sector and no city twice, its cities, its
--- indicator, its class and its carrier are those of the span, and the miles are not over
+-- a fare without a rule and a season may be used for a span: there is no surface sector and no city twice, its cities,
+-- its indicator, its class and its carrier are those of the span, and the miles are not over
 abbrev pub is_applicable_freely : Tariff → Itinerary → ℕ → ℕ → Bool → FareRecord → Bool
 is_applicable_freely tariff trip a b back fare =
     not (holds_surface trip a b) && not (repeats_city trip a b)

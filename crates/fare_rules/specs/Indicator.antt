@@ -22,8 +22,8 @@ area tariff city = option_map (λ r. r.area) (city_record tariff city)
 abbrev pub country : Tariff → City → Option Country
 country tariff city = option_map (λ r. r.country) (city_record tariff city)
 
--- the ocean that lies between two areas, where the Atlantic is marked or not: 1 and 2 are divided by the Atlantic, 1 and 3
--- by the Atlantic where it is marked and else by the Pacific, and no other two by an ocean
+-- the ocean that lies between two areas, where the Atlantic is marked or not: 1 and 2 are divided by the Atlantic, 1
+-- and 3 by the Atlantic where it is marked and else by the Pacific, and no other two by an ocean
 abbrev pub ocean : Option Area → Option Area → Over → Option Indicator
 ocean (Some One) (Some Two) over = Some AT
 ocean (Some Two) (Some One) over = Some AT

@@ -35,7 +35,8 @@ fails_in_air tariff trip parts test k = not (holds_gap trip parts k) && fails te
 -- the fare of a part does not run between its ends in the part's direction
 abbrev pub is_mispaired : Tariff → Itinerary → List Part → ℕ → Bool
 is_mispaired tariff trip parts k =
-    fails_in_air tariff trip parts (runs_between trip (start_of trip parts k) (end_of parts k) (is_back tariff trip parts k)) k
+    fails_in_air tariff trip parts
+    (runs_between trip (start_of trip parts k) (end_of parts k) (is_back tariff trip parts k)) k
 
 -- the fare of a part has another indicator than the part
 abbrev pub is_misrouted : Tariff → Itinerary → List Part → ℕ → Bool
@@ -145,4 +146,6 @@ pub record MeetsTheRules (tariff : Tariff) (trip : Itinerary) (parts : List Part
   pub stay : mistimed tariff trip parts ≡ None
   pub combine : misfitted tariff parts ≡ None
   pub ends : clashed tariff parts ≡ None
-  pub amounts : (k : ℕ) → 1 ≤ k → k ≤ length parts → is_some (component_amount tariff trip (start_of trip parts k) (end_of parts k) (part_at parts k).fare (is_back tariff trip parts k)) ≡ true
+  pub amounts : (k : ℕ) → 1 ≤ k → k ≤ length parts
+      → is_some (component_amount tariff trip (start_of trip parts k) (end_of parts k) (part_at parts k).fare
+      (is_back tariff trip parts k)) ≡ true

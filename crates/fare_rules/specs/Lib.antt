@@ -1,4 +1,6 @@
+pub use Rattle.fare_codes.specs.Amounts
 pub use Rattle.fare_codes.specs.Day
+pub use Rattle.fare_codes.specs.Same
 pub use Rattle.fare_codes.specs.Season
 pub use Rattle.fare_trip.specs.Itinerary
 pub use Rattle.fare_tariff.specs.Record

@@ -1,7 +1,8 @@
 -- Ranges of numbers, and what is looked for among them.
-use Rattle.std.specs.Prelude.{ℕ, zero, suc, ◌-◌, List, [], ◌∷◌, Option, Some, None, max}
+use Rattle.std.specs.Prelude.{ℕ, zero, suc, ◌-◌, List, [], ◌∷◌, Option, None}
 use Rattle.std.specs.List.{range_with_len}
 use Rattle.std.specs.Option.{option_or}
+use Rattle.fare_codes.specs.Amounts.{greater}
 
 -- the numbers from a first one on and below another
 abbrev pub numbers : ℕ → ℕ → List ℕ
@@ -11,12 +12,6 @@ numbers first past = range_with_len first (past - first)
 abbrev pub numbers_down : ℕ → List ℕ
 numbers_down zero = []
 numbers_down (suc n) = suc n ∷ numbers_down n
-
--- the greater of two amounts, of which either may be missing
-abbrev pub greater : Option ℕ → Option ℕ → Option ℕ
-greater None b = b
-greater (Some a) None = Some a
-greater (Some a) (Some b) = Some (max a b)
 
 -- the greatest amount that the members of a list give, where one gives any
 abbrev pub greatest_of : {A : Type 0} → (A → Option ℕ) → List A → Option ℕ

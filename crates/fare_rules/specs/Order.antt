@@ -14,8 +14,8 @@ and_then Less second = Less
 and_then Greater second = Greater
 and_then Equal second = second
 
--- at the same place of two constructions that one is before whose end is greater; then whose fare's record number is less;
--- then whose unit number is less
+-- at the same place of two constructions that one is before whose end is greater; then whose fare's record number is
+-- less; then whose unit number is less
 unfoldable pub compare_parts : Part → Part → Ordering
 compare_parts x y =
     and_then (compare_numbers y.end x.end) (and_then (compare_numbers x.fare y.fare) (compare_numbers x.unit y.unit))
@@ -32,6 +32,7 @@ is_less Less = true
 is_less Equal = false
 is_less Greater = false
 
--- a construction with its price is before another: its price is less, or at equal prices its first differing part is before
+-- a construction with its price is before another: its price is less, or at equal prices its first differing part is
+-- before
 unfoldable pub is_before : List Part → ℕ → List Part → ℕ → Bool
 is_before xs px ys py = nat_lt px py || ((px == py) && is_less (tie xs ys))

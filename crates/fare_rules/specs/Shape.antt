@@ -7,7 +7,7 @@ use Rattle.fare_codes.specs.declared.kind.Kind.TheVariants.{OW}
 use Rattle.fare_trip.specs.Itinerary.{Itinerary}
 use Rattle.fare_tariff.specs.Record.{FareRecord}
 use Rattle.fare_tariff.specs.Tariff.{Tariff}
-use Rattle.fare_tariff.specs.Lookup.{same_kind}
+use Rattle.fare_codes.specs.Same.{same_kind}
 use Rattle.fare_rules.specs.declared.part.Part.{Part}
 use Rattle.fare_rules.specs.Numbers.{numbers}
 use Rattle.fare_rules.specs.Indicator.{country}
@@ -82,10 +82,11 @@ comes_home_early trip parts own = list_any (ends_in trip parts (origin trip part
 
 -- a unit has two or more parts, and its last one ends in its origin and no earlier one does
 abbrev pub ends_at_home : Itinerary → List Part → List ℕ → Bool
-ends_at_home trip parts own = nat_le 2 (length own) && comes_home trip parts own && not (comes_home_early trip parts own)
+ends_at_home trip parts own =
+    nat_le 2 (length own) && comes_home trip parts own && not (comes_home_early trip parts own)
 
--- a unit closes: it has two or more parts, each begins where its previous one ends, the last one ends in the origin and no
--- earlier one does
+-- a unit closes: it has two or more parts, each begins where its previous one ends, the last one ends in the origin and
+-- no earlier one does
 unfoldable pub closes : Itinerary → List Part → List ℕ → Bool
 closes trip parts own = is_chained trip parts own && ends_at_home trip parts own
 
@@ -103,14 +104,16 @@ lie_together tariff a b = is_same_country (country tariff a) (country tariff b)
 abbrev pub is_only_gap : Tariff → City → City → City → City → Bool
 is_only_gap tariff a b c d = not (bytes_eq a b) && lie_together tariff a b && bytes_eq c d
 
--- a unit is an open jaw: it has exactly two parts and exactly one gap, between the end of the first and the start of the
--- second or between the end of the second and the origin, and the cities of the gap lie in one country
+-- a unit is an open jaw: it has exactly two parts and exactly one gap, between the end of the first and the start of
+-- the second or between the end of the second and the origin, and the cities of the gap lie in one country
 abbrev pub is_jaw : Tariff → Itinerary → List Part → List ℕ → Bool
 is_jaw tariff trip parts [] = false
 is_jaw tariff trip parts (k ∷ []) = false
 is_jaw tariff trip parts (k ∷ next ∷ []) =
-    is_only_gap tariff (end_city trip parts k) (start_city trip parts next) (end_city trip parts next) (start_city trip parts k)
-    || is_only_gap tariff (end_city trip parts next) (start_city trip parts k) (end_city trip parts k) (start_city trip parts next)
+    is_only_gap tariff
+    (end_city trip parts k) (start_city trip parts next) (end_city trip parts next) (start_city trip parts k)
+    || is_only_gap tariff
+    (end_city trip parts next) (start_city trip parts k) (end_city trip parts k) (start_city trip parts next)
 is_jaw tariff trip parts (k ∷ next ∷ third ∷ rest) = false
 
 -- a unit is an open jaw

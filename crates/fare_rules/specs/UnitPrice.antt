@@ -1,8 +1,9 @@
 -- Unit price: what a pricing unit costs, by its kind.
-use Rattle.std.specs.Prelude.{ℕ, Bool, false, List, [], ◌∷◌, Option, Some, None, option_and_then, max, sum_by, ◌==◌, ◌&&◌, if◌then◌else◌}
+use Rattle.std.specs.Prelude.{ℕ, Bool, false, List, [], ◌∷◌, Option, Some, None, option_and_then, option_map, max, sum_by, ◌==◌, ◌&&◌, if◌then◌else◌}
 use Rattle.fare_codes.specs.declared.nuc.Nuc.{Nuc}
 use Rattle.fare_trip.specs.Itinerary.{Itinerary}
 use Rattle.fare_tariff.specs.Tariff.{Tariff}
+use Rattle.fare_tariff.specs.Lookup.{fare_at}
 use Rattle.fare_rules.specs.declared.amount.Amount.{Amount}
 use Rattle.fare_rules.specs.declared.part.Part.{Part}
 use Rattle.fare_rules.specs.declared.unit_sheet.UnitKind.{UnitKind}
@@ -10,7 +11,7 @@ use Rattle.fare_rules.specs.declared.unit_sheet.UnitKind.TheVariants.{OW, RT, CT
 use Rattle.fare_rules.specs.declared.unit_sheet.UnitSheet.{UnitSheet}
 use Rattle.fare_rules.specs.Backhaul.{backhaul}
 use Rattle.fare_rules.specs.ComponentAmount.{component_amount}
-use Rattle.fare_rules.specs.Construction.{part_at, start_of, end_of, fare_of, first_of, own, units}
+use Rattle.fare_rules.specs.Construction.{part_at, start_of, end_of, first_of, own, units}
 use Rattle.fare_rules.specs.Shape.{holds_ow, closes, is_open_jaw}
 use Rattle.fare_rules.specs.Direction.{is_back_in}
 use Rattle.fare_rules.specs.Circle.{unit_circle_minimum}
@@ -54,10 +55,29 @@ unit_kind tariff trip parts own =
     else (if is_round_trip tariff trip parts own then RT
     else CT))
 
+-- the greater of a sum and a minimum, where there is one
+abbrev pub at_least : ℕ → Option ℕ → ℕ
+at_least sum None = sum
+at_least sum (Some minimum) = max sum minimum
+
+-- the backhaul minimum of the fare of a record number over a span
+abbrev pub number_backhaul : Tariff → Itinerary → ℕ → ℕ → ℕ → Option Nuc
+number_backhaul tariff trip a b number = option_and_then (backhaul tariff trip a b) (fare_at tariff number)
+
+-- what the fare of a record number costs one way over a span, by its amount there: the amount or the backhaul minimum
+abbrev pub raised_one_way : Tariff → Itinerary → ℕ → ℕ → ℕ → Amount → ℕ
+raised_one_way tariff trip a b number found = at_least found.amount (number_backhaul tariff trip a b number)
+
+-- the price of the fare of a record number one way over a span: its component amount or its backhaul minimum, whichever
+-- is greater; none where it may not be used there
+unfoldable pub one_way_price : Tariff → Itinerary → ℕ → ℕ → ℕ → Option ℕ
+one_way_price tariff trip a b number =
+    option_map (raised_one_way tariff trip a b number) (component_amount tariff trip a b number false)
+
 -- the backhaul minimum of a part
 abbrev pub part_backhaul : Tariff → Itinerary → List Part → ℕ → Option Nuc
 part_backhaul tariff trip parts k =
-    option_and_then (backhaul tariff trip (start_of trip parts k) (end_of parts k)) (fare_of tariff parts k)
+    number_backhaul tariff trip (start_of trip parts k) (end_of parts k) (part_at parts k).fare
 
 -- the minimum of a unit by its kind: the backhaul minimum one way, the circle minimum of a circle trip, and else none
 unfoldable pub unit_minimum : Tariff → Itinerary → List Part → List ℕ → UnitKind → Option ℕ
@@ -65,11 +85,6 @@ unit_minimum tariff trip parts own OW = part_backhaul tariff trip parts (first_o
 unit_minimum tariff trip parts own RT = None
 unit_minimum tariff trip parts own CT = unit_circle_minimum tariff trip parts own
 unit_minimum tariff trip parts own OJ = None
-
--- the greater of a sum and a minimum, where there is one
-abbrev pub at_least : ℕ → Option ℕ → ℕ
-at_least sum None = sum
-at_least sum (Some minimum) = max sum minimum
 
 -- the sheet of a kind, a sum and a minimum
 abbrev pub sheet_from : UnitKind → ℕ → Option ℕ → UnitSheet

@@ -2,9 +2,9 @@
 use Rattle.std.proofs.Common.{◌≡◌, ℕ, ◌+◌, ◌<◌, ◌≤◌, List, length, get_or, take, drop, Some, None, refl}
 use Rattle.std.specs.Option.{option_or}
 use Rattle.std.proofs.lemmas.List.{at_drop_more, at_drop_all}
-use Rattle.fare_tariff.specs.declared.record.Record.{Record}
-use Rattle.fare_tariff.specs.declared.check_fault.CheckFault.TheVariants.{At}
-use Rattle.fare_tariff.specs.declared.check_kind.CheckKind.{CheckKind}
+use Rattle.fare_tariff.specs.declared.records.record.Record.{Record}
+use Rattle.fare_tariff.specs.declared.check.check_fault.CheckFault.TheVariants.{At}
+use Rattle.fare_tariff.specs.declared.check.check_kind.CheckKind.{CheckKind}
 use Rattle.fare_tariff.specs.Check.{first_fault_from, fault_at, kind_of}
 
 -- the first fault of what is left of a list is that of its first record, or of what is left after it

@@ -10,13 +10,16 @@ use Rattle.fare_codes.specs.declared.rule_id.RuleId.{RuleId}
 use Rattle.fare_codes.specs.declared.indicator.Indicator.{Indicator}
 use Rattle.fare_codes.specs.declared.indicator.Indicator.TheVariants.{WH, EH, AT, PA, AP}
 use Rattle.fare_codes.specs.declared.month_day.MonthDay.{MonthDay}
-use Rattle.fare_tariff.specs.declared.record.Record.{Record}
-use Rattle.fare_tariff.specs.declared.record.Record.TheVariants as filed
-use Rattle.fare_tariff.specs.declared.fare_key.FareKey.{FareKey}
+use Rattle.fare_codes.specs.Same.{same_indicator}
+use Rattle.fare_codes.specs.declared.nuc.TheConstants.{FARE_LIMIT}
+use Rattle.fare_tariff.specs.declared.limits.TheConstants.{MOST_FARES_BETWEEN, MOST_RECORDS}
+use Rattle.fare_tariff.specs.declared.records.record.Record.{Record}
+use Rattle.fare_tariff.specs.declared.records.record.Record.TheVariants as filed
+use Rattle.fare_tariff.specs.declared.records.fare_key.FareKey.{FareKey}
 use Rattle.fare_tariff.specs.Record.{FareRecord}
 use Rattle.fare_tariff.specs.Tariff.{Tariff}
-use Rattle.fare_tariff.specs.Lookup.{first_some, city_in, fare_at, fare_in, fare_number, is_fare_on, is_fare_between, number_at, numbers_from, nth_fare, same_indicator, has_key, terms, terms_of}
-use Rattle.fare_tariff.specs.Check.{IsEdition, is_in_form, first_fault, is_one_unknown, is_unknown_rule}
+use Rattle.fare_tariff.specs.Lookup.{first_some, city_in, fare_at, fare_in, fare_number, is_fare_on, is_fare_between, number_at, numbers_from, nth_fare, has_key, terms, terms_of}
+use Rattle.fare_tariff.specs.Check.{IsEdition, has_amount_in_range, first_fault, is_one_unknown, is_unknown_rule}
 use Rattle.fare_tariff.specs.Filed.{IsFiledFare, IsFareOn, IsFareBetween}
 use Rattle.fare_tariff.proofs.Validity.{HasNoKind, no_kind_at, place_in_limit}
 use Rattle.fare_tariff.proofs.Found.{some_there, bytes_eq-true, bytes_eq-false}
@@ -27,7 +30,7 @@ or_false true q h = cc
 or_false false q h = (refl, h)
 
 -- both of two tests that are true together
-and_true : (p q : Bool) → (p && q) ≡ true → (p ≡ true) × (q ≡ true)
+pub and_true : (p q : Bool) → (p && q) ≡ true → (p ≡ true) × (q ≡ true)
 and_true true q h = (refl, h)
 and_true false q h = cc
 
@@ -58,11 +61,11 @@ passes_at test (x ∷ xs) zero one h there =
 passes_at test (x ∷ xs) (suc place) one h there = passes_at test xs place one (and_true (test x) (list_all test xs) h).1 there
 
 -- a fare in form without a kind
-fare_facts : (tariff : Tariff) (earlier : List Record) (fare : FareRecord) → is_in_form (filed.Fare fare) ≡ true → HasNoKind tariff.records earlier (filed.Fare fare) → IsFiledFare tariff fare
+fare_facts : (tariff : Tariff) (earlier : List Record) (fare : FareRecord) → has_amount_in_range (filed.Fare fare) ≡ true → HasNoKind tariff.records earlier (filed.Fare fare) → IsFiledFare tariff fare
 fare_facts tariff earlier fare form kinds =
     let known = both_known tariff.records fare.from fare.to kinds.known_city in
     record {
-      in_form = ltb-true fare.amount 1_000_000_000 form;
+      in_form = ltb-true fare.amount FARE_LIMIT form;
       points_differ = bytes_eq-false _ _ kinds.points_differ;
       from_known = known.0;
       to_known = known.1;
@@ -81,13 +84,13 @@ given_where true o v h = (refl, h)
 given_where false o v h = cc
 
 -- the record of a number that files a fare
-fare_at-some : (tariff : Tariff) (number : ℕ) (fare : FareRecord) → fare_at tariff number ≡ Some fare → (2 ≤ number) × (slice_get tariff.records (number - 2) ≡ Some (filed.Fare fare))
+pub fare_at-some : (tariff : Tariff) (number : ℕ) (fare : FareRecord) → fare_at tariff number ≡ Some fare → (2 ≤ number) × (slice_get tariff.records (number - 2) ≡ Some (filed.Fare fare))
 fare_at-some tariff number fare h =
     let p = given_where (leb 2 number) _ fare h in
     (leb-true 2 number p.0, fare_in-some _ fare p.1)
 
 -- the fare of a record number in an edition
-pub filed_fare : (tariff : Tariff) (number : ℕ) (fare : FareRecord) → IsEdition tariff.number tariff.records → fare_at tariff number ≡ Some fare → IsFiledFare tariff fare × (number ≤ 400_001)
+pub filed_fare : (tariff : Tariff) (number : ℕ) (fare : FareRecord) → IsEdition tariff.number tariff.records → fare_at tariff number ≡ Some fare → IsFiledFare tariff fare × (number ≤ MOST_RECORDS + 1)
 filed_fare tariff number fare edition h =
     let valid = edition.no_fault in
     let p = fare_at-some tariff number fare h in
@@ -95,7 +98,7 @@ filed_fare tariff number fare edition h =
     let kinds = no_kind_at tariff.records (number - 2) (filed.Fare fare) valid within in
     let same = get_or_from_slice_get tariff.records (number - 2) (filed.Fare fare) (filed.Fare fare) p.1 in
     let limit = place_in_limit tariff.records (number - 2) (filed.Fare fare) valid within in
-    (fare_facts tariff _ fare (passes_at is_in_form tariff.records (number - 2) (filed.Fare fare) edition.in_form p.1) (rw same at kinds), omega (arith, limit, p.0))
+    (fare_facts tariff _ fare (passes_at has_amount_in_range tariff.records (number - 2) (filed.Fare fare) edition.amounts_in_range p.1) (rw same at kinds), omega (arith, limit, p.0))
 
 -- the fare at a place of the list is that of its record number
 fare_at-place : (tariff : Tariff) (place : ℕ) (fare : FareRecord) → slice_get tariff.records place ≡ Some (filed.Fare fare) → fare_at tariff (place + 2) ≡ Some fare
@@ -116,7 +119,7 @@ at_number : (tariff : Tariff) (P : FareRecord → Type 0) (number : ℕ) (fare :
 at_number tariff P number fare h p = rw h p
 
 -- the number of a place
-number_of_place : (o : Option ℕ) (number : ℕ) → option_map number_at o ≡ Some number → (place : ℕ) × (o ≡ Some place) × (number ≡ place + 2)
+pub number_of_place : (o : Option ℕ) (number : ℕ) → option_map number_at o ≡ Some number → (place : ℕ) × (o ≡ Some place) × (number ≡ place + 2)
 number_of_place None number h = cc
 number_of_place (Some place) number h = (place, refl, cc)
 
@@ -137,7 +140,7 @@ filed_on tariff key on number h =
     rw n.2 (at_number tariff (IsFareOn key on) (n.0 + 2) fare.0 (fare_at-place tariff n.0 fare.0 there) fare.2)
 
 -- the same indicator by the test is the same
-same_indicator-true : (a b : Indicator) → same_indicator a b ≡ true → a ≡ b
+pub same_indicator-true : (a b : Indicator) → same_indicator a b ≡ true → a ≡ b
 same_indicator-true WH WH h = refl
 same_indicator-true EH EH h = refl
 same_indicator-true AT AT h = refl
@@ -202,14 +205,14 @@ nth_at test from [] k number h = cc
 nth_at test from (x ∷ xs) k number h =
     nth_step test from x xs k number (test x) refl h (λ j later. nth_at test (from + 1) xs j number later)
 
--- fewer than 64 fares of a from, to and indicator stand before one without a kind
-few_before : (all earlier : List Record) (from to : City) (ind : Indicator) (fare : FareRecord) → IsFareBetween from to ind fare → HasNoKind all earlier (filed.Fare fare) → count_by (is_fare_between from to ind) earlier < 64
+-- fewer fares than there may be of a from, to and indicator stand before one without a kind
+few_before : (all earlier : List Record) (from to : City) (ind : Indicator) (fare : FareRecord) → IsFareBetween from to ind fare → HasNoKind all earlier (filed.Fare fare) → count_by (is_fare_between from to ind) earlier < MOST_FARES_BETWEEN
 few_before all earlier from to ind fare between kinds =
-    let few = leb-false 64 (count_by (is_fare_between fare.from fare.to fare.ind) earlier) kinds.not_too_many in
+    let few = leb-false MOST_FARES_BETWEEN (count_by (is_fare_between fare.from fare.to fare.ind) earlier) kinds.not_too_many in
     rw (between.of_from, between.of_to, between.of_ind) at few
 
--- the k-th number of a from, to and indicator is that of a fare between them, and k is below 64
-pub filed_nth : (tariff : Tariff) (from to : City) (ind : Indicator) (k number : ℕ) → is_none (first_fault tariff.records) ≡ true → nth_fare tariff from to ind k ≡ Some number → IsSomeAnd (fare_at tariff number) (IsFareBetween from to ind) × (k < 64)
+-- the k-th number of a from, to and indicator is that of a fare between them, and k is below the greatest number of them
+pub filed_nth : (tariff : Tariff) (from to : City) (ind : Indicator) (k number : ℕ) → is_none (first_fault tariff.records) ≡ true → nth_fare tariff from to ind k ≡ Some number → IsSomeAnd (fare_at tariff number) (IsFareBetween from to ind) × (k < MOST_FARES_BETWEEN)
 filed_nth tariff from to ind k number valid h =
     let nth = nth_at (is_fare_between from to ind) 2 tariff.records k number h in
     let fare = is_fare_between-true from to ind nth.one nth.passes in

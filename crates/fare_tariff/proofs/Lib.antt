@@ -1,4 +1,3 @@
-pub mod SameTexts
 pub mod Scans
 pub mod Faults
 pub mod Validity
@@ -6,4 +5,5 @@ pub mod CheckExamples
 pub mod SharedDays
 pub mod Found
 pub mod FoundFares
+pub mod OneFare
 pub mod FoundOptions

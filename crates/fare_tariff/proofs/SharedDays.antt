@@ -1,5 +1,5 @@
 -- Two seasons share a day exactly where one of them holds the other's first day.
-use Rattle.std.proofs.Common.{◌≡◌, ℕ, Bool, true, false, ◌&&◌, ◌||◌, nat_le, if◌then◌else◌, IsTrue, arith, refl, ◌⊎◌, inl, inr}
+use Rattle.std.proofs.Common.{◌≡◌, ℕ, Bool, true, false, List, ◌&&◌, ◌||◌, nat_le, if◌then◌else◌, IsTrue, arith, refl, ◌⊎◌, inl, inr}
 use Rattle.std.proofs.lemmas.Bool.Decides.{nat_tests}
 use Rattle.fare_codes.specs.declared.season.Season.{Season}
 use Rattle.fare_codes.specs.Day.{place_in_year, is_month_day}
@@ -36,8 +36,12 @@ shared a b form_a form_b h =
       | inr in_b ↦ record { on = a.first; is_a_day = form_a; in_first = holds_first a; in_second = in_b }
     ]
 
+-- where both seasons hold a day one holds the other's first day
+pub both_hold : (a b : Season) (on : List ℕ) → season_holds a on ≡ true → season_holds b on ≡ true → seasons_overlap a b ≡ true
+unfolding season_holds
+both_hold a b on in_a in_b =
+    shared_place (place_in_year a.first) (place_in_year a.last) (place_in_year b.first) (place_in_year b.last) (place_in_year on) in_a in_b
+
 -- where a day is shared one season holds the other's first day
 pub found : (a b : Season) → ShareADay a b → IsTrue (seasons_overlap a b)
-unfolding season_holds
-found a b day =
-    shared_place (place_in_year a.first) (place_in_year a.last) (place_in_year b.first) (place_in_year b.last) (place_in_year day.on) day.in_first day.in_second
+found a b day = both_hold a b day.on day.in_first day.in_second

@@ -2,8 +2,9 @@
 use Rattle.std.proofs.Common.{◌≡◌, ℕ, ◌+◌, ◌<◌, ◌≤◌, Bool, true, false, List, [], ◌∷◌, length, get_or, take, drop, Option, Some, None, option_map, is_none, refl, sym, ◌∙◌, add-one, arith, length-take-le, zero, suc}
 use Rattle.std.specs.Option.{option_or}
 use Rattle.std.proofs.lemmas.Bool.{ltb-false}
-use Rattle.fare_tariff.specs.declared.record.Record.{Record}
-use Rattle.fare_tariff.specs.declared.check_kind.CheckKind.{CheckKind}
+use Rattle.fare_tariff.specs.declared.limits.TheConstants.{MOST_RECORDS}
+use Rattle.fare_tariff.specs.declared.records.record.Record.{Record}
+use Rattle.fare_tariff.specs.declared.check.check_kind.CheckKind.{CheckKind}
 use Rattle.fare_tariff.specs.Check.{first_fault, first_fault_from, kind_of, kind_where, fault_at, first_number, has_key_of, names_unknown_city, names_unknown_rule, names_unknown_currency, is_one_too_many, has_same_points, is_zero_mileage, is_out_of_limit, overlap_of}
 use Rattle.fare_tariff.proofs.Faults.{first_fault_more}
 
@@ -18,7 +19,7 @@ kind_where-none true kind h = cc
 kind_where-none false kind h = refl
 
 -- what has no image is not there
-option_map-none : {A B : Type 0} (f : A → B) (o : Option A) → option_map f o ≡ None → o ≡ None
+pub option_map-none : {A B : Type 0} (f : A → B) (o : Option A) → option_map f o ≡ None → o ≡ None
 option_map-none f None h = refl
 option_map-none f (Some x) h = cc
 
@@ -79,17 +80,17 @@ no_kind_at all i d h l =
     let split = option_or-none _ _ (sym (first_fault_more all i d l) ∙ before) in
     no_kind-parts _ _ _ (option_map-none _ _ split.0)
 
--- a place in a list without a fault is below 400,000
-pub place_in_limit : (all : List Record) (i : ℕ) (d : Record) → is_none (first_fault all) ≡ true → i < length all → i < 400_000
+-- a place in a list without a fault is below the limit
+pub place_in_limit : (all : List Record) (i : ℕ) (d : Record) → is_none (first_fault all) ≡ true → i < length all → i < MOST_RECORDS
 place_in_limit all i d h l =
     let kinds = no_kind_at all i d h l in
-    omega (arith, ltb-false 400_001 (length (take i all) + 2) kinds.in_limit, length-take-le i all (omega arith))
+    omega (arith, ltb-false (MOST_RECORDS + 1) (length (take i all) + 2) kinds.in_limit, length-take-le i all (omega arith))
 
 -- a number that can't be above a limit is at most the limit
 not_above : (n limit : ℕ) → (limit < n → limit < limit) → n ≤ limit
 not_above n limit h = grind (arith, h)
 
--- a list without a fault has at most 400,000 records
-pub length_in_limit : (all : List Record) → is_none (first_fault all) ≡ true → length all ≤ 400_000
+-- a list without a fault is within the limit
+pub length_in_limit : (all : List Record) → is_none (first_fault all) ≡ true → length all ≤ MOST_RECORDS
 length_in_limit [] h = omega arith
-length_in_limit (x ∷ xs) h = not_above _ _ (place_in_limit (x ∷ xs) 400_000 x h)
+length_in_limit (x ∷ xs) h = not_above _ _ (place_in_limit (x ∷ xs) MOST_RECORDS x h)

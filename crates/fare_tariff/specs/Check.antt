@@ -1,5 +1,5 @@
 -- What makes a list of records no edition: the check kinds of a record, and the fault of the least record.
-use Rattle.std.specs.Prelude.{ℕ, ◌+◌, ◌<◌, ◌≤◌, ◌≡◌, ◌^◌, Bool, true, false, List, [], ◌∷◌, length, take, Option, Some, None, is_some, is_none, option_map, position, count_by, Result, Ok, Err, bytes_eq, ◌&&◌, ◌||◌, ◌==◌, nat_le, nat_lt, if◌then◌else◌}
+use Rattle.std.specs.Prelude.{ℕ, ◌+◌, ◌<◌, ◌≤◌, ◌≡◌, Bool, true, false, List, [], ◌∷◌, length, take, Option, Some, None, is_some, is_none, option_map, position, count_by, Result, Ok, Err, bytes_eq, ◌&&◌, ◌||◌, ◌==◌, nat_le, nat_lt, if◌then◌else◌}
 use Rattle.std.specs.List.{list_any, list_all}
 use Rattle.std.specs.Option.{option_or, option_to_list}
 use Rattle.fare_codes.specs.declared.city.City.{City}
@@ -7,37 +7,38 @@ use Rattle.fare_codes.specs.declared.rule_id.RuleId.{RuleId}
 use Rattle.fare_codes.specs.declared.indicator.Indicator.{Indicator}
 use Rattle.fare_codes.specs.declared.day.Day.{Day}
 use Rattle.fare_codes.specs.declared.season.Season.{Season}
+use Rattle.fare_codes.specs.declared.nuc.TheConstants.{FARE_LIMIT}
 use Rattle.fare_codes.specs.Day.{is_month_day}
+use Rattle.fare_codes.specs.Same.{same_indicator, same_season}
 use Rattle.fare_codes.specs.Season.{season_holds}
-use Rattle.fare_tariff.specs.declared.record.Record.{Record}
-use Rattle.fare_tariff.specs.declared.record.Record.TheVariants as filed
-use Rattle.fare_tariff.specs.declared.fare_key.FareKey.{FareKey}
-use Rattle.fare_tariff.specs.declared.check_kind.CheckKind.{CheckKind}
-use Rattle.fare_tariff.specs.declared.check_kind.CheckKind.TheVariants.{Duplicate, UnknownCity, UnknownRule, UnknownCurrency, TooManyFares, SamePoint, ZeroMileage, OutOfLimit, Overlap}
-use Rattle.fare_tariff.specs.declared.check_fault.CheckFault.{CheckFault}
-use Rattle.fare_tariff.specs.declared.check_fault.CheckFault.TheVariants.{Memory, At}
+use Rattle.fare_tariff.specs.declared.limits.TheConstants.{LAST_EDITION, MOST_FARES_BETWEEN, MOST_RECORDS}
+use Rattle.fare_tariff.specs.declared.records.record.Record.{Record}
+use Rattle.fare_tariff.specs.declared.records.record.Record.TheVariants as filed
+use Rattle.fare_tariff.specs.declared.records.fare_key.FareKey.{FareKey}
+use Rattle.fare_tariff.specs.declared.check.check_kind.CheckKind.{CheckKind}
+use Rattle.fare_tariff.specs.declared.check.check_kind.CheckKind.TheVariants.{Duplicate, UnknownCity, UnknownRule, UnknownCurrency, TooManyFares, SamePoint, ZeroMileage, OutOfLimit, Overlap}
+use Rattle.fare_tariff.specs.declared.check.check_fault.CheckFault.{CheckFault}
+use Rattle.fare_tariff.specs.declared.check.check_fault.CheckFault.TheVariants.{At}
 use Rattle.fare_tariff.specs.Record.{FareRecord}
 use Rattle.fare_tariff.specs.Tariff.{Tariff}
-use Rattle.fare_tariff.specs.Lookup.{first_some, same_indicator, same_pair, city_in, currency_in, has_key, rule_in, mpm_in, tpm_in, number_at, is_fare_between}
-
--- two seasons have the same first and the same last day
-abbrev pub same_season : Season → Season → Bool
-same_season a b = bytes_eq a.first b.first && bytes_eq a.last b.last
+use Rattle.fare_tariff.specs.Lookup.{first_some, same_pair, same_via, city_in, currency_in, has_key, rule_in, mpm_in, tpm_in, number_at, is_fare_between}
 
 -- the key of a filed fare without its season
 abbrev pub key_of : FareRecord → FareKey
-key_of fare = record { from = fare.from; to = fare.to; ind = fare.ind; carrier = fare.carrier; class = fare.class; kind = fare.kind; rule = fare.rule }
+key_of fare = record {
+  from = fare.from;
+  to = fare.to;
+  ind = fare.ind;
+  carrier = fare.carrier;
+  class = fare.class;
+  kind = fare.kind;
+  rule = fare.rule;
+}
 
 -- a record files a fare that has a key and just this season
 abbrev pub is_fare_of : FareKey → Season → Record → Bool
 is_fare_of key season (filed.Fare r) = has_key key r && same_season r.season season
 is_fare_of key season _ = false
-
--- two via fields are the same, of which nothing is every way
-abbrev pub same_via : Option City → Option City → Bool
-same_via None None = true
-same_via (Some a) (Some b) = bytes_eq a b
-same_via _ _ = false
 
 -- a record files an extra mileage allowance of an unordered pair, an indicator and a via field
 abbrev pub is_allowance_of : City → City → Indicator → Option City → Record → Bool
@@ -89,9 +90,10 @@ abbrev pub names_unknown_currency : List Record → Record → Bool
 names_unknown_currency records (filed.City r) = is_none (first_some (currency_in r.country) records)
 names_unknown_currency records _ = false
 
--- at least 64 of the earlier records are fares with the from, to and indicator of this fare
+-- as many of the earlier records as there may be are fares with the from, to and indicator of this fare
 abbrev pub is_one_too_many : List Record → Record → Bool
-is_one_too_many earlier (filed.Fare r) = nat_le 64 (count_by (is_fare_between r.from r.to r.ind) earlier)
+is_one_too_many earlier (filed.Fare r) =
+    nat_le MOST_FARES_BETWEEN (count_by (is_fare_between r.from r.to r.ind) earlier)
 is_one_too_many earlier _ = false
 
 -- a record's two cities are equal
@@ -109,9 +111,9 @@ is_zero_mileage (filed.Tpm r) = r.miles == 0
 is_zero_mileage (filed.Ema r) = r.miles == 0
 is_zero_mileage _ = false
 
--- a record that has these before it has a number above 400,001
+-- a record that has these before it has a number above the last that one may have, which is one above the most records
 abbrev pub is_out_of_limit : List Record → Bool
-is_out_of_limit earlier = nat_lt 400_001 (number_at (length earlier))
+is_out_of_limit earlier = nat_lt (MOST_RECORDS + 1) (number_at (length earlier))
 
 -- one of two seasons holds the other's first day: a test that is true exactly where some month-day lies in both
 abbrev pub seasons_overlap : Season → Season → Bool
@@ -158,7 +160,8 @@ fault_at records place one = option_map (At (number_at place)) (kind_of records 
 -- the fault of the least record that has one, of the rest of a list from a place on
 unfoldable pub first_fault_from : List Record → ℕ → List Record → Option CheckFault
 first_fault_from records place [] = None
-first_fault_from records place (one ∷ rest) = option_or (fault_at records place one) (first_fault_from records (place + 1) rest)
+first_fault_from records place (one ∷ rest) =
+    option_or (fault_at records place one) (first_fault_from records (place + 1) rest)
 
 -- the fault of the least record that has one
 abbrev pub first_fault : List Record → Option CheckFault
@@ -171,22 +174,17 @@ unless (Some fault) value = Err fault
 
 -- what the check of a list of records answers: the fault of the least record, else the edition with just these records
 abbrev pub check_edition : ℕ → Day → List Record → Result Tariff CheckFault
-check_edition number effective records = unless (first_fault records) (record { number = number; effective = effective; records = records })
-
--- a result is an answer, or memory ran out
-abbrev pub Gives : {A : Type 0} → Result A CheckFault → Result A CheckFault → Type 0
-Gives (Err Memory) answer = Unit {0}
-Gives (Err (At number kind)) answer = Err (At number kind) ≡ answer
-Gives (Ok value) answer = Ok value ≡ answer
+check_edition number effective records =
+    unless (first_fault records) (record { number = number; effective = effective; records = records })
 
 -- a fare that a record files is below 10,000,000.00
-abbrev pub is_in_form : Record → Bool
-is_in_form (filed.Fare r) = nat_lt r.amount (10 ^ 9)
-is_in_form _ = true
+abbrev pub has_amount_in_range : Record → Bool
+has_amount_in_range (filed.Fare r) = nat_lt r.amount FARE_LIMIT
+has_amount_in_range _ = true
 
--- an edition's number is 1 to 99,999, its fares are in form, and no record of it has a check kind
+-- an edition's number is 1 to the last one, each fare's amount is in its range, and no record of it has a check kind
 pub record IsEdition (number : ℕ) (records : List Record) : Type 0 where
   pub number_above_zero : 0 < number
-  pub number_in_range : number ≤ 99_999
-  pub in_form : list_all is_in_form records ≡ true
+  pub number_in_range : number ≤ LAST_EDITION
+  pub amounts_in_range : list_all has_amount_in_range records ≡ true
   pub no_fault : is_none (first_fault records) ≡ true

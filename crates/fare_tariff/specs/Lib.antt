@@ -1,5 +1,6 @@
 pub use Rattle.fare_codes.specs.Codes
 pub use Rattle.fare_codes.specs.Day
+pub use Rattle.fare_codes.specs.Same
 pub use Rattle.fare_codes.specs.Season
 pub mod Record
 pub mod Tariff

@@ -7,19 +7,16 @@ use Rattle.fare_codes.specs.declared.country.Country.{Country}
 use Rattle.fare_codes.specs.declared.rule_id.RuleId.{RuleId}
 use Rattle.fare_codes.specs.declared.month_day.MonthDay.{MonthDay}
 use Rattle.fare_codes.specs.declared.indicator.Indicator.{Indicator}
-use Rattle.fare_codes.specs.declared.indicator.Indicator.TheVariants.{WH, EH, AT, PA, AP}
-use Rattle.fare_codes.specs.declared.cabin.Cabin.{Cabin}
-use Rattle.fare_codes.specs.declared.cabin.Cabin.TheVariants.{F, C, Y}
-use Rattle.fare_codes.specs.declared.kind.Kind.{Kind}
-use Rattle.fare_codes.specs.declared.kind.Kind.TheVariants.{OW, HR}
+use Rattle.fare_codes.specs.Same.{same_indicator, same_cabin, same_kind}
 use Rattle.fare_codes.specs.Season.{season_holds}
-use Rattle.fare_tariff.specs.declared.record.Record.{Record}
-use Rattle.fare_tariff.specs.declared.record.Record.TheVariants as filed
-use Rattle.fare_tariff.specs.declared.city_record.CityRec.{CityRec}
-use Rattle.fare_tariff.specs.declared.names.Names.{Names}
-use Rattle.fare_tariff.specs.declared.names.Names.TheVariants.{All, Of}
-use Rattle.fare_tariff.specs.declared.terms.Terms.{Terms}
-use Rattle.fare_tariff.specs.declared.fare_key.FareKey.{FareKey}
+use Rattle.fare_tariff.specs.declared.limits.TheConstants.{MOST_STOPS, MOST_TRANSFERS}
+use Rattle.fare_tariff.specs.declared.records.record.Record.{Record}
+use Rattle.fare_tariff.specs.declared.records.record.Record.TheVariants as filed
+use Rattle.fare_tariff.specs.declared.records.city_record.CityRec.{CityRec}
+use Rattle.fare_tariff.specs.declared.records.names.Names.{Names}
+use Rattle.fare_tariff.specs.declared.records.names.Names.TheVariants.{All, Of}
+use Rattle.fare_tariff.specs.declared.records.terms.Terms.{Terms}
+use Rattle.fare_tariff.specs.declared.records.fare_key.FareKey.{FareKey}
 use Rattle.fare_tariff.specs.Record.{CurrencyRecord, RuleRecord, FareRecord}
 use Rattle.fare_tariff.specs.Tariff.{Tariff}
 
@@ -28,33 +25,17 @@ abbrev pub first_some : {A : Type 0} → (Record → Option A) → List Record �
 first_some answer [] = None
 first_some answer (one ∷ records) = option_or (answer one) (first_some answer records)
 
--- two indicators are the same
-abbrev pub same_indicator : Indicator → Indicator → Bool
-same_indicator WH WH = true
-same_indicator EH EH = true
-same_indicator AT AT = true
-same_indicator PA PA = true
-same_indicator AP AP = true
-same_indicator _ _ = false
-
--- two cabins, or classes, are the same
-abbrev pub same_cabin : Cabin → Cabin → Bool
-same_cabin F F = true
-same_cabin C C = true
-same_cabin Y Y = true
-same_cabin _ _ = false
-
--- two kinds of fare are the same
-abbrev pub same_kind : Kind → Kind → Bool
-same_kind OW OW = true
-same_kind HR HR = true
-same_kind _ _ = false
-
 -- two rule fields are the same, of which nothing is the free rule
 abbrev pub same_rule : Option RuleId → Option RuleId → Bool
 same_rule None None = true
 same_rule (Some a) (Some b) = bytes_eq a b
 same_rule _ _ = false
+
+-- two via fields are the same, of which nothing is every way
+abbrev pub same_via : Option City → Option City → Bool
+same_via None None = true
+same_via (Some a) (Some b) = bytes_eq a b
+same_via _ _ = false
 
 -- two unordered pairs of cities are the same
 abbrev pub same_pair : City → City → City → City → Bool
@@ -134,11 +115,25 @@ rule_record tariff id = first_some (rule_in id) tariff.records
 
 -- the terms of the free rule: no limits, and a surcharge is allowed
 abbrev pub free_terms : Terms
-free_terms = record { stops = 16; transfers = 16; advance = 0; min_stay = 0; max_stay = 4_294_967_295; excess = true }
+free_terms = record {
+  stops = MOST_STOPS;
+  transfers = MOST_TRANSFERS;
+  advance = 0;
+  min_stay = 0;
+  max_stay = 4_294_967_295;
+  excess = true;
+}
 
 -- the terms that a rule's record states
 abbrev pub terms_of : RuleRecord → Terms
-terms_of r = record { stops = r.stops; transfers = r.transfers; advance = r.advance; min_stay = r.min_stay; max_stay = r.max_stay; excess = r.excess }
+terms_of r = record {
+  stops = r.stops;
+  transfers = r.transfers;
+  advance = r.advance;
+  min_stay = r.min_stay;
+  max_stay = r.max_stay;
+  excess = r.excess;
+}
 
 -- the terms of a rule field
 abbrev pub terms : Tariff → Option RuleId → Option Terms
@@ -196,7 +191,7 @@ abbrev pub is_by_way_of : List City → Option City → Bool
 is_by_way_of cities None = true
 is_by_way_of cities (Some via) = list_any (bytes_eq via) cities
 
--- the extra miles that a record allows between two cities for an indicator by way of some cities, 0 where it allows none
+-- the extra miles that a record allows between two cities for an indicator by way of some cities, else 0
 abbrev pub allowed_in : City → City → Indicator → List City → Record → ℕ
 allowed_in a b ind cities (filed.Ema r) =
     if same_pair r.from r.to a b && same_indicator r.ind ind && is_by_way_of cities r.via then r.miles else 0
@@ -207,6 +202,7 @@ abbrev pub greatest : (Record → ℕ) → List Record → ℕ
 greatest measure [] = 0
 greatest measure (one ∷ records) = max (measure one) (greatest measure records)
 
--- the greatest extra mileage allowance of an unordered pair of cities and an indicator that is filed for every way or by way of one of some cities
+-- the greatest extra mileage allowance of an unordered pair of cities and an indicator that is filed for every way or by
+-- way of one of some cities
 abbrev pub allowance : Tariff → City → City → Indicator → List City → ℕ
 allowance tariff a b ind cities = greatest (allowed_in a b ind cities) tariff.records

@@ -1,5 +1,5 @@
 -- The records of a tariff, as the rules see them, and the ranges of their numbers.
-use Rattle.std.specs.Prelude.{ℕ, ◌<◌, ◌≤◌, ◌^◌, Bool, length, Option}
+use Rattle.std.specs.Prelude.{ℕ, ◌<◌, ◌≤◌, Bool, length, Option}
 use Rattle.fare_codes.specs.declared.city.City.{City}
 use Rattle.fare_codes.specs.declared.country.Country.{Country}
 use Rattle.fare_codes.specs.declared.currency.Currency.{Currency}
@@ -11,8 +11,10 @@ use Rattle.fare_codes.specs.declared.kind.Kind.{Kind}
 use Rattle.fare_codes.specs.declared.mode.Mode.{Mode}
 use Rattle.fare_codes.specs.declared.nuc.Nuc.{Nuc}
 use Rattle.fare_codes.specs.declared.season.Season.{Season}
-use Rattle.fare_tariff.specs.declared.names.Names.{Names}
-use Rattle.fare_tariff.specs.declared.names.Names.TheVariants.{All, Of}
+use Rattle.fare_codes.specs.declared.decimals.TheConstants.{RATE_LIMIT}
+use Rattle.fare_tariff.specs.declared.limits.TheConstants.{MOST_DAYS, MOST_DECIMALS, MOST_NAMES, MOST_STOPS, MOST_TRANSFERS, MOST_UNIT}
+use Rattle.fare_tariff.specs.declared.records.names.Names.{Names}
+use Rattle.fare_tariff.specs.declared.records.names.Names.TheVariants.{All, Of}
 
 -- a country's currency: its rate of exchange in millionths, and how its amounts are rounded
 pub record CurrencyRecord : Type 0 where
@@ -23,13 +25,14 @@ pub record CurrencyRecord : Type 0 where
   pub unit : ℕ
   pub mode : Mode
 
--- a rate is above zero and has at most seven digits before its point, an amount has at most two decimals, and a unit is 1 to 10,000
+-- a rate is above zero and has at most seven digits before its point, an amount has at most two decimals, and a unit is
+-- 1 to 10,000
 pub record IsCurrency (roe decimals unit : ℕ) : Type 0 where
   pub rate_above_zero : 0 < roe
-  pub rate_in_form : roe < 10 ^ 13
-  pub decimals_in_range : decimals ≤ 2
+  pub rate_in_form : roe < RATE_LIMIT
+  pub decimals_in_range : decimals ≤ MOST_DECIMALS
   pub unit_above_zero : 0 < unit
-  pub unit_in_range : unit ≤ 10_000
+  pub unit_in_range : unit ≤ MOST_UNIT
 
 -- a rule: its terms, and the rules with which its fares may be combined
 pub record RuleRecord : Type 0 where
@@ -48,15 +51,15 @@ abbrev pub name_count : Names → ℕ
 name_count All = 0
 name_count (Of names) = length names
 
--- a rule's numbers are in their ranges, and its lists have at most 64 names
+-- a rule's numbers are in their ranges, and so are the lengths of its lists
 pub record IsRule (rule : RuleRecord) : Type 0 where
-  pub stops : rule.stops ≤ 16
-  pub transfers : rule.transfers ≤ 16
-  pub advance : rule.advance ≤ 999
-  pub min_stay : rule.min_stay ≤ 999
-  pub max_stay : rule.max_stay ≤ 999
-  pub units : name_count rule.units ≤ 64
-  pub ends : name_count rule.ends ≤ 64
+  pub stops : rule.stops ≤ MOST_STOPS
+  pub transfers : rule.transfers ≤ MOST_TRANSFERS
+  pub advance : rule.advance ≤ MOST_DAYS
+  pub min_stay : rule.min_stay ≤ MOST_DAYS
+  pub max_stay : rule.max_stay ≤ MOST_DAYS
+  pub units : name_count rule.units ≤ MOST_NAMES
+  pub ends : name_count rule.ends ≤ MOST_NAMES
 
 -- a filed fare; a rule of nothing is the free rule
 pub record FareRecord : Type 0 where

@@ -1,12 +1,13 @@
 ghost use Rattle.std.specs.Prelude.{◌≡◌, ◌<◌, ◌≤◌, ℕ, Some, length};
-ghost use Rattle.fare_tariff.specs.Check.{Gives, IsEdition, check_edition};
+ghost use Rattle.fare_outside.specs.Memory.{Gives};
+ghost use Rattle.fare_tariff.specs.Check.{IsEdition, check_edition};
 ghost use Rattle.fare_tariff.specs.Filed.{IsFiledFare};
 ghost use Rattle.fare_tariff.specs.Lookup.{fare_at};
 ghost use Rattle.fare_tariff.specs.Record.{FareRecord};
 
-use crate::check::{first_fault, hold_their_form};
-use crate::check_fault::CheckFault;
-use crate::record::Record;
+use crate::check::{CheckFault, amounts_are_in_range, first_fault};
+use crate::limits::{LAST_EDITION, MOST_RECORDS};
+use crate::records::Record;
 use fare_codes::Day;
 use std::alloc::Global;
 use std::marker::Model;
@@ -41,10 +42,10 @@ impl Edition {
         records: Vec<Record>,
     ) -> Result<Edition, CheckFault>
         requires above_zero { 0 < number }
-        requires in_range { number ≤ 99_999 }
-        ensures { Gives result (check_edition number effective records.items) }
+        requires in_range { number ≤ LAST_EDITION }
+        ensures { Gives CheckFault.Memory (λ edition. edition) result (check_edition number effective records.items) }
     {
-        hold_their_form(records.as_slice());
+        amounts_are_in_range(records.as_slice());
         match first_fault(records.as_slice()) {
             Some(fault) => Err(fault),
             None => Ok(Edition {
@@ -59,7 +60,7 @@ impl Edition {
     pub fn number(&self) -> u32
         ensures value { result ≡ self.now.number }
         ensures above_zero { 0 < result }
-        ensures in_range { result ≤ 99_999 }
+        ensures in_range { result ≤ LAST_EDITION }
     {
         self.number
     }
@@ -83,7 +84,7 @@ impl Edition {
     pub fn records(&self) -> &[Record]
         ensures records { result.now ≡ self.now.records }
         ensures valid { IsEdition self.now.number self.now.records }
-        ensures in_limit { length result.now ≤ 400_000 }
+        ensures in_limit { length result.now ≤ MOST_RECORDS }
     {
         self.records.as_slice()
     }

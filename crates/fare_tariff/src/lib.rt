@@ -1,44 +1,32 @@
 //! Tariff editions: the filed records, what makes a list of them valid, and the look-ups that the rules ask. An edition
 //! is seen as its number, its effective day and its list of records; each look-up answers as if it searched that list.
+//!
+//! - `records`: a record of each kind with its ranges, keys, terms and lists of names, and when two are the same;
+//! - `limits`: how many records there may be, and how great their numbers;
+//! - `edition`: an edition, which is valid by its type;
+//! - `check`: each kind of fault as its own test, and the first fault of a list of records;
+//! - `look_up`: cities, currencies, fares, rules and mileages, each as a search of the records;
+//! - `laws`: what follows of every edition, with nothing to run.
 #![tactic(auto)]
 
 mod check;
-mod check_fault;
-mod check_kind;
-mod city_record;
-mod currency_record;
 mod edition;
-mod equality;
-mod extra_mileage_record;
-mod fare_key;
-mod fare_record;
+mod laws;
+mod limits;
 mod look_up;
-mod mileage_record;
-mod names;
-mod pair_record;
-mod record;
-mod rule_record;
-mod same;
-mod seasons;
-mod terms;
+mod records;
 
-pub use check_fault::CheckFault;
-pub use check_kind::CheckKind;
-pub use city_record::CityRec;
-pub use currency_record::CurRec;
+pub use check::{CheckFault, CheckKind, overlap_is_a_shared_day};
 pub use edition::Edition;
-pub use equality::same_records;
-pub use extra_mileage_record::EmaRec;
-pub use fare_key::FareKey;
-pub use fare_record::FareRec;
-pub use mileage_record::MileRec;
-pub use names::{Names, RuleList};
-pub use pair_record::PairRec;
-pub use record::Record;
-pub use rule_record::RuleRec;
-pub use same::{same_carriers, same_cities, same_countries, same_indicators};
-pub use seasons::overlap_is_a_shared_day;
-pub use terms::Terms;
+pub use laws::fare_of_a_day_is_one;
+pub use limits::{
+    LAST_EDITION, MOST_DAYS, MOST_DECIMALS, MOST_FARES_BETWEEN, MOST_MILES, MOST_NAMES,
+    MOST_RECORDS, MOST_STOPS, MOST_TRANSFERS, MOST_UNIT,
+};
+pub use records::{
+    CityRec, CurRec, EmaRec, FareKey, FareRec, MileRec, Names, PairRec, Record, RuleList, RuleRec,
+    Terms, same_records,
+};
 
 #[cfg(test)]
 mod tests;

@@ -379,5 +379,6 @@ fn compares_records(rt: HostRuntime) -> Result<(), Fail> {
     assert!(rt; same_records(tariff.records(), again.as_slice()));
     assert!(rt; !same_records(tariff.records(), places.as_slice()));
     overlap_is_a_shared_day(Season::whole_year(), Season::whole_year());
+    fare_of_a_day_is_one(&tariff);
     Ok(())
 }

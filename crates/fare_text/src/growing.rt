@@ -38,15 +38,22 @@ pub fn push_labelled(text: &mut Vec<u8>, label: &[u8], n: u32) -> Result<(), NoM
     push_number(text, n)
 }
 
+/// Appends a number of any size.
+pub fn push_whole(text: &mut Vec<u8>, n: u128) -> Result<(), NoMemory>
+    ensures { OnOk result (text.new.items ≡ text.old.items ++ decimal n) }
+{
+    let mut buffer = Buffer::new();
+    Ok(text.extend_from_slice(buffer.format(n).as_bytes())?)
+}
+
 /// Appends a number of units of the last of so many places, with a point before the places.
 #[tactic(auto, using(crate::proofs::Digits::power_is_some), unfolding(fare_codes::specs::Numbers::decimal_text))]
 pub fn push_decimal(text: &mut Vec<u8>, units: u128, places: u8) -> Result<(), NoMemory>
     requires { places ≤ 6 }
     ensures { OnOk result (text.new.items ≡ text.old.items ++ decimal_text places units) }
 {
-    let mut buffer = Buffer::new();
     let power = 10u128.pow(places as u32);
-    text.extend_from_slice(buffer.format(units / power).as_bytes())?;
+    push_whole(text, units / power)?;
     text.push(b'.')?;
     push_last_digits(text, units, places)
 }

@@ -1,5 +1,5 @@
 -- Reading an itinerary's JSON text.
-use Rattle.std.proofs.Common.{◌≡◌, ◌⊎◌, inl, inr, ℕ, Bool, true, false, List, length, Some, None, Result, Ok, Err, refl}
+use Rattle.std.proofs.Common.{◌≡◌, ◌⊎◌, inl, inr, ℕ, Bool, true, false, List, length, Some, None, Result, Ok, Err, refl, sym}
 use Rattle.std.specs.Str.{IsUtf8, is_utf8}
 use Rattle.std.proofs.lemmas.Str.{IsUtf8-from_is_utf8, is_utf8-from_IsUtf8}
 use Rattle.serde_json.specs.Data.{Data}
@@ -12,17 +12,17 @@ use Rattle.fare_trip.specs.declared.fault.TripFault.{TripFault}
 use Rattle.fare_trip.specs.declared.fault.TripFault.TheVariants as fault
 use Rattle.fare_trip.specs.ItineraryText.{json_of, trip_of, trip_of_json, read_trip}
 use Rattle.fare_trip.specs.Itinerary.{Itinerary}
-use Rattle.fare_trip.specs.Steps.{Gives}
+use Rattle.fare_outside.specs.Memory.{Gives}
 
 -- the items of an array are as many as its values
 pub counted : (values : List Value) → items_len (items_view values) ≡ length values
 counted values = items_len-items_view values
 
 -- an answer that is as expected is given
-pub gives_same : {A : Type 0} → (answer expected : Result A TripFault) → answer ≡ expected → Gives answer expected
-gives_same (Ok value) expected h = h
-gives_same (Err fault.Memory) expected h = tt
-gives_same (Err found) expected h = h
+pub gives_same : {A : Type 0} → (answer expected : Result A TripFault) → answer ≡ expected
+    → Gives fault.Memory (λ (value : A). value) answer expected
+gives_same (Ok value) expected h = sym h
+gives_same (Err found) expected h = λ other. sym h
 
 -- bytes that are UTF-8 have the value that is read
 pub json_of_read : (bytes : List ℕ) (value : Data) → IsUtf8 bytes → read bytes ≡ Some value → json_of bytes ≡ Some value
@@ -38,7 +38,8 @@ unless_utf8 bytes false is h = rw is
 pub no_json : (bytes : List ℕ) → (IsUtf8 bytes → read bytes ≡ None) → json_of bytes ≡ None
 no_json bytes h = unless_utf8 bytes (is_utf8 bytes) refl h
 
-pub read_trip_some : (bytes : List ℕ) (value : Data) (answer : Result Itinerary TripFault) → json_of bytes ≡ Some value → answer ≡ trip_of value → Gives answer (read_trip bytes)
+pub read_trip_some : (bytes : List ℕ) (value : Data) (answer : Result Itinerary TripFault) → json_of bytes ≡ Some value → answer ≡ trip_of value
+    → Gives fault.Memory (λ (trip : Itinerary). trip) answer (read_trip bytes)
 unfolding read_trip
 read_trip_some bytes value answer found h = gives_same answer (trip_of_json (json_of bytes)) (rw found h)
 
@@ -47,9 +48,11 @@ unfolding read_trip
 read_trip_none bytes h = rw h
 
 -- a refusal for want of memory fits any text, and another one a text without a value
-pub refused_gives : (bytes : List ℕ) (found : TripFault) (Memory : Type 0) → ((found ≡ fault.Memory) × Memory) ⊎ ((found ≡ fault.NotJson) × ¬ Memory) → (¬ Memory → json_of bytes ≡ None) → Gives {A = Itinerary} (Err found) (read_trip bytes)
+pub refused_gives : (bytes : List ℕ) (found : TripFault) (Memory : Type 0)
+    → ((found ≡ fault.Memory) × Memory) ⊎ ((found ≡ fault.NotJson) × ¬ Memory) → (¬ Memory → json_of bytes ≡ None)
+    → Gives fault.Memory (λ (trip : Itinerary). trip) (Err found) (read_trip bytes)
 refused_gives bytes found Memory told h =
     elim told [
-      | inl wanting ↦ rw wanting.0 tt
-      | inr refused ↦ rw refused.0 (read_trip_none bytes (h refused.1))
+      | inl wanting ↦ λ other. absurd (other wanting.0)
+      | inr refused ↦ rw refused.0 (λ other. sym (read_trip_none bytes (h refused.1)))
     ]

@@ -21,7 +21,8 @@ use Rattle.fare_trip.specs.declared.fault.Member.TheVariants as member
 use Rattle.fare_trip.specs.declared.fault.TripFault.{TripFault}
 use Rattle.fare_trip.specs.declared.fault.TripFault.TheVariants as fault
 use Rattle.fare_trip.specs.Itinerary.{Itinerary}
-use Rattle.fare_trip.specs.Steps.{◌>>=◌, required, optional}
+use Rattle.fare_outside.specs.Memory.{◌>>=◌}
+use Rattle.fare_trip.specs.Steps.{required, optional}
 use Rattle.fare_trip.specs.Trip.{make_trip, sector_fault, carried}
 
 -- a member that is a string and in the form of its kind

@@ -1,14 +1,8 @@
 -- Readings in steps: the first fault is the answer.
-use Rattle.std.specs.Prelude.{◌≡◌, ℕ, Option, Some, None, Result, Ok, Err}
+use Rattle.std.specs.Prelude.{ℕ, Option, Some, None, Result, Ok, Err}
 use Rattle.fare_trip.specs.declared.fault.Member.{Member}
 use Rattle.fare_trip.specs.declared.fault.TripFault.{TripFault}
 use Rattle.fare_trip.specs.declared.fault.TripFault.TheVariants as fault
-
--- a fault ends the reading, and a value goes on to the next step
-infixl 10 ◌>>=◌
-abbrev pub ◌>>=◌ : {A B : Type 0} → Result A TripFault → (A → Result B TripFault) → Result B TripFault
-Ok value >>= next = next value
-Err found >>= next = Err found
 
 -- the value of a member's text, which is Bad where there is none
 abbrev pub or_bad : {A : Type 0} → Member → ℕ → Option A → Result A TripFault
@@ -24,12 +18,6 @@ required form member number (Some value) = or_bad member number (form value)
 abbrev pub optional : {A B : Type 0} → (A → Option B) → B → Member → ℕ → Option A → Result B TripFault
 optional form absent member number None = Ok absent
 optional form absent member number (Some value) = or_bad member number (form value)
-
--- what was read is as expected, unless memory was wanting
-abbrev pub Gives : {A : Type 0} → Result A TripFault → Result A TripFault → Type 0
-Gives (Ok value) expected = Ok value ≡ expected
-Gives (Err fault.Memory) expected = Unit {0}
-Gives (Err found) expected = Err found ≡ expected
 
 -- an answer whose value is seen as `f` sees it
 abbrev pub seen : {A B : Type 0} → (A → B) → Result A TripFault → Result B TripFault

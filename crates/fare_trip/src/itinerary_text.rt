@@ -3,8 +3,10 @@
 ghost use Rattle.std.specs.Prelude.{◌≡◌, ◌≤◌, ◌⊎◌, length, false};
 ghost use Rattle.serde_json.specs.Errors.{IsMemory};
 ghost use Rattle.serde_json.specs.View.{view, items_view};
-ghost use Rattle.fare_trip.specs.ItineraryText.{sector_members, sector_of, placed_sector, sectors_of, counted_trip, placed_trip, trip_members, trip_of, read_trip};
-ghost use Rattle.fare_trip.specs.Steps.{Gives, seen};
+ghost use Rattle.fare_trip.specs.ItineraryText.{sector_members, sector_of, placed_sector, sectors_of, counted_trip};
+ghost use Rattle.fare_trip.specs.ItineraryText.{placed_trip, trip_members, trip_of, read_trip};
+ghost use Rattle.fare_outside.specs.Memory.{Gives};
+ghost use Rattle.fare_trip.specs.Steps.{seen};
 
 use crate::fault::{Member, TripFault};
 use crate::members::{cabin_at, carrier_at, city_at, day_at, flag_at, items_at, over_at};
@@ -47,7 +49,8 @@ fn sector_in(value: &Value, number: u32) -> Result<Sector, TripFault>
 /// The sector of a value where it stands among so many.
 #[tactic(auto, unfolding(crate::specs::ItineraryText::placed_sector))]
 fn sector_at(place: &Place, total: u32, value: &Value) -> Result<Sector, TripFault>
-    ensures { result ≡ placed_sector total place.now.number place.now.city place.now.day place.now.behind_surface (view value.now) }
+    ensures { result ≡ placed_sector total place.now.number place.now.city place.now.day place.now.behind_surface
+        (view value.now) }
 {
     let sector = sector_in(value, place.number)?;
     match place.fault(total, &sector) {
@@ -59,7 +62,8 @@ fn sector_at(place: &Place, total: u32, value: &Value) -> Result<Sector, TripFau
 /// The sectors of the values, in turn.
 fn sectors_in(sale: Day, from: City, values: &[Value]) -> Result<ArrayVec<Sector, 16>, TripFault>
     requires { length values.now ≤ 16 }
-    ensures { seen (λ sectors. sectors.items) result ≡ sectors_of (length values.now) 1 from sale false (items_view values.now) }
+    ensures { seen (λ sectors. sectors.items) result
+        ≡ sectors_of (length values.now) 1 from sale false (items_view values.now) }
 {
     let total = values.len() as u32;
     let mut place = Place::start(sale, from);
@@ -131,7 +135,7 @@ pub fn trip_of(_alloc: Global, value: &Value) -> Result<Trip, TripFault>
 /// value. Want of memory may come for any text.
 #[tactic(auto, unfolding(crate::specs::ItineraryText::read_trip, crate::specs::ItineraryText::json_of))]
 pub fn read_trip(alloc: Global, bytes: &[u8]) -> Result<Trip, TripFault>
-    ensures { Gives result (read_trip bytes.now) }
+    ensures { Gives TripFault.Memory (λ trip. trip) result (read_trip bytes.now) }
 {
     match Value::from_slice(alloc, bytes) {
         Ok(value) => trip_of(alloc, &value),
@@ -141,7 +145,8 @@ pub fn read_trip(alloc: Global, bytes: &[u8]) -> Result<Trip, TripFault>
 
 /// Why a text has no value: want of memory, or that it is no JSON.
 fn refusal(error: &Error) -> TripFault
-    ensures { ((result ≡ TripFault.Memory) × IsMemory error.now) ⊎ ((result ≡ TripFault.NotJson) × ¬ IsMemory error.now) }
+    ensures { ((result ≡ TripFault.Memory) × IsMemory error.now)
+        ⊎ ((result ≡ TripFault.NotJson) × ¬ IsMemory error.now) }
 {
     if error.is_memory() {
         TripFault::Memory

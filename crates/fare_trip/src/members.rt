@@ -3,7 +3,8 @@
 ghost use Rattle.std.specs.Prelude.{◌≡◌, option_map};
 ghost use Rattle.serde_json.specs.Find.{as_array, as_str};
 ghost use Rattle.serde_json.specs.View.{view, items_view};
-ghost use Rattle.fare_trip.specs.ItineraryText.{city_member, day_member, carrier_member, cabin_member, over_member, flag_member};
+ghost use Rattle.fare_trip.specs.ItineraryText.{city_member, day_member, carrier_member, cabin_member, over_member};
+ghost use Rattle.fare_trip.specs.ItineraryText.{flag_member};
 ghost use Rattle.fare_trip.specs.Steps.{required, seen};
 
 use crate::fault::{Member, TripFault};
@@ -100,7 +101,8 @@ pub(crate) fn flag_at(
 
 /// The items of an array that has to stand there.
 pub(crate) fn items_at(found: Option<&Value>, member: Member) -> Result<&[Value], TripFault>
-    ensures { seen (λ items. items_view items.now) result ≡ required as_array member 0 (option_map (λ v. view v.now) found.entry) }
+    ensures { seen (λ items. items_view items.now) result
+        ≡ required as_array member 0 (option_map (λ v. view v.now) found.entry) }
 {
     let Some(value) = found else {
         return Err(TripFault::Missing(member, 0));

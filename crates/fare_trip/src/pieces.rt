@@ -62,7 +62,8 @@ fn first_cut(line: &[u8]) -> Cut<'_>
 
 /// The seven pieces of a line; nothing exactly where it has another number of them.
 pub(crate) fn short_texts(line: &[u8]) -> Option<ShortTexts<'_>>
-    ensures seven { IfSome result (λ t. pieces line.now ≡ t.kind.now ∷ t.sale.now ∷ t.from.now ∷ t.to.now ∷ t.carrier.now ∷ t.day.now ∷ t.cabin.now ∷ []) }
+    ensures seven { IfSome result (λ t. pieces line.now ≡ t.kind.now ∷ t.sale.now ∷ t.from.now ∷ t.to.now
+        ∷ t.carrier.now ∷ t.day.now ∷ t.cabin.now ∷ []) }
     ensures other { IfNone result ((length (pieces line.now) == 7) ≡ false) }
 {
     let kind = first_cut(line);

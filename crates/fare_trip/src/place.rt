@@ -32,7 +32,12 @@ impl Place {
     /// The place behind a sector.
     pub(crate) fn after(&self, sector: &Sector) -> Place
         requires { self.now.number ≤ 16 }
-        ensures { result ≡ record { number = self.now.number + 1; city = sector.now.to; day = sector.now.day; behind_surface = sector.now.surface } }
+        ensures { result ≡ record {
+          number = self.now.number + 1;
+          city = sector.now.to;
+          day = sector.now.day;
+          behind_surface = sector.now.surface;
+        } }
     {
         Place {
             number: self.number + 1,
@@ -51,7 +56,8 @@ impl Place {
 
     /// The first fault of a sector at this place of a trip of so many sectors.
     pub(crate) fn fault(&self, total: u32, sector: &Sector) -> Option<TripFault>
-        ensures { result ≡ sector_fault total self.now.number self.now.city self.now.day self.now.behind_surface sector.now }
+        ensures { result ≡ sector_fault total self.now.number self.now.city self.now.day self.now.behind_surface
+            sector.now }
     {
         if sector.to.is(self.city) {
             return Some(TripFault::SameCity(self.number));

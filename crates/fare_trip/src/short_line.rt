@@ -29,7 +29,8 @@ fn sector_in(texts: &ShortTexts<'_>) -> Result<Sector, TripFault>
 /// The trip of the pieces of a short line.
 #[tactic(auto, unfolding(crate::specs::ShortLine::short_trip))]
 fn trip_in(texts: &ShortTexts<'_>) -> Result<Trip, TripFault>
-    ensures { result ≡ short_trip (texts.now.kind.now ∷ texts.now.sale.now ∷ texts.now.from.now ∷ texts.now.to.now ∷ texts.now.carrier.now ∷ texts.now.day.now ∷ texts.now.cabin.now ∷ []) }
+    ensures { result ≡ short_trip (texts.now.kind.now ∷ texts.now.sale.now ∷ texts.now.from.now ∷ texts.now.to.now
+        ∷ texts.now.carrier.now ∷ texts.now.day.now ∷ texts.now.cabin.now ∷ []) }
 {
     let sale = day_in(texts.sale, Member::Sale, 0)?;
     let from = city_in(texts.from, Member::From, 0)?;

@@ -9,8 +9,8 @@ use arrayvec::ArrayVec;
 use fare_codes::{City, Day};
 use std::marker::Model;
 
-/// An itinerary: a sale day, a first city and 1 to 16 sectors. Neighbouring points differ, days don't fall from the sale
-/// day on, and neither the first nor the last sector is a surface sector, nor are two neighbouring ones.
+/// An itinerary: a sale day, a first city and 1 to 16 sectors. Neighbouring points differ, days don't fall from the
+/// sale day on, and neither the first nor the last sector is a surface sector, nor are two neighbouring ones.
 #[derive(Drop)]
 pub struct Trip {
     sale: Day,
@@ -28,12 +28,13 @@ impl Model for Trip {
 
     ghost view = { λ t. record { sale = t.sale; from = t.from; sectors = t.sectors.items } };
 
-    ghost invariant = { λ t. make_trip t.sale t.from t.sectors.items ≡ Ok (record { sale = t.sale; from = t.from; sectors = t.sectors.items }) };
+    ghost invariant = { λ t. make_trip t.sale t.from t.sectors.items
+        ≡ Ok (record { sale = t.sale; from = t.from; sectors = t.sectors.items }) };
 }
 
 impl Trip {
-    /// The trip of a sale day, a first city and sectors, or its first fault: no sector, more than 16, or sector by sector
-    /// one that ends where it begins, a day that falls, and a surface sector out of place.
+    /// The trip of a sale day, a first city and sectors, or its first fault: no sector, more than 16, or sector by
+    /// sector one that ends where it begins, a day that falls, and a surface sector out of place.
     #[tactic(auto, unfolding(crate::specs::Trip::make_trip))]
     pub fn new(sale: Day, from: City, sectors: &[Sector]) -> Result<Trip, TripFault>
         ensures { result ≡ make_trip sale from sectors.now }
@@ -56,8 +57,8 @@ impl Trip {
         })
     }
 
-    /// What holds of every trip: it has 1 to 16 sectors, neighbouring points differ, days don't fall from the sale day on,
-    /// and neither the first nor the last sector is a surface sector, nor are two neighbouring ones.
+    /// What holds of every trip: it has 1 to 16 sectors, neighbouring points differ, days don't fall from the sale day
+    /// on, and neither the first nor the last sector is a surface sector, nor are two neighbouring ones.
     pub fn law(&self)
         ensures ordered { IsTrip self.now }
         ensures makes { make_trip self.now.sale self.now.from self.now.sectors ≡ Ok self.now }

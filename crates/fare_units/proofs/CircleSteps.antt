@@ -5,7 +5,8 @@ use Rattle.std.proofs.lemmas.List.Elements.{All-filter, All-from_get_or}
 use Rattle.std.proofs.lemmas.List.FromFn.{length-range_with_len, get_or-range_with_len}
 use Rattle.fare_trip.specs.Itinerary.{Itinerary, sector}
 use Rattle.fare_rules.specs.declared.part.Part.{Part}
-use Rattle.fare_rules.specs.Numbers.{numbers, greater, greatest_of}
+use Rattle.fare_codes.specs.Amounts.{greater}
+use Rattle.fare_rules.specs.Numbers.{numbers, greatest_of}
 use Rattle.fare_rules.specs.Span.{is_stopover}
 use Rattle.fare_rules.specs.Circle.{is_own_sector, own_sectors}
 use Rattle.fare_rules.proofs.NumberLemmas.{filter_next, filter_done, greater_grouped}

@@ -1,15 +1,15 @@
 -- Parts that others may follow, with one part more.
-use Rattle.std.proofs.Common.{◌≡◌, ℕ, zero, suc, ◌+◌, ◌-◌, ◌*◌, ◌<◌, ◌≤◌, cond, leb, max, List, [], ◌∷◌, ◌++◌, length, get_or, refl, ap, subst, sym, ◌∙◌, inl, inr, arith}
-use Rattle.std.proofs.lemmas.Bool.{le-leb, cases_lt}
+use Rattle.std.proofs.Common.{◌≡◌, ℕ, zero, suc, ◌+◌, ◌-◌, ◌*◌, ◌<◌, ◌≤◌, max, List, [], ◌∷◌, ◌++◌, length, get_or, ap, subst, sym, ◌∙◌, inl, inr, arith}
+use Rattle.std.proofs.lemmas.Bool.{cases_lt}
 use Rattle.std.proofs.Math.ListN.{get_or-append, length-append}
 use Rattle.std.proofs.Math.Seq.{get_or-append_right}
 use Rattle.fare_trip.specs.Itinerary.{Itinerary, count}
 use Rattle.fare_rules.specs.declared.part.Part.{Part}
 use Rattle.fare_rules.specs.Numbers.{numbers}
-use Rattle.fare_rules.specs.Construction.{no_part, end_of, start_of, unit_of, begin_after, greatest_unit, places}
+use Rattle.fare_rules.specs.Construction.{no_part, end_of, start_of, unit_of, greatest_unit, places}
 use Rattle.fare_rules.proofs.NumberLemmas.{numbers_more}
 use Rattle.fare_units.specs.Walk.{IsFront, next_start}
-use Rattle.fare_units.proofs.NextLemmas.{front_part, front_unit, greatest_same, next_part, start_by}
+use Rattle.fare_units.proofs.NextLemmas.{front_part, front_start, front_unit, greatest_same, next_part, start_by}
 use Rattle.fare_units.proofs.StepLemmas.{end_before_next}
 
 -- the greatest unit of some places and others is that of the ones or of the others
@@ -36,13 +36,6 @@ module _ (trip : Itinerary) (front : List Part) (part : Part) where
         | inr g ↦ subst P (sym (get_or-append_right front (part ∷ []) i no_part g)) (only_end (count trip) part (i - length front) within)
       ]
 
-  front_start : (k : ℕ) → 1 ≤ k → k ≤ length front → start_of trip (front ++ part ∷ []) k ≡ start_of trip front k
-  front_start k low high =
-      elim (cases_lt 1 k) [
-        | inl l ↦ ap (λ (p : Part). cond (leb k 1) 0 (begin_after trip p.end)) (front_part front (part ∷ []) (k - 1) (omega arith) (omega arith))
-        | inr g ↦ rw (le-leb k 1 g) refl
-      ]
-
   part_rises : IsFront trip front → next_start trip front < part.end → (k : ℕ) → 1 ≤ k → k ≤ length (front ++ part ∷ []) → start_of trip (front ++ part ∷ []) k < end_of (front ++ part ∷ []) k
   part_rises f rises k low high =
       let n : length (front ++ part ∷ []) ≡ length front + 1 = longer_length in
@@ -56,7 +49,7 @@ module _ (trip : Itinerary) (front : List Part) (part : Part) where
         | inr g ↦
             let Q : ℕ → Type 0 = λ m. m < end_of (front ++ part ∷ []) k in
             let R : Part → Type 0 = λ p. start_of trip front k < p.end in
-            subst Q (sym (front_start k low g)) (subst R (sym (front_part front (part ∷ []) k low g)) (f.advances.rises k low g))
+            subst Q (sym (front_start trip front (part ∷ []) k low g)) (subst R (sym (front_part front (part ∷ []) k low g)) (f.advances.rises k low g))
       ]
 
   longer_end : end_of (front ++ part ∷ []) (length (front ++ part ∷ [])) ≡ part.end

@@ -11,3 +11,4 @@ pub mod CircleSteps
 pub mod PriceSteps
 pub mod UnitLemmas
 pub mod PricedLemmas
+pub mod FirstParts

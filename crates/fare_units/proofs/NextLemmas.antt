@@ -1,8 +1,8 @@
 -- What a lawful construction says of the part that comes after its first ones.
-use Rattle.std.proofs.Common.{◌≡◌, ℕ, zero, suc, ◌+◌, ◌-◌, ◌<◌, ◌≤◌, Bool, true, false, not, ◌||◌, cond, leb, List, [], ◌∷◌, ◌++◌, length, Option, Some, is_some, refl, ap, subst, sym, ◌∙◌, arith}
+use Rattle.std.proofs.Common.{◌≡◌, ℕ, zero, suc, ◌+◌, ◌-◌, ◌<◌, ◌≤◌, Bool, true, false, not, ◌||◌, cond, leb, List, [], ◌∷◌, ◌++◌, length, Option, Some, is_some, refl, ap, subst, sym, ◌∙◌, inl, inr, arith}
 use Rattle.std.specs.List.{range_with_len, list_any}
 use Rattle.std.proofs.lemmas.List.{append_assoc}
-use Rattle.std.proofs.lemmas.Bool.{eqb-false, ltb-false}
+use Rattle.std.proofs.lemmas.Bool.{eqb-false, ltb-false, le-leb, cases_lt}
 use Rattle.std.proofs.Math.ListN.{get_or-append, length-append}
 use Rattle.std.proofs.Math.Seq.{get_or-append_seam}
 use Rattle.fare_trip.specs.Itinerary.{Itinerary, count}
@@ -30,6 +30,14 @@ front_part front rest k low high = get_or-append front rest no_part (k - 1) (ome
 
 pub front_unit : (front rest : List Part) (k : ℕ) → 1 ≤ k → k ≤ length front → unit_of (front ++ rest) k ≡ unit_of front k
 front_unit front rest k low high = ap (λ (p : Part). p.unit) (front_part front rest k low high)
+
+-- and each starts where it did
+pub front_start : (trip : Itinerary) (front rest : List Part) (k : ℕ) → 1 ≤ k → k ≤ length front → start_of trip (front ++ rest) k ≡ start_of trip front k
+front_start trip front rest k low high =
+    elim (cases_lt 1 k) [
+      | inl l ↦ ap (λ (p : Part). cond (leb k 1) 0 (begin_after trip p.end)) (front_part front rest (k - 1) (omega arith) (omega arith))
+      | inr g ↦ rw (le-leb k 1 g) refl
+    ]
 
 -- the part that comes after some stands at the place behind them
 pub next_part : (front : List Part) (next : Part) (rest : List Part) → part_at (front ++ next ∷ rest) (length front + 1) ≡ next

@@ -11,27 +11,31 @@ use Rattle.fare_rules.specs.Construction.{start_of, end_of, fare_of}
 use Rattle.fare_rules.specs.Lawful.{fails}
 use Rattle.fare_rules.specs.Shape.{is_mixed, is_unchained, is_unclosed}
 use Rattle.fare_rules.specs.UnitRules.{is_mistimed, is_misfitted}
-use Rattle.fare_units.specs.declared.part_rules.FareRule.{FareRule}
-use Rattle.fare_units.specs.declared.part_rules.FareRule.TheVariants.{Indicator, Cabin, Carrier, Stops, Transfers, Advance, Excess}
-use Rattle.fare_units.specs.declared.part_rules.PartRule.{PartRule}
-use Rattle.fare_units.specs.declared.part_rules.PartRule.TheVariants.{Distinct, Fare, Mileage, Surface, Season}
-use Rattle.fare_units.specs.declared.unit_rules.UnitRule.{UnitRule}
-use Rattle.fare_units.specs.declared.unit_rules.UnitRule.TheVariants.{Alone, Chain, Close, Stay, Combine}
+use Rattle.fare_units.specs.declared.rules.part_rules.FareRule.{FareRule}
+use Rattle.fare_units.specs.declared.rules.part_rules.FareRule.TheVariants.{Indicator, Cabin, Carrier, Stops, Transfers, Advance, Excess}
+use Rattle.fare_units.specs.declared.rules.part_rules.PartRule.{PartRule}
+use Rattle.fare_units.specs.declared.rules.part_rules.PartRule.TheVariants.{Distinct, Fare, Mileage, Surface, Season}
+use Rattle.fare_units.specs.declared.rules.unit_rules.UnitRule.{UnitRule}
+use Rattle.fare_units.specs.declared.rules.unit_rules.UnitRule.TheVariants.{Alone, Chain, Close, Stay, Combine}
 
 -- what a rule asks of the fare of a span
-abbrev pub fare_passes : Tariff → Itinerary → ℕ → ℕ → FareRule → FareRecord → Bool
-fare_passes tariff trip a b Indicator = has_indicator tariff trip a b
-fare_passes tariff trip a b Cabin = covers_cabins trip a b
-fare_passes tariff trip a b Carrier = covers_carriers trip a b
-fare_passes tariff trip a b Stops = stops_hold tariff trip a b
-fare_passes tariff trip a b Transfers = transfers_hold tariff trip a b
-fare_passes tariff trip a b Advance = advance_holds tariff trip
-fare_passes tariff trip a b Excess = excess_holds tariff trip a b
+abbrev pub fare_passes : Tariff → Itinerary → ℕ → ℕ → FareRecord → FareRule → Bool
+fare_passes tariff trip a b fare Indicator = has_indicator tariff trip a b fare
+fare_passes tariff trip a b fare Cabin = covers_cabins trip a b fare
+fare_passes tariff trip a b fare Carrier = covers_carriers trip a b fare
+fare_passes tariff trip a b fare Stops = stops_hold tariff trip a b fare
+fare_passes tariff trip a b fare Transfers = transfers_hold tariff trip a b fare
+fare_passes tariff trip a b fare Advance = advance_holds tariff trip fare
+fare_passes tariff trip a b fare Excess = excess_holds tariff trip a b fare
+
+-- the fare of a span is there and fails a rule
+abbrev pub fare_fails : Tariff → Itinerary → ℕ → ℕ → Option FareRecord → FareRule → Bool
+fare_fails tariff trip a b fare rule = fails (λ filed. fare_passes tariff trip a b filed rule) fare
 
 -- a span and its fare break a rule
 abbrev pub span_breaks : Tariff → Itinerary → ℕ → ℕ → Option FareRecord → PartRule → Bool
 span_breaks tariff trip a b fare Distinct = repeats_city trip a b
-span_breaks tariff trip a b fare (Fare rule) = not (holds_surface trip a b) && fails (fare_passes tariff trip a b rule) fare
+span_breaks tariff trip a b fare (Fare rule) = not (holds_surface trip a b) && fare_fails tariff trip a b fare rule
 span_breaks tariff trip a b fare Mileage = not (holds_surface trip a b) && not (mileage_holds tariff trip a b)
 span_breaks tariff trip a b fare Surface = holds_surface trip a b
 span_breaks tariff trip a b fare Season = fails (in_season trip a) fare

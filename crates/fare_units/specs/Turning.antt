@@ -12,7 +12,8 @@ abbrev pub is_left_out : Option ℕ → ℕ → Bool
 is_left_out None k = false
 is_left_out (Some one) k = k == one
 
--- the points of a part to which references are looked for: its interior stopovers, and its end but where that is left out
+-- the points of a part to which references are looked for: its interior stopovers, and its end but where that is left
+-- out
 abbrev pub points_without : Itinerary → List Part → Option ℕ → ℕ → List ℕ
 points_without trip parts left_out k =
     if is_left_out left_out k then part_stopovers trip parts k else part_points trip parts k

@@ -22,9 +22,10 @@ abbrev pub IsFound : Tariff → Itinerary → Option (List Part × ℕ) → Type
 IsFound tariff trip None = Unit {0}
 IsFound tariff trip (Some best) = IsLawful tariff trip best.0 best.1
 
--- from one best a walk over some lists came to another: that is lawful where the first was, whatever was not before the first
--- is not before it, and no lawful list of those walked is
-pub record Walks (tariff : Tariff) (trip : Itinerary) (D : List Part → Type 0) (before after : Option (List Part × ℕ)) : Type 0 where
+-- from one best a walk over some lists came to another: that is lawful where the first was, whatever was not before the
+-- first is not before it, and no lawful list of those walked is
+pub record Walks (tariff : Tariff) (trip : Itinerary) (D : List Part → Type 0) (before after : Option (List Part × ℕ)) :
+    Type 0 where
   pub found : IsFound tariff trip before → IsFound tariff trip after
   pub kept : (parts : List Part) (price : ℕ) → IsBound parts price before → IsBound parts price after
   pub seen : (parts : List Part) (price : ℕ) → IsLawful tariff trip parts price → D parts → IsBound parts price after
@@ -71,14 +72,15 @@ IsPart one part = part ≡ one
 abbrev pub next_start : Itinerary → List Part → ℕ
 next_start trip front = start_of trip front (length front + 1)
 
--- parts that others may follow: they go on within the trip, are no more than the points that they pass, and have no more units
+-- parts that others may follow: they go on within the trip, are no more than the points that they pass, and have no
+-- more units
 pub record IsFront (trip : Itinerary) (front : List Part) : Type 0 where
   pub advances : Advances trip front
   pub few : length front ≤ end_of front (length front)
   pub ordered : greatest_unit front (places front) ≤ length front
 
--- the fare of a number may serve a part that comes after some and ends at a point: in one of the two directions it has a
--- component amount there
+-- the fare of a number may serve a part that comes after some and ends at a point: in one of the two directions it has
+-- a component amount there
 unfoldable pub may_serve : Tariff → Itinerary → List Part → ℕ → ℕ → Bool
 may_serve tariff trip front end number =
     is_some (component_amount tariff trip (next_start trip front) end number false)
@@ -92,8 +94,8 @@ is_mixed_with tariff parts k j = is_same_unit parts k j && (is_ow tariff parts j
 abbrev pub mixes : Tariff → List Part → ℕ → Bool
 mixes tariff parts k = list_any (is_mixed_with tariff parts k) (numbers 1 k)
 
--- the last of some parts has no place in any lawful construction that begins with them: it crosses a unit, or stands in one
--- with a one way fare
+-- the last of some parts has no place in any lawful construction that begins with them: it crosses a unit, or stands in
+-- one with a one way fare
 unfoldable pub is_fruitless : Tariff → List Part → Bool
 is_fruitless tariff parts = is_crossed parts (length parts) || mixes tariff parts (length parts)
 
@@ -101,8 +103,8 @@ is_fruitless tariff parts = is_crossed parts (length parts) || mixes tariff part
 abbrev pub IsList : List Part → List Part → Type 0
 IsList one parts = parts ≡ one
 
--- of a construction and the best that was found the better one was taken: it is one of the two, and neither the construction
--- nor what was not before the best is before it
+-- of a construction and the best that was found the better one was taken: it is one of the two, and neither the
+-- construction nor what was not before the best is before it
 pub record TakesBetter (parts : List Part) (price : ℕ) (before after : Option (List Part × ℕ)) : Type 0 where
   pub chosen : (after ≡ before) ⊎ (after ≡ Some (parts, price))
   pub kept : (others : List Part) (cost : ℕ) → IsBound others cost before → IsBound others cost after

@@ -4,7 +4,7 @@ use fare_rules::Part;
 use std::marker::Model;
 
 /// How many parts a construction holds at most: one for each sector of a trip.
-const MOST: usize = 16;
+pub const MOST_PARTS: usize = 16;
 
 /// What stands in the room that no part takes.
 const BLANK: Part = Part {
@@ -13,22 +13,23 @@ const BLANK: Part = Part {
     fare: 0,
 };
 
-/// A construction: a list of at most 16 parts. It takes no memory.
+/// A construction: a list of at most `MOST_PARTS` parts. It takes no memory.
 #[derive(Drop)]
 pub struct Construction {
-    parts: [Part; 16],
+    parts: [Part; MOST_PARTS],
     count: usize,
 }
 
 impl Model for Construction {
     ghost use Rattle.std.specs.Prelude.{◌≤◌, List, take};
     ghost use Rattle.fare_rules.specs.declared.part.Part.{Part};
+    ghost use Rattle.fare_units.specs.declared.construction.TheConstants.{MOST_PARTS};
 
     ghost Value = { List Part };
 
     ghost view = { λ c. take c.count c.parts };
 
-    ghost invariant = { λ c. c.count ≤ 16 };
+    ghost invariant = { λ c. c.count ≤ MOST_PARTS };
 }
 
 impl Construction {
@@ -37,19 +38,19 @@ impl Construction {
         ensures { result ≡ [] }
     {
         Construction {
-            parts: [BLANK; MOST],
+            parts: [BLANK; MOST_PARTS],
             count: 0,
         }
     }
 
-    /// Puts a part at the end, or hands it back exactly where 16 are held; then nothing changes.
+    /// Puts a part at the end, or hands it back exactly where `MOST_PARTS` are held; then nothing changes.
     pub fn try_push(&mut self, p: Part) -> Result<(), Part>
-        ensures room { IsOk result ↔ (length self.old < 16) }
+        ensures room { IsOk result ↔ (length self.old < MOST_PARTS) }
         ensures pushed { OnOk result (self.new ≡ self.old ++ p ∷ []) }
         ensures unchanged { OnErr result (self.new ≡ self.old) }
         ensures handed_back { IfErr result (λ part. part ≡ p) }
     {
-        if self.count == MOST {
+        if self.count == MOST_PARTS {
             return Err(p);
         }
         self.parts[self.count] = p;
@@ -59,7 +60,7 @@ impl Construction {
 
     /// The same parts with one more at the end.
     pub(crate) fn with(&self, part: Part) -> Construction
-        requires { length self.now < 16 }
+        requires room { length self.now < MOST_PARTS }
         ensures { result ≡ self.now ++ part ∷ [] }
     {
         let mut longer = self.copy();
@@ -81,7 +82,7 @@ impl Construction {
     /// Its parts, in the order of travel.
     pub fn parts(&self) -> &[Part]
         ensures parts { result.now ≡ self.now }
-        ensures few { length result.now ≤ 16 }
+        ensures few { length result.now ≤ MOST_PARTS }
     {
         &self.parts[..self.count]
     }

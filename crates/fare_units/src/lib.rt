@@ -1,40 +1,32 @@
-//! Constructions and their pricing units: whether a list of parts is lawful and what it costs, which of two constructions
-//! is before the other, and the best one of a trip, found by enumerating all.
+//! Constructions and their pricing units: whether a list of parts is lawful and what it costs, which of two
+//! constructions is before the other, and the best one of a trip, found by enumerating all.
+//!
+//! - `construction`: a list of at most `MOST_PARTS` parts, in memory of its own;
+//! - `parts`: the parts by their places, the places of a unit's parts, their fares and directions;
+//! - `rules`: the rules of a lawful construction, one file a subject, and the first that is broken;
+//! - `prices`: the minimum, sum, kind and price of a unit, and the price of a construction;
+//! - `best`: the order of constructions, the walk over all of them, and the quoter that walks.
+//!
+//! Each of these stands on those above it.
 #![tactic(auto)]
 
 mod best;
-mod circle;
-mod combine;
 mod construction;
-mod countries;
-mod cover;
-mod crossing;
-mod direction;
-mod fares;
-mod lawful;
-mod order;
-mod own;
-mod part_rules;
-mod places;
-mod price;
-mod quoter;
-mod shape;
-mod shape_of_lawful;
-mod sheet;
-mod stays;
-mod unit_rules;
+mod parts;
+mod prices;
+mod rules;
 
-pub use best::plain_best;
-pub use circle::circle_minimum;
-pub use construction::Construction;
-pub use direction::{is_back, priced_back};
+pub use best::order::earlier;
+pub use best::plain::plain_best;
+pub use best::quoter::{PlainQuoter, Quoter};
+pub use construction::{Construction, MOST_PARTS};
 pub use fare_rules::{Broken, Part, UnitKind, UnitSheet};
-pub use lawful::lawful_price;
-pub use order::earlier;
-pub use places::{part_at, start_of};
-pub use quoter::{PlainQuoter, Quoter};
-pub use shape_of_lawful::{price_is_of_unbroken, unit_count};
-pub use sheet::unit_sheet;
+pub use parts::direction::{is_back, priced_back};
+pub use parts::places::{part_at, start_of};
+pub use prices::circle::circle_minimum;
+pub use prices::price::MOST_UNIT_PRICE;
+pub use prices::priced::{first_parts_advance, lawful_price, price_is_of_unbroken};
+pub use prices::sheet::{unit_count, unit_sheet};
 
 #[cfg(test)]
 mod tests;

@@ -2,7 +2,10 @@
 
 ghost use Rattle.std.specs.Prelude.{◌<◌, ◌^◌};
 
-use crate::{Construction, Part, lawful_price, plain_best};
+use crate::{
+    Construction, Part, circle_minimum, first_parts_advance, lawful_price, plain_best,
+    price_is_of_unbroken, priced_back,
+};
 use fare_codes::{
     Area, Cabin, Carrier, City, Country, Currency, Day, Indicator, Kind, Mode, Nuc, Over, Season,
 };
@@ -123,6 +126,39 @@ fn a_side_trip_is_priced(rt: HostRuntime) -> Result<(), Fail> {
         Ok(_) => return Err(Fail::from("a fare against its direction")),
         Err(broken) => assert!(rt; broken.rule == 9 && broken.place == 3),
     }
+    Ok(())
+}
+
+/// The circle minimum of the first unit over the first parts of a construction that has a price.
+fn minimum_of_first(edition: &Edition, trip: &Trip, c: &Construction, m: usize) -> Option<Nuc> {
+    let parts = c.parts();
+    if parts.len() < m || lawful_price(edition, trip, c).is_err() {
+        return None;
+    }
+    first_parts_advance(edition, trip, parts, m);
+    circle_minimum(edition, trip, &parts[..m], 1)
+}
+
+/// Whether a part of a construction that has a price is priced back, by a unit of half round trips.
+fn goes_back(edition: &Edition, trip: &Trip, c: &Construction, place: usize) -> Option<bool> {
+    match lawful_price(edition, trip, c) {
+        Err(_) => None,
+        Ok(price) => {
+            price_is_of_unbroken(edition, trip, c, price);
+            Some(priced_back(edition, trip, c.parts(), true, place))
+        }
+    }
+}
+
+#[test]
+fn the_first_parts_of_a_construction_are_asked(rt: HostRuntime) -> Result<(), Fail> {
+    let edition = three_cities(&rt, rt.alloc())?;
+    let trip = there_and_back()?;
+    let nested = by_sector([1, 2, 2, 1], [8, 9, 9, 8]);
+    let minimum = minimum_of_first(&edition, &trip, &nested, 1).ok_or("no minimum")?;
+    assert_eq!(rt; minimum.hundredths(), 20_000);
+    assert_eq!(rt; goes_back(&edition, &trip, &nested, 1), Some(false));
+    assert_eq!(rt; goes_back(&edition, &trip, &nested, 4), Some(true));
     Ok(())
 }
 

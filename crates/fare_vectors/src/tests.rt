@@ -1,4 +1,5 @@
 mod answers;
+mod calls;
 mod parts;
 mod spans;
 mod texts;

@@ -1,49 +1,39 @@
--- What a run answers to its words and the bytes of its source. Each definition looks at one thing, in the order in which the
--- refusals come: the words, the length of the source, its tariff, its itinerary, the sale day, the places, and the constructions.
-use Rattle.std.specs.Prelude.{◌≡◌, ℕ, List, Option, option_map, Result, Ok, Err, MatchResult, MatchOption, MatchBool, nat_lt, length}
-use Rattle.fare_codes.specs.Day.{day_number}
+-- What a run answers to its words and the bytes of its source. Each definition looks at one thing, in the order in
+-- which the refusals come: the words, the length of the source, its tariff, its itinerary, and its quotation.
+use Rattle.std.specs.Prelude.{◌≡◌, ℕ, List, [], ◌∷◌, Result, Ok, Err, MatchResult, MatchBool, nat_lt, length}
 use Rattle.fare_trip.specs.Itinerary.{Itinerary}
 use Rattle.fare_trip.specs.declared.fault.TripFault.{TripFault}
 use Rattle.fare_tariff.specs.Tariff.{Tariff}
 use Rattle.fare_csv.specs.TariffText.{edition_of}
-use Rattle.fare_rules.specs.declared.part.Part.{Part}
-use Rattle.fare_rules.specs.Span.{placed}
-use Rattle.fare_rules.specs.Best.{IsBestAnswer}
+use Rattle.fare_desk.specs.declared.quote_fault.QuoteFault.{QuoteFault}
+use Rattle.fare_desk.specs.declared.quote_fault.QuoteFault.TheVariants as quoting
+use Rattle.fare_desk.specs.Quotation.{Quotation, Quotes}
 use Rattle.fares.specs.declared.exit.Exit.{Exit}
 use Rattle.fares.specs.declared.exit.Exit.TheVariants as ended
-use Rattle.fares.specs.Words.{is_price}
+use Rattle.fares.specs.declared.words.Request.{Request}
+use Rattle.fares.specs.declared.words.Request.TheVariants as request
+use Rattle.fares.specs.Request.{request_of}
 use Rattle.fares.specs.Input.{itinerary_text, tariff_text, itinerary_of}
-use Rattle.fares.specs.Quotation.{quotation}
 
 -- an answer: the text to write, or what the run ends in without it
 abbrev pub Answer : Type 0
 Answer = Result (List ℕ) Exit
 
--- the price of a construction that stands with its price
-abbrev pub price_of : List Part × ℕ → ℕ
-price_of priced = priced.1
+-- the end of a run for a trip that isn't quoted
+abbrev pub quote_end : QuoteFault → Exit
+quote_end quoting.Memory = ended.Memory
+quote_end (quoting.NoEdition day) = ended.NoEdition day
+quote_end (quoting.UnknownPlace city) = ended.UnknownPlace city
 
--- a total is the price of the best construction of a trip in an edition, and there is none exactly where none is lawful
-abbrev pub IsBestTotal : Tariff → Itinerary → Option ℕ → Type 0
-IsBestTotal tariff trip total =
-    (best : Option (List Part × ℕ)) × IsBestAnswer tariff trip best × (total ≡ option_map price_of best)
+-- a quotation as an answer
+abbrev pub answer_of : Quotation → Answer
+answer_of (Ok text) = Ok text
+answer_of (Err fault) = Err (quote_end fault)
 
--- the answer to a trip all of whose places the edition knows: the quotation of the best total
-abbrev pub AnswersPlacedTrip : Tariff → Itinerary → Answer → Type 0
-AnswersPlacedTrip tariff trip answer =
-    (total : Option ℕ) × IsBestTotal tariff trip total × (answer ≡ Ok (quotation tariff total))
-
--- the answer to a trip whose sale day selects the edition: `UnknownPlace` of the first point that the edition doesn't know,
--- if there is one
-abbrev pub AnswersSelectedTrip : Tariff → Itinerary → Answer → Type 0
-AnswersSelectedTrip tariff trip answer =
-    MatchOption (placed tariff trip) (AnswersPlacedTrip tariff trip answer) (λ city. answer ≡ Err (ended.UnknownPlace city))
-
--- the answer to a trip: `NoEdition` where the edition isn't effective by the sale day
-unfoldable pub AnswersTrip : Tariff → Itinerary → Answer → Type 0
+-- the answer to a trip: its quotation over the book of the one edition
+abbrev pub AnswersTrip : Tariff → Itinerary → Answer → Type 0
 AnswersTrip tariff trip answer =
-    MatchBool (nat_lt (day_number trip.sale) (day_number tariff.effective))
-    (answer ≡ Err (ended.NoEdition trip.sale)) (AnswersSelectedTrip tariff trip answer)
+    (quotation : Quotation) × Quotes (tariff ∷ []) trip quotation × (answer ≡ answer_of quotation)
 
 -- the answer to an itinerary: `BadTrip` of its first fault, if it has one
 abbrev pub AnswersItinerary : Tariff → Result Itinerary TripFault → Answer → Type 0
@@ -66,7 +56,12 @@ abbrev pub AnswersPrice : List ℕ → Answer → Type 0
 AnswersPrice source answer =
     MatchBool (nat_lt price_limit (length source)) (answer ≡ Err ended.Limit) (AnswersSource source answer)
 
--- the answer to words and a source: `NotYet` where the words aren't taken
+-- the answer to a request: `NotYet` where that is missing, and `Usage` where the words aren't taken
+abbrev pub AnswersRequest : Request → List ℕ → Answer → Type 0
+AnswersRequest request.Price source answer = AnswersPrice source answer
+AnswersRequest request.Missing source answer = answer ≡ Err ended.NotYet
+AnswersRequest request.Nothing source answer = answer ≡ Err ended.Usage
+
+-- the answer to words and a source
 abbrev pub IsOutcome : List (List ℕ) → List ℕ → Answer → Type 0
-IsOutcome words source answer =
-    MatchBool (is_price words) (AnswersPrice source answer) (answer ≡ Err ended.NotYet)
+IsOutcome words source answer = AnswersRequest (request_of words) source answer

@@ -25,4 +25,5 @@ Answers outcome (Err exit) = (exit ≡ ended.Memory) ⊎ (IsRefusal exit × outc
 -- a reading is handed on, with its fault as the end that refuses it, or memory was wanting
 abbrev pub HandsOn : {A F : Type 0} → (F → Exit) → Result A F → Result A Exit → Type 0
 HandsOn refused reading (Ok value) = reading ≡ Ok value
-HandsOn {F = F} refused reading (Err exit) = (exit ≡ ended.Memory) ⊎ ((fault : F) × (reading ≡ Err fault) × (exit ≡ refused fault))
+HandsOn {F = F} refused reading (Err exit) =
+    (exit ≡ ended.Memory) ⊎ ((fault : F) × (reading ≡ Err fault) × (exit ≡ refused fault))

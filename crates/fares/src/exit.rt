@@ -3,6 +3,7 @@ ghost use Rattle.std.specs.Prelude.{◌≡◌};
 use fare_book::Damage;
 use fare_codes::{City, Day};
 use fare_csv::TextFault;
+use fare_desk::QuoteFault;
 use fare_outside::NoMemory;
 use fare_trip::TripFault;
 
@@ -41,7 +42,7 @@ pub enum Exit {
     NoSuch(u32),
     /// Memory was wanting.
     Memory,
-    /// The words, or the input, ask for what the program can't do yet.
+    /// The words ask for a command, or an option, that the program doesn't have yet.
     NotYet,
 }
 
@@ -82,5 +83,21 @@ impl From<NoMemory> for Exit {
 
     fn from(_: NoMemory) -> Exit {
         Exit::Memory
+    }
+}
+
+/// A trip that isn't quoted ends the run with the same reason.
+impl From<QuoteFault> for Exit {
+    ghost use Rattle.std.specs.Prelude.{◌≡◌};
+    ghost use Rattle.fares.specs.Outcome.{quote_end};
+
+    ghost from_gives = { λ fault exit. exit ≡ quote_end fault };
+
+    fn from(fault: QuoteFault) -> Exit {
+        match fault {
+            QuoteFault::Memory => Exit::Memory,
+            QuoteFault::NoEdition(day) => Exit::NoEdition(day),
+            QuoteFault::UnknownPlace(city) => Exit::UnknownPlace(city),
+        }
     }
 }

@@ -67,7 +67,11 @@ fn numbered(alloc: Global, front: &[u8], number: u32) -> Result<Vec<u8>, NoMemor
 
 /// The line of a damaged place of a store.
 fn damaged(alloc: Global, place: u32, damage: &Damage) -> Result<Vec<u8>, NoMemory>
-    ensures { IfOk result (λ text. text.items ≡ line (codes "DAMAGED " ++ decimal place ++ codes " " ++ damage_text damage.now)) }
+    ensures
+    {
+        IfOk result (λ text.
+            text.items ≡ line (codes "DAMAGED " ++ decimal place ++ codes " " ++ damage_text damage.now))
+    }
 {
     let mut text = Vec::from_slice(alloc, b"DAMAGED ")?;
     text.extend_from_slice(number_text(place).as_str().as_bytes())?;

@@ -50,7 +50,6 @@ fn behind(text: &[u8], place: usize) -> &[u8]
 }
 
 /// The edition of a tariff text.
-#[tactic(auto, unfolding(fare_csv::specs::Fields::Gives, fare_csv::specs::Fields::GivesFault))]
 pub fn edition_in<R: Threads + Sync>(rt: &R, alloc: Global, text: &[u8]) -> Result<Edition, Exit>
     ensures { HandsOn BadTariff (edition_of text.now) result }
 {

@@ -20,5 +20,5 @@ pub fn price<R: Threads + Sync>(rt: &R, alloc: Global, source: &[u8]) -> Result<
     let (itinerary, tariff) = split_source(source);
     let edition = edition_in(rt, alloc, tariff)?;
     let trip = trip_in(alloc, itinerary)?;
-    quote(rt, alloc, &edition, &trip)
+    quote(rt, alloc, edition, &trip)
 }

@@ -1,16 +1,15 @@
-ghost use Rattle.std.specs.Prelude.{◌≡◌, ◌⊎◌, ◌+◌, ◌≤◌, map, string_bytes, IfSome};
-ghost use Rattle.std.specs.Bool.{OnTrue, OnFalse};
+ghost use Rattle.std.specs.Prelude.{◌≡◌, ◌≢◌, ◌⊎◌, ◌+◌, ◌≤◌, ◌↔◌, map, string_bytes, IfSome};
 ghost use Rattle.std.specs.Io.KnownBytes.{Appends};
 ghost use Rattle.fare_outside.specs.Cause.{Rose};
 ghost use Rattle.fare_outside.specs.Source.{TakesUpTo, TakesJust};
 ghost use Rattle.fare_outside.specs.Sink.{AppendsPrefix};
-ghost use Rattle.fares.specs.Words.{is_price};
+ghost use Rattle.fares.specs.Request.{request_of};
 ghost use Rattle.fares.specs.Outcome.{price_limit, IsOutcome};
 ghost use Rattle.fares.specs.Run.{EndsIn, IsSilent, IsEndOfPrice};
 
 use crate::exit::Exit;
 use crate::price::{PRICE_LIMIT, price};
-use crate::words::is_price;
+use crate::words::{Request, request_of};
 use fare_outside::{Door, Gate, Keeper, ReadEnd, Sink, Source, read_all, write_all};
 use std::alloc::Global;
 use std::thread::Threads;
@@ -20,7 +19,8 @@ use std::thread::Threads;
 /// Where the source tells its bytes, the run ends in the answer that the words and those bytes define, or in want of
 /// memory, `ReadFault` or `WriteFault`; the last two come only where the source's and the sink's count rose in this
 /// call. All text is built before the first write, so the sink is left alone on every end but `Done` and `WriteFault`.
-/// Words that aren't taken end in `NotYet`, with the source left alone too.
+/// Words that aren't taken end in `Usage`, and those that ask for what the program doesn't have yet in `NotYet`, both
+/// with the source left alone too.
 pub fn run<R: Threads + Sync, S: Source, K: Sink, P: Keeper, D: Door, G: Gate>(
     rt: &R,
     alloc: Global,
@@ -31,16 +31,18 @@ pub fn run<R: Threads + Sync, S: Source, K: Sink, P: Keeper, D: Door, G: Gate>(
     door: &mut D,
     gate: &G,
 ) -> Exit
-    ensures answer { IfSome (S.left src.old) (λ source. EndsIn (IsOutcome (map string_bytes words.now) source) result (K.taken out.old) (K.taken out.new)) }
+    ensures answer { IfSome (S.left src.old) (λ source.
+        EndsIn (IsOutcome (map string_bytes words.now) source) result (K.taken out.old) (K.taken out.new)) }
 
     // The ends, whether the source tells its bytes or not.
-    ensures not_taken { OnFalse (is_price (map string_bytes words.now)) (result ≡ Exit.NotYet) }
-    ensures taken { OnTrue (is_price (map string_bytes words.now)) (IsEndOfPrice result) }
+    ensures usage { (result ≡ Exit.Usage) ↔ (request_of (map string_bytes words.now) ≡ Request.Nothing) }
+    ensures not_yet { (result ≡ Exit.NotYet) ↔ (request_of (map string_bytes words.now) ≡ Request.Missing) }
+    ensures taken { request_of (map string_bytes words.now) ≡ Request.Price → IsEndOfPrice result }
     ensures read_fault { result ≡ Exit.ReadFault → Rose (S.faults src.old) (S.faults src.new) }
     ensures write_fault { result ≡ Exit.WriteFault → Rose (K.faults out.old) (K.faults out.new) }
 
     // What is left alone.
-    ensures untouched { OnFalse (is_price (map string_bytes words.now)) (src.new ≡ src.old) }
+    ensures untouched { request_of (map string_bytes words.now) ≢ Request.Price → src.new ≡ src.old }
     ensures silent { IsSilent result → out.new ≡ out.old }
     ensures store { store.new ≡ store.old }
     ensures door { door.new ≡ door.old }
@@ -51,8 +53,10 @@ pub fn run<R: Threads + Sync, S: Source, K: Sink, P: Keeper, D: Door, G: Gate>(
     ensures source_count { S.faults src.old ≤ S.faults src.new }
     ensures sink_count { K.faults out.old ≤ K.faults out.new }
 {
-    if !is_price(words) {
-        return Exit::NotYet;
+    match request_of(words) {
+        Request::Nothing => return Exit::Usage,
+        Request::Missing => return Exit::NotYet,
+        Request::Price => (),
     }
     let source = match read_all(alloc, src, PRICE_LIMIT) {
         Ok(source) => source,

@@ -6,7 +6,13 @@ mod tariffs;
 use crate::exit::Exit;
 use crate::fault_line::fault_text;
 use crate::run::run;
-use cases::{Case, FAULTS, MILEAGE_AND_POINTS, ONE_SECTOR, UNITS};
+use cases::allowances::ALLOWANCES;
+use cases::mileage::MILEAGE;
+use cases::one_sector::ONE_SECTOR;
+use cases::points::POINTS;
+use cases::refusals::REFUSALS;
+use cases::units::UNITS;
+use cases::{Quotation, Refusal};
 use fare_outside::{
     Bodies, MemSink, MemSource, OpenGate, PlainDoor, PlainKeeper, PlainSink, PlainSource, Sink,
     Source,
@@ -17,19 +23,29 @@ use std::test::Fail;
 use std::thread::Threads;
 use tariffs::{END, HEAD_1, SHORT, THROUGH, TWO_PLACES};
 
-/// Runs a word over a source and a sink, with a store and a door that hold nothing.
+/// Runs words over a source and a sink, with a store and a door that hold nothing.
 fn ended<R: Threads + Sync, S: Source, K: Sink>(
     rt: &R,
     alloc: Global,
-    word: &str,
+    words: &[&str],
     source: &mut S,
     sink: &mut K,
 ) -> Result<Exit, Fail> {
-    let words = [String::from_str(alloc, word)?];
+    let mut owned = Vec::new(alloc);
+    for word in words {
+        owned.push(String::from_str(alloc, word)?)?;
+    }
     let mut store = PlainKeeper::new(Bodies::new(alloc));
     let mut door = PlainDoor::new();
     Ok(run(
-        rt, alloc, &words, source, sink, &mut store, &mut door, &OpenGate,
+        rt,
+        alloc,
+        owned.as_slice(),
+        source,
+        sink,
+        &mut store,
+        &mut door,
+        &OpenGate,
     ))
 }
 
@@ -42,44 +58,71 @@ fn joined(alloc: Global, pieces: &[&str]) -> Result<Vec<u8>, Fail> {
     Ok(bytes)
 }
 
-/// Compares what `price` ends in and writes with a case.
-fn holds<R: Threads + Sync + Abort>(rt: &R, alloc: Global, case: &Case) -> Result<(), Fail> {
+/// Compares what `price` writes of a source with the answer to it.
+fn answers<R: Threads + Sync + Abort>(rt: &R, alloc: Global, case: &Quotation) -> Result<(), Fail> {
     let mut source = PlainSource::new(joined(alloc, case.source)?);
     let mut sink = PlainSink::new(alloc, 4096)?;
-    let exit = ended(rt, alloc, "price", &mut source, &mut sink)?;
+    let exit = ended(rt, alloc, &["price"], &mut source, &mut sink)?;
+    assert!(rt; exit.status() == 0, "{}", case.text);
+    assert!(rt; sink.bytes() == case.text.as_bytes(), "{}", case.text);
+    Ok(())
+}
+
+/// Compares what `price` ends in for a source with its refusal.
+fn refuses<R: Threads + Sync + Abort>(rt: &R, alloc: Global, case: &Refusal) -> Result<(), Fail> {
+    let mut source = PlainSource::new(joined(alloc, case.source)?);
+    let mut sink = PlainSink::new(alloc, 4096)?;
+    let exit = ended(rt, alloc, &["price"], &mut source, &mut sink)?;
     assert!(rt; exit.status() == case.status, "{}", case.fault);
-    assert!(rt; sink.bytes() == case.text.as_bytes(), "{}", case.fault);
+    assert!(rt; sink.bytes().is_empty(), "{}", case.fault);
     let fault = fault_text(alloc, &exit)?;
     assert!(rt; fault.as_slice() == case.fault.as_bytes(), "{}", case.fault);
     Ok(())
 }
 
-/// Holds every case of a table.
-fn hold_all<R: Threads + Sync + Abort>(rt: &R, alloc: Global, cases: &[Case]) -> Result<(), Fail> {
+/// Compares each answer of a table.
+fn answers_all<R: Threads + Sync + Abort>(
+    rt: &R,
+    alloc: Global,
+    cases: &[Quotation],
+) -> Result<(), Fail> {
     for case in cases {
-        holds(rt, alloc, case)?;
+        answers(rt, alloc, case)?;
     }
     Ok(())
 }
 
 #[test]
 fn one_sector_is_quoted(rt: HostRuntime) -> Result<(), Fail> {
-    hold_all(&rt, rt.alloc(), ONE_SECTOR.as_slice())
+    answers_all(&rt, rt.alloc(), ONE_SECTOR.as_slice())
 }
 
 #[test]
-fn faults_are_named_in_their_order(rt: HostRuntime) -> Result<(), Fail> {
-    hold_all(&rt, rt.alloc(), FAULTS.as_slice())
+fn miles_are_priced(rt: HostRuntime) -> Result<(), Fail> {
+    answers_all(&rt, rt.alloc(), MILEAGE.as_slice())
 }
 
 #[test]
-fn mileage_and_higher_points_are_priced(rt: HostRuntime) -> Result<(), Fail> {
-    hold_all(&rt, rt.alloc(), MILEAGE_AND_POINTS.as_slice())
+fn allowances_are_taken_off(rt: HostRuntime) -> Result<(), Fail> {
+    answers_all(&rt, rt.alloc(), ALLOWANCES.as_slice())
+}
+
+#[test]
+fn higher_points_are_priced(rt: HostRuntime) -> Result<(), Fail> {
+    answers_all(&rt, rt.alloc(), POINTS.as_slice())
 }
 
 #[test]
 fn units_are_priced(rt: HostRuntime) -> Result<(), Fail> {
-    hold_all(&rt, rt.alloc(), UNITS.as_slice())
+    answers_all(&rt, rt.alloc(), UNITS.as_slice())
+}
+
+#[test]
+fn faults_are_named_in_their_order(rt: HostRuntime) -> Result<(), Fail> {
+    for case in REFUSALS.as_slice() {
+        refuses(&rt, rt.alloc(), case)?;
+    }
+    Ok(())
 }
 
 /// The source of one sector, whole.
@@ -92,7 +135,7 @@ fn a_failed_read_has_its_own_end(rt: HostRuntime) -> Result<(), Fail> {
     let alloc = rt.alloc();
     let mut source = MemSource::new(one_sector(alloc)?, vec![in alloc; 1]?);
     let mut sink = MemSink::new(alloc, 4096, Vec::new(alloc))?;
-    let exit = ended(&rt, alloc, "price", &mut source, &mut sink)?;
+    let exit = ended(&rt, alloc, &["price"], &mut source, &mut sink)?;
     assert!(rt; exit.status() == 8);
     assert!(rt; sink.bytes().is_empty());
     Ok(())
@@ -103,7 +146,7 @@ fn a_failed_write_has_its_own_end(rt: HostRuntime) -> Result<(), Fail> {
     let alloc = rt.alloc();
     let mut source = MemSource::new(one_sector(alloc)?, Vec::new(alloc));
     let mut sink = MemSink::new(alloc, 4096, vec![in alloc; 1]?)?;
-    let exit = ended(&rt, alloc, "price", &mut source, &mut sink)?;
+    let exit = ended(&rt, alloc, &["price"], &mut source, &mut sink)?;
     assert!(rt; exit.status() == 9);
     assert!(rt; sink.bytes().is_empty());
     Ok(())
@@ -114,19 +157,35 @@ fn a_full_sink_has_a_prefix(rt: HostRuntime) -> Result<(), Fail> {
     let alloc = rt.alloc();
     let mut source = PlainSource::new(one_sector(alloc)?);
     let mut sink = PlainSink::new(alloc, 10)?;
-    let exit = ended(&rt, alloc, "price", &mut source, &mut sink)?;
+    let exit = ended(&rt, alloc, &["price"], &mut source, &mut sink)?;
     assert!(rt; exit.status() == 9);
     assert!(rt; sink.bytes() == b"EDITION 1 ".as_slice());
     Ok(())
 }
 
+/// The status of words over the source of one sector, of which nothing is written.
+fn status_of<R: Threads + Sync + Abort>(rt: &R, alloc: Global, words: &[&str]) -> Result<u8, Fail> {
+    let mut source = PlainSource::new(one_sector(alloc)?);
+    let mut sink = PlainSink::new(alloc, 4096)?;
+    let exit = ended(rt, alloc, words, &mut source, &mut sink)?;
+    assert!(rt; sink.bytes().is_empty());
+    Ok(exit.status())
+}
+
 #[test]
 fn other_words_are_not_taken(rt: HostRuntime) -> Result<(), Fail> {
     let alloc = rt.alloc();
-    let mut source = PlainSource::new(one_sector(alloc)?);
-    let mut sink = PlainSink::new(alloc, 4096)?;
-    let exit = ended(&rt, alloc, "quote", &mut source, &mut sink)?;
-    assert!(rt; exit.status() == 30);
-    assert!(rt; sink.bytes().is_empty());
+    assert!(rt; status_of(&rt, alloc, &[])? == 2);
+    assert!(rt; status_of(&rt, alloc, &["prices"])? == 2);
+    assert!(rt; status_of(&rt, alloc, &["price", "LON"])? == 2);
+    Ok(())
+}
+
+#[test]
+fn missing_commands_and_options_are_told(rt: HostRuntime) -> Result<(), Fail> {
+    let alloc = rt.alloc();
+    assert!(rt; status_of(&rt, alloc, &["quote", "--store", "editions"])? == 30);
+    assert!(rt; status_of(&rt, alloc, &["price", "--workers", "2"])? == 30);
+    assert!(rt; status_of(&rt, alloc, &["price", "--best=3"])? == 30);
     Ok(())
 }

@@ -1,28 +1,31 @@
-//! What a fare must be for a span: the places between which it runs, its indicator, its class, its carrier and its season.
+//! What a fare must be for a span: the places between which it runs, its indicator, its class, its carrier and its
+//! season.
 
 ghost use Rattle.std.specs.Prelude.{◌≡◌, ◌<◌, ◌≤◌};
 ghost use Rattle.std.specs.List.{list_all};
 ghost use Rattle.fare_trip.specs.Itinerary.{count};
 ghost use Rattle.fare_rules.specs.Span.{sectors};
-ghost use Rattle.fare_rules.specs.ComponentAmount.{is_filed_between, runs_between, is_half_round_trip, may_be_priced, has_indicator, rank, covers_cabin, covers_cabins, is_carried_by, covers_carriers, in_season};
+ghost use Rattle.fare_rules.specs.ComponentAmount.{is_filed_between, runs_between, is_half_round_trip, may_be_priced};
+ghost use Rattle.fare_rules.specs.ComponentAmount.{has_indicator, rank, covers_cabin, covers_cabins, is_carried_by};
+ghost use Rattle.fare_rules.specs.ComponentAmount.{covers_carriers, in_season};
 
 use fare_codes::{Cabin, Carrier, City, Kind};
 use fare_points::{every_carrier, indicator};
-use fare_tariff::{Edition, FareRec, same_carriers, same_cities, same_indicators};
+use fare_tariff::{Edition, FareRec};
 use fare_trip::Trip;
 
 /// Whether a fare is filed from a city to another.
 fn is_filed_between(fare: &FareRec, from: City, to: City) -> bool
     ensures { result ≡ is_filed_between fare.now from to }
 {
-    same_cities(fare.from, from) && same_cities(fare.to, to)
+    fare.from.is(from) && fare.to.is(to)
 }
 
 /// Whether a fare runs between the ends of a span: from its start, or from its end where it is priced back.
 #[tactic(auto, unfolding(fare_rules::specs::ComponentAmount::runs_between))]
 pub fn runs_between(trip: &Trip, a: usize, b: usize, back: bool, fare: &FareRec) -> bool
     requires start { a ≤ count trip.now }
-    requires end { b ≤ count trip.now }
+    requires within { b ≤ count trip.now }
     ensures { result ≡ runs_between trip.now a b back fare.now }
 {
     if back {
@@ -40,7 +43,7 @@ fn is_half_round_trip(fare: &FareRec) -> bool
 }
 
 /// Whether a fare may be priced in a direction, back or not: only a half round trip is priced back.
-pub fn may_be_priced(back: bool, fare: &FareRec) -> bool
+pub fn may_be_priced(fare: &FareRec, back: bool) -> bool
     ensures { result ≡ may_be_priced back fare.now }
 {
     !back || is_half_round_trip(fare)
@@ -50,10 +53,10 @@ pub fn may_be_priced(back: bool, fare: &FareRec) -> bool
 #[tactic(auto, unfolding(fare_rules::specs::ComponentAmount::has_indicator))]
 pub fn has_indicator(edition: &Edition, trip: &Trip, a: usize, b: usize, fare: &FareRec) -> bool
     requires rises { a < b }
-    requires ends { b ≤ count trip.now }
+    requires within { b ≤ count trip.now }
     ensures { result ≡ has_indicator edition.now trip.now a b fare.now }
 {
-    same_indicators(fare.ind, indicator(edition, trip, a, b))
+    fare.ind.is(indicator(edition, trip, a, b))
 }
 
 /// The rank of a cabin, or of a class.
@@ -68,9 +71,9 @@ fn rank(cabin: Cabin) -> u32
 }
 
 /// Whether a class has at least the rank of the cabin of a sector.
-fn covers_cabin(trip: &Trip, class: Cabin, number: usize) -> bool
+fn covers_cabin(trip: &Trip, number: usize, class: Cabin) -> bool
     requires from_one { 1 ≤ number }
-    requires to_count { number ≤ count trip.now }
+    requires within { number ≤ count trip.now }
     ensures { result ≡ covers_cabin trip.now class number }
 {
     rank(trip.sector(number).cabin) <= rank(class)
@@ -79,11 +82,11 @@ fn covers_cabin(trip: &Trip, class: Cabin, number: usize) -> bool
 /// Whether the class of a fare covers the cabins of a span: it has at least the rank of each sector's cabin.
 #[tactic(auto, using(fare_rules::proofs::NumberLemmas::all_next, fare_rules::proofs::NumberLemmas::all_done), unfolding(fare_rules::specs::ComponentAmount::covers_cabins))]
 pub fn covers_cabins(trip: &Trip, a: usize, b: usize, fare: &FareRec) -> bool
-    requires { b ≤ count trip.now }
+    requires within { b ≤ count trip.now }
     ensures { result ≡ covers_cabins trip.now a b fare.now }
 {
     for i in a..b {
-        if !covers_cabin(trip, fare.class, i + 1) {
+        if !covers_cabin(trip, i + 1, fare.class) {
             return false;
         }
     }
@@ -92,12 +95,12 @@ pub fn covers_cabins(trip: &Trip, a: usize, b: usize, fare: &FareRec) -> bool
 
 /// Whether every sector of a span is by a carrier.
 #[tactic(auto, using(fare_rules::proofs::NumberLemmas::all_next, fare_rules::proofs::NumberLemmas::all_done))]
-fn all_carried_by(trip: &Trip, carrier: Carrier, a: usize, b: usize) -> bool
-    requires { b ≤ count trip.now }
+fn all_carried_by(trip: &Trip, a: usize, b: usize, carrier: Carrier) -> bool
+    requires within { b ≤ count trip.now }
     ensures { result ≡ list_all (is_carried_by trip.now carrier) (sectors a b) }
 {
     for i in a..b {
-        if !same_carriers(trip.sector(i + 1).carrier, carrier) {
+        if !trip.sector(i + 1).carrier.is(carrier) {
             return false;
         }
     }
@@ -107,10 +110,10 @@ fn all_carried_by(trip: &Trip, carrier: Carrier, a: usize, b: usize) -> bool
 /// Whether the carrier of a fare is `YY` or that of each sector of a span.
 #[tactic(auto, unfolding(fare_rules::specs::ComponentAmount::covers_carriers))]
 pub fn covers_carriers(trip: &Trip, a: usize, b: usize, fare: &FareRec) -> bool
-    requires { b ≤ count trip.now }
+    requires within { b ≤ count trip.now }
     ensures { result ≡ covers_carriers trip.now a b fare.now }
 {
-    same_carriers(fare.carrier, every_carrier()) || all_carried_by(trip, fare.carrier, a, b)
+    fare.carrier.is(every_carrier()) || all_carried_by(trip, a, b, fare.carrier)
 }
 
 /// Whether the season of a fare holds the day of the first sector of what begins at a point.

@@ -5,13 +5,12 @@ ghost use Rattle.fare_trip.specs.Itinerary.{count};
 ghost use Rattle.fare_rules.specs.Span.{holds_surface, stopovers, transfers};
 ghost use Rattle.fare_rules.specs.ComponentAmount.{is_repeated, repeats_city};
 
-use fare_tariff::same_cities;
 use fare_trip::Trip;
 
 /// Whether a span holds a surface sector.
 #[tactic(auto, using(fare_rules::proofs::NumberLemmas::any_next, fare_rules::proofs::NumberLemmas::any_done))]
 pub fn holds_surface(trip: &Trip, a: usize, b: usize) -> bool
-    requires { b ≤ count trip.now }
+    requires within { b ≤ count trip.now }
     ensures { result ≡ holds_surface trip.now a b }
 {
     for i in a..b {
@@ -25,11 +24,11 @@ pub fn holds_surface(trip: &Trip, a: usize, b: usize) -> bool
 /// Whether a point is the city of an earlier point of a span that begins at another.
 #[tactic(auto, using(fare_rules::proofs::NumberLemmas::any_next, fare_rules::proofs::NumberLemmas::any_done))]
 fn is_repeated(trip: &Trip, a: usize, i: usize) -> bool
-    requires { i ≤ count trip.now }
+    requires within { i ≤ count trip.now }
     ensures { result ≡ is_repeated trip.now a i }
 {
     for j in a..i {
-        if same_cities(trip.point(i), trip.point(j)) {
+        if trip.point(i).is(trip.point(j)) {
             return true;
         }
     }
@@ -39,7 +38,7 @@ fn is_repeated(trip: &Trip, a: usize, i: usize) -> bool
 /// Whether two points of a span are one city.
 #[tactic(auto, using(fare_rules::proofs::NumberLemmas::any_next, fare_rules::proofs::NumberLemmas::any_done), unfolding(fare_rules::specs::ComponentAmount::repeats_city))]
 pub fn repeats_city(trip: &Trip, a: usize, b: usize) -> bool
-    requires { b ≤ count trip.now }
+    requires within { b ≤ count trip.now }
     ensures { result ≡ repeats_city trip.now a b }
 {
     let count = trip.count();
@@ -56,7 +55,7 @@ pub fn repeats_city(trip: &Trip, a: usize, b: usize) -> bool
 #[tactic(auto, using(crate::proofs::Counts::count_next, crate::proofs::Counts::count_done))]
 pub(crate) fn stopovers(trip: &Trip, a: usize, b: usize) -> u32
     requires rises { a < b }
-    requires ends { b ≤ count trip.now }
+    requires within { b ≤ count trip.now }
     ensures { result ≡ length (stopovers trip.now a b) }
 {
     let count = trip.count();
@@ -74,7 +73,7 @@ pub(crate) fn stopovers(trip: &Trip, a: usize, b: usize) -> u32
 #[tactic(auto, using(crate::proofs::Counts::count_next, crate::proofs::Counts::count_done))]
 pub(crate) fn transfers(trip: &Trip, a: usize, b: usize) -> u32
     requires rises { a < b }
-    requires ends { b ≤ count trip.now }
+    requires within { b ≤ count trip.now }
     ensures { result ≡ length (transfers trip.now a b) }
 {
     let count = trip.count();

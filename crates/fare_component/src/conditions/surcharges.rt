@@ -8,6 +8,7 @@ ghost use Rattle.fare_rules.specs.Mileage.{surcharge_of};
 use crate::conditions::terms::is_allowed;
 use fare_mileage::{Mileage, mileage};
 use fare_points::indicator;
+use fare_rules::MOST_SURCHARGE;
 use fare_tariff::{Edition, FareRec};
 use fare_trip::Trip;
 
@@ -26,9 +27,9 @@ fn surcharge_of(mileage: Mileage) -> Option<u32>
 #[tactic(auto, unfolding(fare_rules::specs::ComponentAmount::span_surcharge))]
 pub(crate) fn span_surcharge(edition: &Edition, trip: &Trip, a: usize, b: usize) -> Option<u32>
     requires rises { a < b }
-    requires ends { b ≤ count trip.now }
+    requires within { b ≤ count trip.now }
     ensures value { result ≡ span_surcharge edition.now trip.now a b }
-    ensures bound { IfSome result (λ step. step ≤ 25) }
+    ensures bound { IfSome result (λ step. step ≤ MOST_SURCHARGE) }
 {
     let ind = indicator(edition, trip, a, b);
     surcharge_of(mileage(edition, trip, a, b, ind))
@@ -37,18 +38,18 @@ pub(crate) fn span_surcharge(edition: &Edition, trip: &Trip, a: usize, b: usize)
 /// Whether the mileage of a span lets a fare be used.
 pub fn mileage_holds(edition: &Edition, trip: &Trip, a: usize, b: usize) -> bool
     requires rises { a < b }
-    requires ends { b ≤ count trip.now }
+    requires within { b ≤ count trip.now }
     ensures { result ≡ mileage_holds edition.now trip.now a b }
 {
     span_surcharge(edition, trip, a, b).is_some()
 }
 
-/// Whether the rule of a fare allows the surcharge that the mileage of a span asks for; true where the mileage lets no fare
-/// be used.
+/// Whether the rule of a fare allows the surcharge that the mileage of a span asks for; true where the mileage lets no
+/// fare be used.
 #[tactic(auto, unfolding(fare_rules::specs::ComponentAmount::excess_holds))]
 pub fn excess_holds(edition: &Edition, trip: &Trip, a: usize, b: usize, fare: &FareRec) -> bool
     requires rises { a < b }
-    requires ends { b ≤ count trip.now }
+    requires within { b ≤ count trip.now }
     ensures { result ≡ excess_holds edition.now trip.now a b fare.now }
 {
     is_allowed(edition, fare, span_surcharge(edition, trip, a, b))

@@ -21,7 +21,7 @@ fn terms_of_fare(edition: &Edition, fare: &FareRec) -> Option<Terms>
 #[tactic(auto, unfolding(fare_rules::specs::Terms::stops_hold))]
 pub fn stops_hold(edition: &Edition, trip: &Trip, a: usize, b: usize, fare: &FareRec) -> bool
     requires rises { a < b }
-    requires ends { b ≤ count trip.now }
+    requires within { b ≤ count trip.now }
     ensures { result ≡ stops_hold edition.now trip.now a b fare.now }
 {
     match terms_of_fare(edition, fare) {
@@ -35,7 +35,7 @@ pub fn stops_hold(edition: &Edition, trip: &Trip, a: usize, b: usize, fare: &Far
 #[tactic(auto, unfolding(fare_rules::specs::Terms::transfers_hold))]
 pub fn transfers_hold(edition: &Edition, trip: &Trip, a: usize, b: usize, fare: &FareRec) -> bool
     requires rises { a < b }
-    requires ends { b ≤ count trip.now }
+    requires within { b ≤ count trip.now }
     ensures { result ≡ transfers_hold edition.now trip.now a b fare.now }
 {
     match terms_of_fare(edition, fare) {
@@ -66,7 +66,8 @@ pub fn advance_holds(edition: &Edition, trip: &Trip, fare: &FareRec) -> bool
     }
 }
 
-/// Whether the rule of a fare allows a surcharge, where there is one: it allows one of 0, and any where it allows an excess.
+/// Whether the rule of a fare allows a surcharge, where there is one: it allows one of 0, and any where it allows an
+/// excess.
 pub(crate) fn is_allowed(edition: &Edition, fare: &FareRec, surcharge: Option<u32>) -> bool
     ensures { result ≡ is_allowed edition.now fare.now surcharge }
 {

@@ -12,10 +12,15 @@ ghost use Rattle.fare_rules.specs.Completion.{first_part_choices};
 /// Where a construction is lawful, the component amount of each part is defined, with the part's direction. So the
 /// rules by their numbers ask for no less than Component amount does.
 pub fn parts_have_amounts()
-    ensures { (tariff : Tariff) (trip : Itinerary) (parts : List Part) (price k : ℕ) → IsLawful tariff trip parts price → 1 ≤ k → k ≤ length parts → (amount : Amount) × (component_amount tariff trip (start_of trip parts k) (end_of parts k) (part_at parts k).fare (is_back tariff trip parts k) ≡ Some amount) }
+    ensures { (tariff : Tariff) (trip : Itinerary) (parts : List Part) (price k : ℕ) → IsLawful tariff trip parts price
+        → 1 ≤ k → k ≤ length parts
+        → (amount : Amount) × (component_amount tariff trip (start_of trip parts k) (end_of parts k)
+        (part_at parts k).fare (is_back tariff trip parts k) ≡ Some amount) }
 {}
 
 /// The first part of every lawful construction is one of the first-part choices, since a first part is priced out.
 pub fn first_part_is_a_choice()
-    ensures { (tariff : Tariff) (trip : Itinerary) (parts : List Part) (price : ℕ) → 0 < count trip → IsLawful tariff trip parts price → (first : Part) × (rest : List Part) × (parts ≡ first ∷ rest) × Contains (first_part_choices tariff trip) (first.end, first.fare) }
+    ensures { (tariff : Tariff) (trip : Itinerary) (parts : List Part) (price : ℕ) → 0 < count trip
+        → IsLawful tariff trip parts price → (first : Part) × (rest : List Part) × (parts ≡ first ∷ rest)
+        × Contains (first_part_choices tariff trip) (first.end, first.fare) }
 {}

@@ -9,6 +9,8 @@ ghost use Rattle.fare_rules.specs.Best.{IsLawful};
 /// The rules by their numbers say what Lawful says in words. A construction that meets the rules in words breaks none
 /// by number, and costs the sum of its units; and one that breaks none by number meets them in words.
 pub fn lawful_in_words()
-    ensures priced { (tariff : Tariff) (trip : Itinerary) (parts : List Part) → MeetsTheRules tariff trip parts → lawful_price tariff trip parts ≡ Ok (price tariff trip parts) }
-    ensures met { (tariff : Tariff) (trip : Itinerary) (parts : List Part) (cost : ℕ) → IsLawful tariff trip parts cost → MeetsTheRules tariff trip parts }
+    ensures priced { (tariff : Tariff) (trip : Itinerary) (parts : List Part) → MeetsTheRules tariff trip parts
+        → lawful_price tariff trip parts ≡ Ok (price tariff trip parts) }
+    ensures met { (tariff : Tariff) (trip : Itinerary) (parts : List Part) (cost : ℕ) → IsLawful tariff trip parts cost
+        → MeetsTheRules tariff trip parts }
 {}

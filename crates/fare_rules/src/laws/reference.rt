@@ -13,11 +13,14 @@ ghost use Rattle.fare_rules.specs.Valid.{HasNoFareToItself};
 
 /// There is no reference from a city to itself.
 pub fn no_reference_to_itself()
-    ensures { (tariff : Tariff) (city : City) (ind : Indicator) (fare : FareRecord) (on : Day) → HasNoFareToItself tariff → reference tariff city city ind fare on ≡ None }
+    ensures { (tariff : Tariff) (city : City) (ind : Indicator) (fare : FareRecord) (on : Day)
+        → HasNoFareToItself tariff → reference tariff city city ind fare on ≡ None }
 {}
 
 /// The circle minimum of a unit that closes, which leaves out the end of its last part, is that over all its parts
 /// with their ends.
 pub fn circle_minimum_takes_each_end()
-    ensures { (tariff : Tariff) (trip : Itinerary) (parts : List Part) (own : List ℕ) → HasNoFareToItself tariff → closes trip parts own ≡ true → unit_circle_minimum tariff trip parts own ≡ circle_minimum tariff trip parts own }
+    ensures { (tariff : Tariff) (trip : Itinerary) (parts : List Part) (own : List ℕ) → HasNoFareToItself tariff
+        → closes trip parts own ≡ true
+        → unit_circle_minimum tariff trip parts own ≡ circle_minimum tariff trip parts own }
 {}

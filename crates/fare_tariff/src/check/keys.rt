@@ -1,16 +1,14 @@
 //! Records with the same key, and fares whose seasons overlap.
 
 ghost use Rattle.std.specs.Prelude.{◌≡◌, ◌<◌, ◌≤◌, length, position, IfSome};
-ghost use Rattle.fare_tariff.specs.Check.{same_season, key_of, is_fare_of, same_via, is_allowance_of, has_key_of, first_number, seasons_overlap, is_fare_over, overlap_of};
+ghost use Rattle.fare_tariff.specs.Check.{key_of, is_fare_of, is_allowance_of, has_key_of, first_number};
+ghost use Rattle.fare_tariff.specs.Check.{seasons_overlap, is_fare_over, overlap_of};
 
-use crate::extra_mileage_record::EmaRec;
-use crate::fare_key::FareKey;
-use crate::fare_record::FareRec;
+use crate::check::seasons::seasons_overlap;
+use crate::limits::MOST_RECORDS;
 use crate::look_up::{city_in, currency_in, has_key, mpm_in, number_at, rule_in, tpm_in};
-use crate::record::Record;
-use crate::same::{same_cities, same_indicators, same_pairs};
-use crate::seasons::{same_seasons, seasons_overlap};
-use fare_codes::{City, Season};
+use crate::records::{EmaRec, FareKey, FareRec, Record, same_pairs, same_vias};
+use fare_codes::Season;
 
 /// The key of a filed fare without its season.
 fn key_of(fare: &FareRec) -> FareKey
@@ -32,18 +30,7 @@ fn is_fare_of(key: &FareKey, season: &Season, one: &Record) -> bool
     ensures { result ≡ is_fare_of key.now season.now one.now }
 {
     match one {
-        Record::Fare(filed) => has_key(key, filed) && same_seasons(&filed.season, season),
-        _ => false,
-    }
-}
-
-/// Whether two via fields are the same.
-fn same_vias(a: &Option<City>, b: &Option<City>) -> bool
-    ensures { result ≡ same_via a.now b.now }
-{
-    match (a, b) {
-        (None, None) => true,
-        (Some(a), Some(b)) => same_cities(*a, *b),
+        Record::Fare(filed) => has_key(key, filed) && filed.season.is(*season),
         _ => false,
     }
 }
@@ -55,7 +42,7 @@ fn is_allowance_of(key: &EmaRec, one: &Record) -> bool
     match one {
         Record::Ema(filed) => {
             same_pairs(filed.from, filed.to, key.from, key.to)
-                && same_indicators(filed.ind, key.ind)
+                && filed.ind.is(key.ind)
                 && same_vias(&filed.via, &key.via)
         }
         _ => false,
@@ -87,7 +74,7 @@ fn first_of_key(earlier: &[Record], one: &Record) -> Option<usize>
 
 /// The number of the first earlier record with the same key.
 pub(crate) fn duplicate_of(earlier: &[Record], one: &Record) -> Option<u32>
-    requires { length earlier.now ≤ 400_000 }
+    requires { length earlier.now ≤ MOST_RECORDS }
     ensures { result ≡ first_number (has_key_of one.now) earlier.now }
 {
     number_at(first_of_key(earlier, one))
@@ -115,7 +102,7 @@ fn first_over(earlier: &[Record], key: &FareKey, season: &Season) -> Option<usiz
 
 /// The number of the first earlier fare with a fare's key whose season overlaps its season.
 fn first_overlap(earlier: &[Record], fare: &FareRec) -> Option<u32>
-    requires { length earlier.now ≤ 400_000 }
+    requires { length earlier.now ≤ MOST_RECORDS }
     ensures { result ≡ first_number (is_fare_over (key_of fare.now) fare.now.season) earlier.now }
 {
     number_at(first_over(earlier, &key_of(fare), &fare.season))
@@ -123,7 +110,7 @@ fn first_overlap(earlier: &[Record], fare: &FareRec) -> Option<u32>
 
 /// The number of the first earlier fare with a record's key whose season overlaps its season.
 pub(crate) fn overlap_of(earlier: &[Record], one: &Record) -> Option<u32>
-    requires { length earlier.now ≤ 400_000 }
+    requires { length earlier.now ≤ MOST_RECORDS }
     ensures { result ≡ overlap_of earlier.now one.now }
 {
     match one {

@@ -6,16 +6,16 @@ ghost use Rattle.fare_tariff.specs.Check.{kind_of, first_fault};
 use crate::check::keys::{duplicate_of, overlap_of};
 use crate::check::names::{names_unknown_city, names_unknown_currency, names_unknown_rule};
 use crate::check::numbers::{has_same_points, is_one_too_many, is_zero_mileage};
-use crate::check_fault::CheckFault;
-use crate::check_kind::CheckKind;
-use crate::record::Record;
+use crate::check::{CheckFault, CheckKind};
+use crate::limits::MOST_RECORDS;
+use crate::records::Record;
 
 /// The least kind of a record of a list that has these before it.
 #[tactic(auto, unfolding(crate::specs::Check::kind_of))]
 fn kind_of(records: &[Record], earlier: &[Record], one: &Record) -> Option<CheckKind>
-    requires { length earlier.now ≤ 400_000 }
+    requires { length earlier.now ≤ MOST_RECORDS }
     ensures kind { result ≡ kind_of records.now earlier.now one.now }
-    ensures within { IfNone result (length earlier.now < 400_000) }
+    ensures within { IfNone result (length earlier.now < MOST_RECORDS) }
 {
     if let Some(first) = duplicate_of(earlier, one) {
         return Some(CheckKind::Duplicate(first));
@@ -38,7 +38,7 @@ fn kind_of(records: &[Record], earlier: &[Record], one: &Record) -> Option<Check
     if is_zero_mileage(one) {
         return Some(CheckKind::ZeroMileage);
     }
-    if earlier.len() > 399_999 {
+    if earlier.len() >= MOST_RECORDS {
         return Some(CheckKind::OutOfLimit);
     }
     overlap_of(earlier, one).map(|first| CheckKind::Overlap(first))

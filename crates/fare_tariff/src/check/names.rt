@@ -3,10 +3,11 @@
 ghost use Rattle.std.specs.Prelude.{◌≡◌};
 ghost use Rattle.std.specs.List.{list_any};
 ghost use Rattle.std.specs.Option.{option_to_list};
-ghost use Rattle.fare_tariff.specs.Check.{is_unknown_city, is_one_unknown, names_unknown_city, is_unknown_rule, names_unknown_rule, names_unknown_currency};
+ghost use Rattle.fare_tariff.specs.Check.{is_unknown_city, is_one_unknown, names_unknown_city, is_unknown_rule};
+ghost use Rattle.fare_tariff.specs.Check.{names_unknown_rule, names_unknown_currency};
 
 use crate::look_up::{city_record, currency_record, rule_record};
-use crate::record::Record;
+use crate::records::Record;
 use fare_codes::{City, RuleId};
 
 /// Whether a city has no record.

@@ -4,9 +4,9 @@ ghost use Rattle.std.specs.Prelude.{◌≡◌, ◌≤◌, length, count_by};
 ghost use Rattle.fare_tariff.specs.Lookup.{is_fare_between};
 ghost use Rattle.fare_tariff.specs.Check.{is_one_too_many, has_same_points, is_zero_mileage};
 
+use crate::limits::MOST_FARES_BETWEEN;
 use crate::look_up::is_fare_between;
-use crate::record::Record;
-use crate::same::same_cities;
+use crate::records::Record;
 use fare_codes::{City, Indicator};
 
 /// How many records are fares from a city to another for an indicator.
@@ -19,12 +19,12 @@ fn fares_between(records: &[Record], from: City, to: City, ind: Indicator) -> us
         .count()
 }
 
-/// Whether at least 64 of the earlier records are fares with the from, to and indicator of this fare.
+/// Whether as many of the earlier records as there may be are fares with the from, to and indicator of this fare.
 pub(crate) fn is_one_too_many(earlier: &[Record], one: &Record) -> bool
     ensures { result ≡ is_one_too_many earlier.now one.now }
 {
     match one {
-        Record::Fare(r) => fares_between(earlier, r.from, r.to, r.ind) >= 64,
+        Record::Fare(r) => fares_between(earlier, r.from, r.to, r.ind) >= MOST_FARES_BETWEEN,
         _ => false,
     }
 }
@@ -34,10 +34,10 @@ pub(crate) fn has_same_points(one: &Record) -> bool
     ensures { result ≡ has_same_points one.now }
 {
     match one {
-        Record::Fare(r) => same_cities(r.from, r.to),
-        Record::Mpm(r) => same_cities(r.from, r.to),
-        Record::Tpm(r) => same_cities(r.from, r.to),
-        Record::Ema(r) => same_cities(r.from, r.to),
+        Record::Fare(r) => r.from.is(r.to),
+        Record::Mpm(r) => r.from.is(r.to),
+        Record::Tpm(r) => r.from.is(r.to),
+        Record::Ema(r) => r.from.is(r.to),
         _ => false,
     }
 }

@@ -1,18 +1,16 @@
 //! Fares, by their record numbers and their keys.
 
-ghost use Rattle.std.specs.Prelude.{◌≡◌, ◌-◌, ◌<◌, ◌≤◌, ◌^◌, length, nat_le, IfSome, OnSome, IsSomeAnd, option_map, option_and_then, position, slice_get, if◌then◌else◌, None};
+ghost use Rattle.std.specs.Prelude.{◌≡◌, ◌+◌, ◌-◌, ◌<◌, ◌≤◌, length, nat_le, IfSome, OnSome, IsSomeAnd, option_map};
+ghost use Rattle.std.specs.Prelude.{option_and_then, position, slice_get, if◌then◌else◌, None};
 ghost use Rattle.std.specs.Option.{option_copied};
 ghost use Rattle.fare_tariff.specs.Filed.{IsFiledFare, IsFareOn, IsFareBetween};
-ghost use Rattle.fare_tariff.specs.Lookup.{fare_in, has_key, is_fare_on, is_fare_between, number_at, numbers_from, fare_number, fare_at, nth_fare};
+ghost use Rattle.fare_tariff.specs.Lookup.{fare_in, has_key, is_fare_on, is_fare_between, number_at, numbers_from};
+ghost use Rattle.fare_tariff.specs.Lookup.{fare_number, fare_at, nth_fare};
 
 use crate::edition::Edition;
-use crate::fare_key::FareKey;
-use crate::fare_record::FareRec;
-use crate::record::Record;
-use crate::same::{
-    same_cabins, same_carriers, same_cities, same_indicators, same_kinds, same_rules,
-};
-use fare_codes::{City, Indicator, MonthDay};
+use crate::limits::{MOST_FARES_BETWEEN, MOST_RECORDS};
+use crate::records::{FareKey, FareRec, Record, same_rules};
+use fare_codes::{City, FARE_LIMIT, Indicator, MonthDay};
 
 impl Edition {
     /// The record number of the fare with this key whose season holds a day; nothing means that no record has the key
@@ -28,8 +26,8 @@ impl Edition {
     pub fn fare_at(&self, number: u32) -> Option<&FareRec>
         ensures fare { option_copied result ≡ fare_at self.now number }
         ensures filed { IfSome result (λ fare. IsFiledFare self.now fare.now) }
-        ensures in_limit { OnSome result (number ≤ 400_001) }
-        ensures in_range { IfSome result (λ fare. fare.now.amount < 10 ^ 9) }
+        ensures in_limit { OnSome result (number ≤ MOST_RECORDS + 1) }
+        ensures in_range { IfSome result (λ fare. fare.now.amount < FARE_LIMIT) }
     {
         fare_record(self.records(), number)
     }
@@ -39,7 +37,7 @@ impl Edition {
     pub fn nth_fare(&self, from: City, to: City, ind: Indicator, k: u32) -> Option<u32>
         ensures number { result ≡ nth_fare self.now from to ind k }
         ensures filed { IfSome result (λ number. IsSomeAnd (fare_at self.now number) (IsFareBetween from to ind)) }
-        ensures few { OnSome result (k < 64) }
+        ensures few { OnSome result (k < MOST_FARES_BETWEEN) }
     {
         nth_fare_number(self.records(), from, to, ind, k)
     }
@@ -48,7 +46,7 @@ impl Edition {
 /// The fare that a record files, if any.
 fn fare_in(one: &Record) -> Option<&FareRec>
     ensures fare { option_copied result ≡ fare_in one.now }
-    ensures in_range { IfSome result (λ fare. fare.now.amount < 10 ^ 9) }
+    ensures in_range { IfSome result (λ fare. fare.now.amount < FARE_LIMIT) }
 {
     match one {
         Record::Fare(filed) => {
@@ -61,8 +59,9 @@ fn fare_in(one: &Record) -> Option<&FareRec>
 
 /// The fare that the record of a number files.
 fn fare_record(records: &[Record], number: u32) -> Option<&FareRec>
-    ensures fare { option_copied result ≡ (if nat_le 2 number then option_and_then fare_in (slice_get records.now (number - 2)) else None) }
-    ensures in_range { IfSome result (λ fare. fare.now.amount < 10 ^ 9) }
+    ensures fare { option_copied result ≡ (if nat_le 2 number
+        then option_and_then fare_in (slice_get records.now (number - 2)) else None) }
+    ensures in_range { IfSome result (λ fare. fare.now.amount < FARE_LIMIT) }
 {
     if number < 2 {
         return None;
@@ -77,12 +76,12 @@ fn fare_record(records: &[Record], number: u32) -> Option<&FareRec>
 pub(crate) fn has_key(key: &FareKey, fare: &FareRec) -> bool
     ensures { result ≡ has_key key.now fare.now }
 {
-    same_cities(fare.from, key.from)
-        && same_cities(fare.to, key.to)
-        && same_indicators(fare.ind, key.ind)
-        && same_carriers(fare.carrier, key.carrier)
-        && same_cabins(fare.class, key.class)
-        && same_kinds(fare.kind, key.kind)
+    fare.from.is(key.from)
+        && fare.to.is(key.to)
+        && fare.ind.is(key.ind)
+        && fare.carrier.is(key.carrier)
+        && fare.class.is(key.class)
+        && fare.kind.is(key.kind)
         && same_rules(&fare.rule, &key.rule)
 }
 
@@ -106,7 +105,7 @@ fn fare_place(records: &[Record], key: &FareKey, on: MonthDay) -> Option<usize>
 
 /// The record number of the record at a place.
 pub(crate) fn number_at(place: Option<usize>) -> Option<u32>
-    requires { IfSome place (λ at. at < 400_000) }
+    requires { IfSome place (λ at. at < MOST_RECORDS) }
     ensures { result ≡ option_map number_at place }
 {
     match place {
@@ -117,7 +116,7 @@ pub(crate) fn number_at(place: Option<usize>) -> Option<u32>
 
 /// The record number of the fare with a key whose season holds a day.
 fn fare_number(records: &[Record], key: &FareKey, on: MonthDay) -> Option<u32>
-    requires { length records.now ≤ 400_000 }
+    requires { length records.now ≤ MOST_RECORDS }
     ensures { result ≡ option_map number_at (position (is_fare_on key.now on) records.now) }
 {
     number_at(fare_place(records, key, on))
@@ -128,11 +127,7 @@ pub(crate) fn is_fare_between(from: City, to: City, ind: Indicator, one: &Record
     ensures { result ≡ is_fare_between from to ind one.now }
 {
     match one {
-        Record::Fare(filed) => {
-            same_cities(filed.from, from)
-                && same_cities(filed.to, to)
-                && same_indicators(filed.ind, ind)
-        }
+        Record::Fare(filed) => { filed.from.is(from) && filed.to.is(to) && filed.ind.is(ind) }
         _ => false,
     }
 }
@@ -140,7 +135,7 @@ pub(crate) fn is_fare_between(from: City, to: City, ind: Indicator, one: &Record
 /// The record number of the `k`-th fare, from 0, of a city, another and an indicator.
 #[tactic(auto, using(crate::proofs::Scans::numbers_from_more, crate::proofs::Scans::numbers_from_all))]
 fn nth_fare_number(records: &[Record], from: City, to: City, ind: Indicator, k: u32) -> Option<u32>
-    requires { length records.now ≤ 400_000 }
+    requires { length records.now ≤ MOST_RECORDS }
     ensures { result ≡ slice_get (numbers_from (is_fare_between from to ind) 2 records.now) k }
 {
     let mut left = k;

@@ -2,11 +2,12 @@
 
 ghost use Rattle.std.specs.Prelude.{◌≡◌, ◌<◌, ◌≤◌, IfSome, bytes_eq};
 ghost use Rattle.std.specs.List.{list_any};
-ghost use Rattle.fare_tariff.specs.Lookup.{first_some, greatest, mpm_in, tpm_in, allowed_in, is_by_way_of, mpm, tpm, allowance};
+ghost use Rattle.fare_tariff.specs.Lookup.{first_some, greatest, mpm_in, tpm_in, allowed_in, is_by_way_of, mpm, tpm};
+ghost use Rattle.fare_tariff.specs.Lookup.{allowance};
 
 use crate::edition::Edition;
-use crate::record::Record;
-use crate::same::{same_cities, same_indicators, same_pairs};
+use crate::limits::MOST_MILES;
+use crate::records::{Record, same_pairs};
 use fare_codes::{City, Indicator};
 
 impl Edition {
@@ -15,7 +16,7 @@ impl Edition {
     pub fn mpm(&self, a: City, b: City, ind: Indicator) -> Option<u32>
         ensures miles { result ≡ mpm self.now a b ind }
         ensures above_zero { IfSome result (λ miles. 0 < miles) }
-        ensures in_range { IfSome result (λ miles. miles ≤ 99_999) }
+        ensures in_range { IfSome result (λ miles. miles ≤ MOST_MILES) }
     {
         permitted_miles(self.records(), a, b, ind)
     }
@@ -24,7 +25,7 @@ impl Edition {
     pub fn tpm(&self, a: City, b: City) -> Option<u32>
         ensures miles { result ≡ tpm self.now a b }
         ensures above_zero { IfSome result (λ miles. 0 < miles) }
-        ensures in_range { IfSome result (λ miles. miles ≤ 99_999) }
+        ensures in_range { IfSome result (λ miles. miles ≤ MOST_MILES) }
     {
         ticketed_miles(self.records(), a, b)
     }
@@ -33,7 +34,7 @@ impl Edition {
     /// or by way of one of these cities; 0 where there is none.
     pub fn allowance(&self, a: City, b: City, ind: Indicator, via: &[City]) -> u32
         ensures miles { result ≡ allowance self.now a b ind via.now }
-        ensures in_range { result ≤ 99_999 }
+        ensures in_range { result ≤ MOST_MILES }
     {
         allowed_miles(self.records(), a, b, ind, via)
     }
@@ -42,11 +43,11 @@ impl Edition {
 /// The miles that a record permits between two cities for an indicator.
 pub(crate) fn mpm_in(a: City, b: City, ind: Indicator, one: &Record) -> Option<u32>
     ensures miles { result ≡ mpm_in a b ind one.now }
-    ensures in_range { IfSome result (λ miles. miles ≤ 99_999) }
+    ensures in_range { IfSome result (λ miles. miles ≤ MOST_MILES) }
 {
     match one {
         Record::Mpm(filed) => {
-            if same_pairs(filed.from, filed.to, a, b) && same_indicators(filed.ind, ind) {
+            if same_pairs(filed.from, filed.to, a, b) && filed.ind.is(ind) {
                 Some(filed.miles)
             } else {
                 None
@@ -60,7 +61,7 @@ pub(crate) fn mpm_in(a: City, b: City, ind: Indicator, one: &Record) -> Option<u
 #[tactic(auto, using(crate::proofs::Scans::first_some_more, crate::proofs::Scans::first_some_all))]
 fn permitted_miles(records: &[Record], a: City, b: City, ind: Indicator) -> Option<u32>
     ensures miles { result ≡ first_some (mpm_in a b ind) records.now }
-    ensures in_range { IfSome result (λ miles. miles ≤ 99_999) }
+    ensures in_range { IfSome result (λ miles. miles ≤ MOST_MILES) }
 {
     for one in records {
         if let Some(miles) = mpm_in(a, b, ind, one) {
@@ -73,7 +74,7 @@ fn permitted_miles(records: &[Record], a: City, b: City, ind: Indicator) -> Opti
 /// The ticketed point miles that a record files between two cities.
 pub(crate) fn tpm_in(a: City, b: City, one: &Record) -> Option<u32>
     ensures miles { result ≡ tpm_in a b one.now }
-    ensures in_range { IfSome result (λ miles. miles ≤ 99_999) }
+    ensures in_range { IfSome result (λ miles. miles ≤ MOST_MILES) }
 {
     match one {
         Record::Tpm(filed) => {
@@ -91,7 +92,7 @@ pub(crate) fn tpm_in(a: City, b: City, one: &Record) -> Option<u32>
 #[tactic(auto, using(crate::proofs::Scans::first_some_more, crate::proofs::Scans::first_some_all))]
 fn ticketed_miles(records: &[Record], a: City, b: City) -> Option<u32>
     ensures miles { result ≡ first_some (tpm_in a b) records.now }
-    ensures in_range { IfSome result (λ miles. miles ≤ 99_999) }
+    ensures in_range { IfSome result (λ miles. miles ≤ MOST_MILES) }
 {
     for one in records {
         if let Some(miles) = tpm_in(a, b, one) {
@@ -115,18 +116,18 @@ fn is_by_way_of(cities: &[City], via: &Option<City>) -> bool
 fn is_among(city: City, cities: &[City]) -> bool
     ensures { result ≡ list_any (bytes_eq city) cities.now }
 {
-    cities.iter().any(|other| same_cities(city, *other))
+    cities.iter().any(|other| city.is(*other))
 }
 
 /// The extra miles that a record allows between two cities for an indicator by way of some cities.
 fn allowed_in(a: City, b: City, ind: Indicator, cities: &[City], one: &Record) -> u32
     ensures miles { result ≡ allowed_in a b ind cities.now one.now }
-    ensures in_range { result ≤ 99_999 }
+    ensures in_range { result ≤ MOST_MILES }
 {
     match one {
         Record::Ema(filed) => {
             if same_pairs(filed.from, filed.to, a, b)
-                && same_indicators(filed.ind, ind)
+                && filed.ind.is(ind)
                 && is_by_way_of(cities, &filed.via)
             {
                 filed.miles
@@ -142,7 +143,7 @@ fn allowed_in(a: City, b: City, ind: Indicator, cities: &[City], one: &Record) -
 #[tactic(auto, using(crate::proofs::Scans::greatest_more, crate::proofs::Scans::greatest_all))]
 fn allowed_miles(records: &[Record], a: City, b: City, ind: Indicator, cities: &[City]) -> u32
     ensures miles { result ≡ greatest (allowed_in a b ind cities.now) records.now }
-    ensures in_range { result ≤ 99_999 }
+    ensures in_range { result ≤ MOST_MILES }
 {
     let mut most = 0;
     for one in records {

@@ -6,11 +6,8 @@ ghost use Rattle.fare_tariff.specs.Record.{IsCurrency};
 ghost use Rattle.fare_tariff.specs.Filed.{IsFiledCity};
 ghost use Rattle.fare_tariff.specs.Lookup.{first_some, city_in, currency_in, city_record, currency_of};
 
-use crate::city_record::CityRec;
-use crate::currency_record::CurRec;
 use crate::edition::Edition;
-use crate::record::Record;
-use crate::same::{same_cities, same_countries};
+use crate::records::{CityRec, CurRec, Record};
 use fare_codes::{City, Country};
 
 impl Edition {
@@ -37,7 +34,7 @@ pub(crate) fn city_in(city: City, one: &Record) -> Option<&CityRec>
 {
     match one {
         Record::City(filed) => {
-            if same_cities(filed.code, city) {
+            if filed.code.is(city) {
                 Some(filed)
             } else {
                 None
@@ -67,7 +64,7 @@ pub(crate) fn currency_in(country: Country, one: &Record) -> Option<&CurRec>
 {
     match one {
         Record::Cur(filed) => {
-            if same_countries(filed.country, country) {
+            if filed.country.is(country) {
                 Some(filed)
             } else {
                 None

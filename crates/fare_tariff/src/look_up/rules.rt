@@ -4,14 +4,12 @@ ghost use Rattle.std.specs.Prelude.{◌≡◌, IfSome, option_map};
 ghost use Rattle.std.specs.Option.{option_copied};
 ghost use Rattle.std.specs.List.{list_any};
 ghost use Rattle.fare_tariff.specs.Filed.{AreInRange};
-ghost use Rattle.fare_tariff.specs.Lookup.{first_some, rule_in, rule_record, terms_of, free_terms, terms, lists, lists_in, same_rule, unit_names, end_names, unit_ok, ends_ok};
+ghost use Rattle.fare_tariff.specs.Lookup.{first_some, rule_in, rule_record, terms_of, free_terms, terms, lists};
+ghost use Rattle.fare_tariff.specs.Lookup.{lists_in, same_rule, unit_names, end_names, unit_ok, ends_ok};
 
 use crate::edition::Edition;
-use crate::names::Names;
-use crate::record::Record;
-use crate::rule_record::RuleRec;
-use crate::same::{same_ids, same_rules};
-use crate::terms::Terms;
+use crate::limits::{MOST_STOPS, MOST_TRANSFERS};
+use crate::records::{Names, Record, RuleRec, Terms, same_rules};
 use fare_codes::RuleId;
 
 impl Edition {
@@ -83,13 +81,7 @@ pub(crate) fn rule_in(id: RuleId, one: &Record) -> Option<&RuleRec>
     ensures { option_copied result ≡ rule_in id one.now }
 {
     match one {
-        Record::Rule(filed) => {
-            if same_ids(filed.id, id) {
-                Some(filed)
-            } else {
-                None
-            }
-        }
+        Record::Rule(filed) => { if filed.id.is(id) { Some(filed) } else { None } }
         _ => None,
     }
 }
@@ -128,8 +120,8 @@ fn free_terms() -> Terms
     ensures in_range { AreInRange result }
 {
     Terms {
-        stops: 16,
-        transfers: 16,
+        stops: MOST_STOPS,
+        transfers: MOST_TRANSFERS,
         advance: 0,
         min_stay: 0,
         max_stay: u32::MAX,

@@ -57,6 +57,11 @@ pub const JAW: &str =
     r#"{"sale":"2025-03-01","from":"LON","sectors":[{"to":"PAR","carrier":"Q1","day":"2025-04-10","cabin":"Y"},{"to":"LYS","carrier":"Q1","day":"2025-04-12","cabin":"Y","surface":true},{"to":"LON","carrier":"Q1","day":"2025-04-16","cabin":"Y"}]}
 "#;
 
+/// The way from London to Paris is made by own means too.
+pub const SURFACE_FIRST: &str =
+    r#"{"sale":"2025-03-01","from":"LON","sectors":[{"to":"PAR","carrier":"Q1","day":"2025-04-10","cabin":"Y","surface":true},{"to":"LYS","carrier":"Q1","day":"2025-04-12","cabin":"Y"},{"to":"LON","carrier":"Q1","day":"2025-04-16","cabin":"Y"}]}
+"#;
+
 pub const NO_SECTORS: &str = "{\"sale\":\"2025-03-01\",\"from\":\"LON\",\"sectors\":[]}\n";
 
 /// London to Rome in one sector, its short line and its tariff but for the fare.

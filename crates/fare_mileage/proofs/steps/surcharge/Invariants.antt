@@ -6,5 +6,6 @@ use Rattle.fare_mileage.proofs.steps.surcharge.Given as goal
 abbrev pub invariant-loop-step : goal.invariant-loop-step
 invariant-loop-step l = record {
   steps : l.step-items ≡ surcharge_steps;
-  left : find (is_covered_by l.net l.mpm) (drop l.step-index surcharge_steps) ≡ find (is_covered_by l.net l.mpm) surcharge_steps;
+  left : find (is_covered_by l.net l.mpm) (drop l.step-index surcharge_steps)
+      ≡ find (is_covered_by l.net l.mpm) surcharge_steps;
 }

@@ -5,4 +5,5 @@ use Rattle.fare_rules.specs.Span.{is_unplaced}
 use Rattle.fare_points.proofs.places.placed.Given as goal
 
 abbrev pub invariant-loop-i : goal.invariant-loop-i
-invariant-loop-i l = find (is_unplaced l.edition l.trip) (numbers l.i l.points) ≡ find (is_unplaced l.edition l.trip) (numbers 0 l.points)
+invariant-loop-i l = find (is_unplaced l.edition l.trip) (numbers l.i l.points)
+    ≡ find (is_unplaced l.edition l.trip) (numbers 0 l.points)

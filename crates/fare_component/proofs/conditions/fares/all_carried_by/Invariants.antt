@@ -6,4 +6,5 @@ use Rattle.fare_rules.specs.ComponentAmount.{is_carried_by}
 use Rattle.fare_component.proofs.conditions.fares.all_carried_by.Given as goal
 
 abbrev pub invariant-loop-i : goal.invariant-loop-i
-invariant-loop-i l = list_all (is_carried_by l.trip l.carrier) (numbers (l.i + 1) (l.b + 1)) ≡ list_all (is_carried_by l.trip l.carrier) (numbers (l.a + 1) (l.b + 1))
+invariant-loop-i l = list_all (is_carried_by l.trip l.carrier) (numbers (l.i + 1) (l.b + 1))
+    ≡ list_all (is_carried_by l.trip l.carrier) (numbers (l.a + 1) (l.b + 1))

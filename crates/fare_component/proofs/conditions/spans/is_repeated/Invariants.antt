@@ -6,4 +6,5 @@ use Rattle.fare_rules.specs.ComponentAmount.{is_same_city}
 use Rattle.fare_component.proofs.conditions.spans.is_repeated.Given as goal
 
 abbrev pub invariant-loop-j : goal.invariant-loop-j
-invariant-loop-j l = list_any (is_same_city l.trip l.fn.i) (numbers l.j l.fn.i) ≡ list_any (is_same_city l.trip l.fn.i) (numbers l.a l.fn.i)
+invariant-loop-j l = list_any (is_same_city l.trip l.fn.i) (numbers l.j l.fn.i)
+    ≡ list_any (is_same_city l.trip l.fn.i) (numbers l.a l.fn.i)

@@ -6,4 +6,5 @@ use Rattle.fare_rules.specs.ComponentAmount.{is_repeated}
 use Rattle.fare_component.proofs.conditions.spans.repeats_city.Given as goal
 
 abbrev pub invariant-loop-i : goal.invariant-loop-i
-invariant-loop-i l = list_any (is_repeated l.trip l.a) (numbers l.i (l.b + 1)) ≡ list_any (is_repeated l.trip l.a) (numbers l.a (l.b + 1))
+invariant-loop-i l = list_any (is_repeated l.trip l.a) (numbers l.i (l.b + 1))
+    ≡ list_any (is_repeated l.trip l.a) (numbers l.a (l.b + 1))

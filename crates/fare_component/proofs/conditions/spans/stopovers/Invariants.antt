@@ -5,4 +5,8 @@ use Rattle.fare_rules.specs.Span.{is_stopover}
 use Rattle.fare_component.proofs.conditions.spans.stopovers.Given as goal
 
 abbrev pub invariant-loop-i : goal.invariant-loop-i
-invariant-loop-i l = record { whole : l.found + length (filter (is_stopover l.trip) (numbers l.i l.b)) ≡ length (filter (is_stopover l.trip) (numbers (l.a + 1) l.b)); bound : l.found ≤ l.i }
+invariant-loop-i l = record {
+  whole : l.found + length (filter (is_stopover l.trip) (numbers l.i l.b))
+      ≡ length (filter (is_stopover l.trip) (numbers (l.a + 1) l.b));
+  bound : l.found ≤ l.i;
+}

@@ -1,5 +1,6 @@
 -- the record of the number that is found is such a fare, and few stand before it
 use Rattle.std.proofs.Common.{◌≡◌, ◌<◌, Some, IsSomeAnd}
+use Rattle.fare_tariff.specs.declared.limits.TheConstants.{MOST_FARES_BETWEEN}
 use Rattle.fare_tariff.specs.Lookup.{nth_fare, fare_at}
 use Rattle.fare_tariff.specs.Filed.{IsFareBetween}
 use Rattle.fare_tariff.proofs.FoundOptions.{of_value, of_some}
@@ -15,7 +16,7 @@ returns-clause-filed c =
 
 pub returns-clause-few : goal.returns-clause-few
 returns-clause-few c =
-    of_some c.nth_fare_number.result (c.args.k < 64) (λ number h.
+    of_some c.nth_fare_number.result (c.args.k < MOST_FARES_BETWEEN) (λ number h.
     let found : nth_fare c.args.self.now c.args.from c.args.to c.args.ind c.args.k ≡ Some number = cc in
     let facts = filed_nth c.args.self.now c.args.from c.args.to c.args.ind c.args.k number c.records.ensures.valid.no_fault found in
     facts.1)

@@ -1,6 +1,0 @@
-use Rattle.std.proofs.Common.{◌≡◌, ◌-◌}
-use Rattle.fare_calc.specs.Draft.{line_from, start}
-use Rattle.fare_calc.proofs.cursor.Cursor.line_from.Given as goal
-
-abbrev pub invariant-loop : goal.invariant-loop
-invariant-loop l = line_from (50 - l.counter) l.draft l.self.rest.now ≡ line_from 50 (start l.fn.from) l.fn.self.rest.now

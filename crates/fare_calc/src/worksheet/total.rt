@@ -1,0 +1,65 @@
+//! The lines of a total.
+
+ghost use Rattle.std.specs.Prelude.{◌≡◌, ◌++◌, ◌<◌, ◌≤◌, IfSome, OnOk, decimal};
+ghost use Rattle.std.specs.Option.{option_copied};
+ghost use Rattle.fare_codes.specs.Numbers.{decimal_text};
+ghost use Rattle.fare_tariff.specs.Record.{IsCurrency};
+ghost use Rattle.fare_calc.specs.Worksheet.{currency_lines, local_text, total_lines};
+
+use fare_codes::{convert, rate_text};
+use fare_outside::NoMemory;
+use fare_tariff::CurRec;
+use fare_text::{push_code, push_decimal, push_hundredths, push_whole};
+
+/// Appends the lines of a total.
+pub(crate) fn push_total(
+    text: &mut Vec<u8>,
+    price: u64,
+    currency: Option<&CurRec>,
+) -> Result<(), NoMemory>
+    requires price { price < 40_000_000_000 }
+    requires currency { IfSome currency (λ r. IsCurrency r.now.roe r.now.decimals r.now.unit) }
+    ensures { OnOk result (text.new.items ≡ text.old.items ++ total_lines price (option_copied currency.entry)) }
+{
+    text.extend_from_slice(b"TOTAL NUC ")?;
+    push_hundredths(text, price)?;
+    text.push(b'\n')?;
+    match currency {
+        None => Ok(()),
+        Some(currency) => push_currency(text, price, currency),
+    }
+}
+
+/// Appends the rate of exchange of a currency, and a price converted to it.
+#[tactic(auto, unfolding(crate::specs::Worksheet::currency_lines))]
+fn push_currency(text: &mut Vec<u8>, price: u64, currency: &CurRec) -> Result<(), NoMemory>
+    requires price { price < 40_000_000_000 }
+    requires currency { IsCurrency currency.now.roe currency.now.decimals currency.now.unit }
+    ensures { OnOk result (text.new.items ≡ text.old.items ++ currency_lines price currency.now) }
+{
+    let local = convert(
+        price,
+        currency.roe,
+        currency.decimals,
+        currency.unit,
+        currency.mode,
+    );
+    text.extend_from_slice(b"ROE ")?;
+    push_code(text, &rate_text(currency.roe))?;
+    text.extend_from_slice(b"\nLOCAL ")?;
+    push_code(text, &currency.currency.text())?;
+    text.push(b' ')?;
+    push_local(text, currency.decimals, local)?;
+    Ok(text.push(b'\n')?)
+}
+
+/// Appends a local amount with its decimals; without decimals it has no point.
+fn push_local(text: &mut Vec<u8>, decimals: u8, amount: u128) -> Result<(), NoMemory>
+    requires { decimals ≤ 2 }
+    ensures { OnOk result (text.new.items ≡ text.old.items ++ local_text decimals amount) }
+{
+    match decimals {
+        0 => push_whole(text, amount),
+        places => push_decimal(text, amount, places),
+    }
+}

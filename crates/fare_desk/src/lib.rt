@@ -1,0 +1,15 @@
+//! The desk: what a book of published editions answers to a trip. The quotation of a trip is defined in `specs/`
+//! (`Quotation`): the answer text of the best construction in the edition that the sale day selects.
+//!
+//! - `quote_fault`: why a trip isn't quoted;
+//! - `quoting`: the text of a quotation.
+#![tactic(auto)]
+
+mod quote_fault;
+mod quoting;
+
+pub use quote_fault::QuoteFault;
+pub use quoting::quote_text;
+
+#[cfg(test)]
+mod tests;

@@ -1,0 +1,20 @@
+use crate::records::{CityRec, CurRec, EmaRec, FareRec, MileRec, PairRec, RuleRec};
+
+/// A record of a tariff, between its HEAD and its END.
+#[derive(Drop)]
+pub enum Record {
+    /// A city.
+    City(CityRec),
+    /// A country's currency.
+    Cur(CurRec),
+    /// A rule.
+    Rule(RuleRec),
+    /// A fare.
+    Fare(FareRec),
+    /// A maximum permitted mileage.
+    Mpm(MileRec),
+    /// A ticketed point mileage.
+    Tpm(PairRec),
+    /// An extra mileage allowance.
+    Ema(EmaRec),
+}

@@ -1,9 +1,0 @@
--- what is left is searched as the whole
-use Rattle.std.proofs.Common.{◌≡◌, ◌+◌, length, find}
-use Rattle.fare_rules.specs.Numbers.{numbers}
-use Rattle.fare_rules.specs.Construction.{places}
-use Rattle.fare_rules.specs.UnitRules.{clashes}
-use Rattle.fare_units.proofs.combine.clashed.Given as goal
-
-abbrev pub invariant-loop-k : goal.invariant-loop-k
-invariant-loop-k l = find (clashes l.edition l.parts) (numbers l.k (length l.parts + 1)) ≡ find (clashes l.edition l.parts) (places l.parts)

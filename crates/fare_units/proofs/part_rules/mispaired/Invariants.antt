@@ -1,9 +1,0 @@
--- what is left is searched as the whole
-use Rattle.std.proofs.Common.{◌≡◌, ◌+◌, length, find}
-use Rattle.fare_rules.specs.Numbers.{numbers}
-use Rattle.fare_rules.specs.Construction.{places}
-use Rattle.fare_rules.specs.Lawful.{is_mispaired}
-use Rattle.fare_units.proofs.part_rules.mispaired.Given as goal
-
-abbrev pub invariant-loop-k : goal.invariant-loop-k
-invariant-loop-k l = find (is_mispaired l.edition l.trip l.parts) (numbers l.k (length l.parts + 1)) ≡ find (is_mispaired l.edition l.trip l.parts) (places l.parts)

@@ -1,0 +1,225 @@
+//! Unit price: what a pricing unit costs, by its kind, and what a construction costs.
+
+ghost use Rattle.std.specs.Prelude.{◌≡◌, ◌+◌, ◌*◌, ◌<◌, ◌≤◌, ◌^◌, IfSome, length, sum_by, None};
+ghost use Rattle.std.specs.Option.{option_copied};
+ghost use Rattle.fare_trip.specs.Itinerary.{count};
+ghost use Rattle.fare_rules.specs.Construction.{own, misnumbered};
+ghost use Rattle.fare_rules.specs.UnitPrice.{part_amount, part_cost, unit_sum, are_two_equal, is_round_trip};
+ghost use Rattle.fare_rules.specs.UnitPrice.{unit_kind, part_backhaul, unit_minimum, at_least, sheet_from};
+ghost use Rattle.fare_rules.specs.UnitPrice.{sheet_of_kind, unit_sheet, unit_price, price};
+ghost use Rattle.fare_component.specs.Usable.{IsAmount};
+ghost use Rattle.fare_units.specs.Advance.{Advances};
+ghost use Rattle.fare_units.specs.Places.{IsPlace, ArePlaces};
+
+use crate::construction::MOST_PARTS;
+use crate::parts::direction::is_back_in;
+use crate::parts::fares::{fare_of, holds_ow};
+use crate::parts::own::{first_of, own};
+use crate::parts::places::{end_of, greatest_unit, part_at, start_of};
+use crate::prices::circle::unit_circle_minimum;
+use crate::rules::shape::{closes, is_open_jaw};
+use fare_codes::Nuc;
+use fare_component::applicable;
+use fare_points::backhaul;
+use fare_rules::{Amount, MOST_AMOUNT, Part, UnitKind, UnitSheet};
+use fare_tariff::Edition;
+use fare_trip::Trip;
+
+/// What a unit costs at most, in hundredths of a NUC: as much as `MOST_PARTS` parts of the greatest amount.
+pub const MOST_UNIT_PRICE: u64 = 20_000_000_000;
+
+/// The component amount of a part of a unit, in the part's direction.
+#[tactic(auto, unfolding(fare_rules::specs::UnitPrice::part_amount))]
+fn part_amount(
+    edition: &Edition,
+    trip: &Trip,
+    parts: &[Part],
+    own: &[usize],
+    k: usize,
+) -> Option<Amount>
+    requires advances { Advances trip.now parts.now }
+    requires place { IsPlace parts.now k }
+    ensures value { result ≡ part_amount edition.now trip.now parts.now own.now k }
+    ensures bound { IfSome result IsAmount }
+{
+    let a = start_of(trip, parts, k);
+    let b = end_of(parts, k);
+    let back = is_back_in(edition, trip, parts, own, k);
+    applicable(edition, trip, a, b, part_at(parts, k).fare, back)
+}
+
+/// The hundredths that a part of a unit costs.
+fn part_cost(edition: &Edition, trip: &Trip, parts: &[Part], own: &[usize], k: usize) -> u64
+    requires advances { Advances trip.now parts.now }
+    requires place { IsPlace parts.now k }
+    ensures value { result ≡ part_cost edition.now trip.now parts.now own.now k }
+    ensures bound { result ≤ MOST_AMOUNT }
+{
+    match part_amount(edition, trip, parts, own, k) {
+        None => 0,
+        Some(found) => found.amount.hundredths(),
+    }
+}
+
+/// The sum of the amounts of a unit.
+#[tactic(auto, using(crate::proofs::PriceSteps::sum_left, crate::proofs::PriceSteps::sum_done, crate::proofs::OwnLemmas::place_at), unfolding(fare_rules::specs::UnitPrice::unit_sum))]
+fn unit_sum(edition: &Edition, trip: &Trip, parts: &[Part], own: &[usize]) -> u64
+    requires advances { Advances trip.now parts.now }
+    requires places { ArePlaces parts.now own.now }
+    requires few_own { length own.now ≤ MOST_PARTS }
+    ensures value { result ≡ unit_sum edition.now trip.now parts.now own.now }
+    ensures bound { result ≤ MOST_UNIT_PRICE }
+{
+    let mut sum = 0;
+    for i in 0..own.len() {
+        sum += part_cost(edition, trip, parts, own, own[i]);
+    }
+    sum
+}
+
+/// Whether a unit has exactly two parts, of equal amounts.
+#[tactic(auto, using(crate::proofs::PriceSteps::two_equal, crate::proofs::PriceSteps::others_unequal, crate::proofs::OwnLemmas::place_at))]
+fn are_two_equal(edition: &Edition, trip: &Trip, parts: &[Part], own: &[usize]) -> bool
+    requires advances { Advances trip.now parts.now }
+    requires places { ArePlaces parts.now own.now }
+    ensures { result ≡ are_two_equal (part_cost edition.now trip.now parts.now own.now) own.now }
+{
+    if own.len() != 2 {
+        return false;
+    }
+    part_cost(edition, trip, parts, own, own[0]) == part_cost(edition, trip, parts, own, own[1])
+}
+
+/// Whether a unit is a round trip: it closes, and has exactly two parts of equal amounts.
+#[tactic(auto, unfolding(fare_rules::specs::UnitPrice::is_round_trip))]
+fn is_round_trip(edition: &Edition, trip: &Trip, parts: &[Part], own: &[usize]) -> bool
+    requires advances { Advances trip.now parts.now }
+    requires places { ArePlaces parts.now own.now }
+    ensures { result ≡ is_round_trip edition.now trip.now parts.now own.now }
+{
+    closes(trip, parts, own) && are_two_equal(edition, trip, parts, own)
+}
+
+/// The kind of a unit: one way where it holds a one way fare, else an open jaw, a round trip, or else a circle trip.
+#[tactic(auto, unfolding(fare_rules::specs::UnitPrice::unit_kind))]
+fn unit_kind(edition: &Edition, trip: &Trip, parts: &[Part], own: &[usize]) -> UnitKind
+    requires advances { Advances trip.now parts.now }
+    requires places { ArePlaces parts.now own.now }
+    ensures { result ≡ unit_kind edition.now trip.now parts.now own.now }
+{
+    if holds_ow(edition, parts, own) {
+        return UnitKind::OW;
+    }
+    if is_open_jaw(edition, trip, parts, own) {
+        return UnitKind::OJ;
+    }
+    if is_round_trip(edition, trip, parts, own) {
+        return UnitKind::RT;
+    }
+    UnitKind::CT
+}
+
+/// The backhaul minimum of a part.
+fn part_backhaul(edition: &Edition, trip: &Trip, parts: &[Part], k: usize) -> Option<Nuc>
+    requires advances { Advances trip.now parts.now }
+    requires place { IsPlace parts.now k }
+    ensures value { result ≡ part_backhaul edition.now trip.now parts.now k }
+    ensures bound { IfSome result (λ minimum. minimum < 2 * 10 ^ 9) }
+{
+    match fare_of(edition, parts, k) {
+        None => None,
+        Some(fare) => {
+            let a = start_of(trip, parts, k);
+            let b = end_of(parts, k);
+            backhaul(edition, trip, a, b, fare)
+        }
+    }
+}
+
+/// The minimum of a unit by its kind: the backhaul minimum one way, the circle minimum of a circle trip, and else none.
+#[tactic(auto, using(crate::proofs::OwnLemmas::first_is_place), unfolding(fare_rules::specs::UnitPrice::unit_minimum))]
+fn unit_minimum(
+    edition: &Edition,
+    trip: &Trip,
+    parts: &[Part],
+    own: &[usize],
+    kind: UnitKind,
+) -> Option<Nuc>
+    requires advances { Advances trip.now parts.now }
+    requires places { ArePlaces parts.now own.now }
+    requires some { 1 ≤ length own.now }
+    ensures value { result ≡ unit_minimum edition.now trip.now parts.now own.now kind }
+    ensures bound { IfSome result (λ minimum. minimum < 2 * 10 ^ 9) }
+{
+    match kind {
+        UnitKind::OW => part_backhaul(edition, trip, parts, first_of(own)),
+        UnitKind::RT => None,
+        UnitKind::CT => unit_circle_minimum(edition, trip, parts, own),
+        UnitKind::OJ => None,
+    }
+}
+
+/// The sheet of a kind, a sum and a minimum: the price is the greater of the two.
+fn sheet_from(kind: UnitKind, sum: u64, minimum: Option<Nuc>) -> UnitSheet
+    requires sum { sum ≤ MOST_UNIT_PRICE }
+    requires minimum { IfSome minimum (λ minimum. minimum < 2 * 10 ^ 9) }
+    ensures value { result ≡ sheet_from kind sum minimum }
+    ensures bound { result.price ≤ MOST_UNIT_PRICE }
+{
+    match minimum {
+        None => UnitSheet {
+            kind,
+            sum,
+            minimum: None,
+            price: sum,
+        },
+        Some(minimum) => UnitSheet {
+            kind,
+            sum,
+            minimum: Some(minimum.hundredths()),
+            price: sum.max(minimum.hundredths()),
+        },
+    }
+}
+
+/// The kind, sum, minimum and price of the unit of some places of parts.
+#[tactic(auto, unfolding(fare_rules::specs::UnitPrice::unit_sheet))]
+pub(crate) fn sheet_of(edition: &Edition, trip: &Trip, parts: &[Part], own: &[usize]) -> UnitSheet
+    requires advances { Advances trip.now parts.now }
+    requires places { ArePlaces parts.now own.now }
+    requires few_own { length own.now ≤ MOST_PARTS }
+    requires some { 1 ≤ length own.now }
+    ensures value { result ≡ unit_sheet edition.now trip.now parts.now own.now }
+    ensures bound { result.price ≤ MOST_UNIT_PRICE }
+{
+    let kind = unit_kind(edition, trip, parts, own);
+    let sum = unit_sum(edition, trip, parts, own);
+    sheet_from(kind, sum, unit_minimum(edition, trip, parts, own, kind))
+}
+
+/// The price of a unit.
+fn unit_price(edition: &Edition, trip: &Trip, parts: &[Part], unit: usize) -> u64
+    requires few { length parts.now ≤ MOST_PARTS }
+    requires advances { Advances trip.now parts.now }
+    requires some { 1 ≤ length (own parts.now unit) }
+    ensures value { result ≡ unit_price edition.now trip.now parts.now unit }
+    ensures bound { result ≤ MOST_UNIT_PRICE }
+{
+    let own = own(parts, unit);
+    sheet_of(edition, trip, parts, own.as_slice()).price
+}
+
+/// The price of a construction whose units are numbered in order: the sum of the prices of its units.
+#[tactic(auto, using(fare_rules::proofs::NumberLemmas::sum_next, fare_rules::proofs::NumberLemmas::sum_done, crate::proofs::UnitLemmas::unit_has_parts), unfolding(fare_rules::specs::UnitPrice::price))]
+pub(crate) fn price(edition: &Edition, trip: &Trip, parts: &[Part]) -> u64
+    requires few { length parts.now ≤ MOST_PARTS }
+    requires advances { Advances trip.now parts.now }
+    requires numbered { misnumbered parts.now ≡ None }
+    ensures { result ≡ price edition.now trip.now parts.now }
+{
+    let mut total = 0;
+    for unit in 1..greatest_unit(parts) + 1 {
+        total += unit_price(edition, trip, parts, unit);
+    }
+    total
+}

@@ -1,0 +1,122 @@
+//! The rules in their order: the first one that a list of parts breaks.
+
+ghost use Rattle.std.specs.Prelude.{◌≡◌, ◌≤◌, length};
+ghost use Rattle.fare_rules.specs.Numbers.{first_given};
+ghost use Rattle.fare_units.specs.Advance.{Advances};
+ghost use Rattle.fare_units.specs.Breaks.{breaks_from};
+ghost use Rattle.fare_rules.specs.Lawful.{broken_at, first_broken};
+
+use crate::construction::MOST_PARTS;
+use crate::rules::combine::clashed;
+use crate::rules::cover::{misnumbered, uncovered, unfiled};
+use crate::rules::crossing::crossed;
+use crate::rules::part_rules::{FareRule, PartRule, first_part, mispaired};
+use crate::rules::unit_rules::{UnitRule, first_unit};
+use fare_rules::{Broken, Part};
+use fare_tariff::Edition;
+use fare_trip::Trip;
+
+/// A rule of a number that is broken at a place.
+fn broken_at(rule: u8, place: u8) -> Broken
+    ensures { result ≡ broken_at rule place }
+{
+    Broken {
+        rule,
+        place: place as u32,
+    }
+}
+
+/// The first broken one of the rules from Mileage on.
+#[tactic(auto, unfolding(fare_rules::specs::Lawful::breaks, fare_rules::specs::UnitRules::mistimed, fare_rules::specs::UnitRules::misfitted))]
+fn first_from_mileage(edition: &Edition, trip: &Trip, parts: &[Part]) -> Option<Broken>
+    requires few { length parts.now ≤ MOST_PARTS }
+    requires advances { Advances trip.now parts.now }
+    ensures { result ≡ first_given (breaks_from 16 edition.now trip.now parts.now) }
+{
+    if let Some(k) = first_part(edition, trip, parts, PartRule::Mileage) {
+        return Some(broken_at(16, k));
+    }
+    if let Some(k) = first_part(edition, trip, parts, PartRule::Fare(FareRule::Excess)) {
+        return Some(broken_at(17, k));
+    }
+    if let Some(u) = first_unit(edition, trip, parts, UnitRule::Stay) {
+        return Some(broken_at(18, u));
+    }
+    if let Some(u) = first_unit(edition, trip, parts, UnitRule::Combine) {
+        return Some(broken_at(19, u));
+    }
+    if let Some(k) = clashed(edition, parts) {
+        return Some(broken_at(20, k));
+    }
+    if let Some(k) = first_part(edition, trip, parts, PartRule::Surface) {
+        return Some(broken_at(21, k));
+    }
+    if let Some(k) = first_part(edition, trip, parts, PartRule::Season) {
+        return Some(broken_at(22, k));
+    }
+    None
+}
+
+/// The first broken one of the rules from Distinct on.
+#[tactic(auto, unfolding(fare_rules::specs::Lawful::breaks))]
+fn first_from_distinct(edition: &Edition, trip: &Trip, parts: &[Part]) -> Option<Broken>
+    requires few { length parts.now ≤ MOST_PARTS }
+    requires advances { Advances trip.now parts.now }
+    ensures { result ≡ first_given (breaks_from 8 edition.now trip.now parts.now) }
+{
+    if let Some(k) = first_part(edition, trip, parts, PartRule::Distinct) {
+        return Some(broken_at(8, k));
+    }
+    if let Some(k) = mispaired(edition, trip, parts) {
+        return Some(broken_at(9, k));
+    }
+    if let Some(k) = first_part(edition, trip, parts, PartRule::Fare(FareRule::Indicator)) {
+        return Some(broken_at(10, k));
+    }
+    if let Some(k) = first_part(edition, trip, parts, PartRule::Fare(FareRule::Cabin)) {
+        return Some(broken_at(11, k));
+    }
+    if let Some(k) = first_part(edition, trip, parts, PartRule::Fare(FareRule::Carrier)) {
+        return Some(broken_at(12, k));
+    }
+    if let Some(k) = first_part(edition, trip, parts, PartRule::Fare(FareRule::Stops)) {
+        return Some(broken_at(13, k));
+    }
+    if let Some(k) = first_part(edition, trip, parts, PartRule::Fare(FareRule::Transfers)) {
+        return Some(broken_at(14, k));
+    }
+    if let Some(k) = first_part(edition, trip, parts, PartRule::Fare(FareRule::Advance)) {
+        return Some(broken_at(15, k));
+    }
+    first_from_mileage(edition, trip, parts)
+}
+
+/// The first rule that a list of parts breaks, at its least place.
+#[tactic(auto, using(crate::proofs::UnitLemmas::advances_of_cover), unfolding(fare_rules::specs::Lawful::first_broken, fare_rules::specs::Lawful::breaks, fare_rules::specs::Shape::mixed, fare_rules::specs::Shape::unchained, fare_rules::specs::Shape::unclosed))]
+pub(crate) fn first_broken(edition: &Edition, trip: &Trip, parts: &[Part]) -> Option<Broken>
+    requires few { length parts.now ≤ MOST_PARTS }
+    ensures { result ≡ first_broken edition.now trip.now parts.now }
+{
+    if let Some(k) = uncovered(trip, parts) {
+        return Some(broken_at(1, k));
+    }
+    if let Some(k) = misnumbered(parts) {
+        return Some(broken_at(2, k));
+    }
+    if let Some(k) = unfiled(edition, parts) {
+        return Some(broken_at(3, k));
+    }
+    if let Some(k) = crossed(parts) {
+        return Some(broken_at(4, k));
+    }
+    if let Some(u) = first_unit(edition, trip, parts, UnitRule::Alone) {
+        return Some(broken_at(5, u));
+    }
+    if let Some(u) = first_unit(edition, trip, parts, UnitRule::Chain) {
+        return Some(broken_at(6, u));
+    }
+    if let Some(u) = first_unit(edition, trip, parts, UnitRule::Close) {
+        return Some(broken_at(7, u));
+    }
+    first_from_distinct(edition, trip, parts)
+}
