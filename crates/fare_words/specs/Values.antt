@@ -1,0 +1,53 @@
+-- The value of each option.
+use Rattle.std.specs.Prelude.{ℕ, List, Option, Some, None, codes, if◌then◌else◌, option_and_then, option_map}
+use Rattle.std.specs.Option.{option_map_or}
+use Rattle.clap.specs.Words.{Row, Text, first_of}
+use Rattle.clap.specs.Walk.{is_empty}
+use Rattle.fare_words.specs.Limits.{default_extra, default_round, default_workers, most_best, most_count, most_edition}
+use Rattle.fare_words.specs.Limits.{most_extra, most_port, most_round, most_sectors, most_seed, most_workers}
+use Rattle.fare_words.specs.Options.{number_between, number_in, number_or}
+
+-- a store's name is any text that isn't empty
+abbrev pub store_name_of : Text → Option Text
+store_name_of text = if is_empty text then None else Some text
+
+-- the store
+unfoldable pub store_in : List Row → Option Text
+store_in options = option_and_then store_name_of (first_of (codes "store") options)
+
+-- how many workers share a search
+unfoldable pub workers_in : List Row → Option ℕ
+workers_in options = number_or (codes "workers") 1 most_workers default_workers options
+
+-- how many of the best quotations are asked for, where any number is
+unfoldable pub best_in : List Row → Option (Option ℕ)
+best_in options = option_map_or
+    (λ text. option_map (λ n. Some n) (number_between 1 most_best text)) (first_of (codes "best") options) (Some None)
+
+-- the number of an edition
+unfoldable pub edition_in : List Row → Option ℕ
+edition_in options = number_in (codes "edition") 1 most_edition options
+
+-- the port on which connections come in
+unfoldable pub port_in : List Row → Option ℕ
+port_in options = number_in (codes "port") 1 most_port options
+
+-- how many connections are served
+unfoldable pub count_in : List Row → Option ℕ
+count_in options = number_in (codes "count") 1 most_count options
+
+-- how many connections make a round
+unfoldable pub round_in : List Row → Option ℕ
+round_in options = number_or (codes "round") 1 most_round default_round options
+
+-- the seed of a drill
+unfoldable pub seed_in : List Row → Option ℕ
+seed_in options = number_in (codes "seed") 0 most_seed options
+
+-- how many sectors a drill has
+unfoldable pub sectors_in : List Row → Option ℕ
+sectors_in options = number_in (codes "sectors") 1 most_sectors options
+
+-- how many extra records a drill has
+unfoldable pub extra_in : List Row → Option ℕ
+extra_in options = number_or (codes "extra") 0 most_extra default_extra options

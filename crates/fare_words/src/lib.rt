@@ -1,0 +1,30 @@
+//! The words of the command line: the command that they give, with the values of its options.
+//!
+//! - `command`: the eight commands, with what their options hold; `store_name`: the name of a store;
+//! - `limits`: how great each number may be, and what stands for an option that is left out;
+//! - `name`: the command that the first word names;
+//! - `definitions`: each command's definition in `clap`;
+//! - `parsing`: what a definition finds in words; `options`: the options in them, with the texts of their values;
+//! - `numbers`: the numbers that options write;
+//! - `values`: each option by its own name; `commands`: each command from its options;
+//! - `words`: all of it in turn.
+#![tactic(auto)]
+
+mod command;
+mod commands;
+mod definitions;
+mod limits;
+mod name;
+mod numbers;
+mod options;
+mod parsing;
+mod store_name;
+mod values;
+mod words;
+
+pub use command::Command;
+pub use store_name::StoreName;
+pub use words::read_words;
+
+#[cfg(test)]
+mod tests;

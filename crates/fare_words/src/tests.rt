@@ -1,0 +1,153 @@
+//! Words that are taken, with what they give, and words that aren't.
+
+use crate::read_words;
+use std::alloc::Global;
+use std::process::Abort;
+use std::test::Fail;
+
+/// Words, and what they give, as it is shown.
+struct Case {
+    words: &'static [&'static str],
+    given: &'static str,
+}
+
+static TAKEN: [Case; 15] = [
+    Case {
+        words: &["price"],
+        given: "Some(Price { workers: 1, best: None })",
+    },
+    Case {
+        words: &["price", "--"],
+        given: "Some(Price { workers: 1, best: None })",
+    },
+    Case {
+        words: &["price", "--best", "9"],
+        given: "Some(Price { workers: 1, best: Some(9) })",
+    },
+    Case {
+        words: &["publish", "--store", "-"],
+        given: "Some(Publish { store: StoreName { text: \"-\" } })",
+    },
+    Case {
+        words: &["publish", "--store=--"],
+        given: "Some(Publish { store: StoreName { text: \"--\" } })",
+    },
+    Case {
+        words: &["list", "--store=-x"],
+        given: "Some(List { store: StoreName { text: \"-x\" } })",
+    },
+    Case {
+        words: &["list", "--store==x"],
+        given: "Some(List { store: StoreName { text: \"=x\" } })",
+    },
+    Case {
+        words: &["list", "--store=é"],
+        given: "Some(List { store: StoreName { text: \"é\" } })",
+    },
+    Case {
+        words: &["export", "--edition", "99999", "--store", "s"],
+        given: "Some(Export { store: StoreName { text: \"s\" }, edition: 99999 })",
+    },
+    Case {
+        words: &["quote", "--best=10", "--store", "a b", "--workers", "16"],
+        given: "Some(Quote { store: StoreName { text: \"a b\" }, workers: 16, best: Some(10) })",
+    },
+    Case {
+        words: &["serve", "--count=1", "--port=65535", "--store=x"],
+        given: "Some(Serve { store: StoreName { text: \"x\" }, port: 65535, count: 1, workers: 1, round: 1 })",
+    },
+    Case {
+        words: &[
+            "serve",
+            "--store=s",
+            "--port=1",
+            "--count=1000000",
+            "--round=8",
+        ],
+        given: "Some(Serve { store: StoreName { text: \"s\" }, port: 1, count: 1000000, workers: 1, round: 8 })",
+    },
+    Case {
+        words: &["drill", "--seed=2147483647", "--sectors", "1"],
+        given: "Some(Drill { seed: 2147483647, sectors: 1, extra: 0, workers: 1 })",
+    },
+    Case {
+        words: &[
+            "drill",
+            "--extra",
+            "200000",
+            "--sectors",
+            "16",
+            "--seed",
+            "0",
+        ],
+        given: "Some(Drill { seed: 0, sectors: 16, extra: 200000, workers: 1 })",
+    },
+    Case {
+        words: &["migrate", "--store", "a b"],
+        given: "Some(Migrate { store: StoreName { text: \"a b\" } })",
+    },
+];
+
+static REFUSED: [&[&str]; 28] = [
+    &[],
+    &[""],
+    &["Price"],
+    &["help"],
+    &["--", "price"],
+    &["price", "--help"],
+    &["price", "-h"],
+    &["price", "--version"],
+    &["price", "--", "1"],
+    &["price", "--workers"],
+    &["price", "--workers=0"],
+    &["price", "--workers=01"],
+    &["price", "--workers=17"],
+    &["price", "--workers=+1"],
+    &["price", "--workers=1", "--workers=1"],
+    &["price", "--best=0"],
+    &["price", "--best=11"],
+    &["publish"],
+    &["publish", "--store="],
+    &["list", "--store", "-x"],
+    &["list", "--store", "s", "t"],
+    &["list", "--store=s", "--workers=1"],
+    &["export", "--store=s", "--edition=0"],
+    &["export", "--store=s", "--edition=100000"],
+    &["serve", "--store=s", "--port=65536", "--count=1"],
+    &["serve", "--store=s", "--port=80", "--count=1000001"],
+    &["serve", "--store=s", "--port=80", "--count=1", "--round=9"],
+    &["drill", "--seed=2147483648", "--sectors=1"],
+];
+
+/// What the words give, as it is shown.
+fn given(alloc: Global, words: &[&str]) -> Result<String, Fail> {
+    let mut owned = Vec::new(alloc);
+    for word in words {
+        owned.push(String::from_str(alloc, word)?)?;
+    }
+    let taken = read_words(alloc, owned.as_slice()).map_err(|_| "no memory")?;
+    Ok(format!(in alloc; "{taken:?}")?)
+}
+
+/// Compares what the words give with what they are to give.
+fn holds<R: Abort>(rt: &R, alloc: Global, words: &[&str], wanted: &str) -> Result<(), Fail> {
+    let found = given(alloc, words)?;
+    assert!(rt; found.as_str() == wanted, "{}", found);
+    Ok(())
+}
+
+#[test]
+fn words_are_taken(rt: HostRuntime) -> Result<(), Fail> {
+    for case in TAKEN.as_slice() {
+        holds(&rt, rt.alloc(), case.words, case.given)?;
+    }
+    Ok(())
+}
+
+#[test]
+fn words_are_refused(rt: HostRuntime) -> Result<(), Fail> {
+    for words in REFUSED.as_slice() {
+        holds(&rt, rt.alloc(), words, "None")?;
+    }
+    Ok(())
+}

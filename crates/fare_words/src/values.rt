@@ -1,0 +1,111 @@
+//! Each option by its own name.
+
+ghost use Rattle.std.specs.Prelude.{◌≡◌, IfSome};
+ghost use Rattle.fare_words.specs.Limits.{IsBetween, most_best, most_count, most_edition, most_extra, most_port};
+ghost use Rattle.fare_words.specs.Limits.{most_round, most_sectors, most_seed, most_workers};
+ghost use Rattle.fare_words.specs.Values.{best_in, count_in, edition_in, extra_in, port_in, round_in, sectors_in};
+ghost use Rattle.fare_words.specs.Values.{seed_in, store_in, workers_in};
+
+use crate::limits::{
+    DEFAULT_EXTRA, DEFAULT_ROUND, DEFAULT_WORKERS, MOST_BEST, MOST_COUNT, MOST_EDITION, MOST_EXTRA,
+    MOST_PORT, MOST_ROUND, MOST_SECTORS, MOST_SEED, MOST_WORKERS,
+};
+use crate::numbers::number_between;
+use crate::options::Options;
+use crate::store_name::StoreName;
+
+/// The store.
+#[tactic(auto, unfolding(crate::specs::Values::store_in))]
+pub(crate) fn store<'a>(options: &Options<'a>) -> Option<StoreName<'a>>
+    ensures { result ≡ store_in options.now }
+{
+    match options.text("store") {
+        Some(text) => StoreName::read(text),
+        None => None,
+    }
+}
+
+/// How many workers share a search.
+#[tactic(auto, unfolding(crate::specs::Values::workers_in))]
+pub(crate) fn workers(options: &Options<'_>) -> Option<u32>
+    ensures value { result ≡ workers_in options.now }
+    ensures limits { IfSome result (IsBetween 1 most_workers) }
+{
+    options.number_or("workers", 1, MOST_WORKERS, DEFAULT_WORKERS)
+}
+
+/// How many of the best quotations are asked for, where any number is.
+#[tactic(auto, unfolding(crate::specs::Values::best_in))]
+pub(crate) fn best(options: &Options<'_>) -> Option<Option<u32>>
+    ensures value { result ≡ best_in options.now }
+    ensures limits { IfSome result (λ asked. IfSome asked (IsBetween 1 most_best)) }
+{
+    match options.text("best") {
+        Some(text) => number_between(text, 1, MOST_BEST).map(Some),
+        None => Some(None),
+    }
+}
+
+/// The number of an edition.
+#[tactic(auto, unfolding(crate::specs::Values::edition_in))]
+pub(crate) fn edition(options: &Options<'_>) -> Option<u32>
+    ensures value { result ≡ edition_in options.now }
+    ensures limits { IfSome result (IsBetween 1 most_edition) }
+{
+    options.number("edition", 1, MOST_EDITION)
+}
+
+/// The port on which connections come in.
+#[tactic(auto, unfolding(crate::specs::Values::port_in))]
+pub(crate) fn port(options: &Options<'_>) -> Option<u16>
+    ensures value { result ≡ port_in options.now }
+    ensures limits { IfSome result (IsBetween 1 most_port) }
+{
+    let number = options.number("port", 1, MOST_PORT)?;
+    Some(number as u16)
+}
+
+/// How many connections are served.
+#[tactic(auto, unfolding(crate::specs::Values::count_in))]
+pub(crate) fn count(options: &Options<'_>) -> Option<u32>
+    ensures value { result ≡ count_in options.now }
+    ensures limits { IfSome result (IsBetween 1 most_count) }
+{
+    options.number("count", 1, MOST_COUNT)
+}
+
+/// How many connections make a round.
+#[tactic(auto, unfolding(crate::specs::Values::round_in))]
+pub(crate) fn round(options: &Options<'_>) -> Option<u32>
+    ensures value { result ≡ round_in options.now }
+    ensures limits { IfSome result (IsBetween 1 most_round) }
+{
+    options.number_or("round", 1, MOST_ROUND, DEFAULT_ROUND)
+}
+
+/// The seed of a drill.
+#[tactic(auto, unfolding(crate::specs::Values::seed_in))]
+pub(crate) fn seed(options: &Options<'_>) -> Option<u32>
+    ensures value { result ≡ seed_in options.now }
+    ensures limits { IfSome result (IsBetween 0 most_seed) }
+{
+    options.number("seed", 0, MOST_SEED)
+}
+
+/// How many sectors a drill has.
+#[tactic(auto, unfolding(crate::specs::Values::sectors_in))]
+pub(crate) fn sectors(options: &Options<'_>) -> Option<u32>
+    ensures value { result ≡ sectors_in options.now }
+    ensures limits { IfSome result (IsBetween 1 most_sectors) }
+{
+    options.number("sectors", 1, MOST_SECTORS)
+}
+
+/// How many extra records a drill has.
+#[tactic(auto, unfolding(crate::specs::Values::extra_in))]
+pub(crate) fn extra(options: &Options<'_>) -> Option<u32>
+    ensures value { result ≡ extra_in options.now }
+    ensures limits { IfSome result (IsBetween 0 most_extra) }
+{
+    options.number_or("extra", 0, MOST_EXTRA, DEFAULT_EXTRA)
+}
