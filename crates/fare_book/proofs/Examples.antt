@@ -1,6 +1,6 @@
 -- Books of short editions, computed on the definitions.
 use Prim.Native.String.{String}
-use Rattle.std.proofs.Common.{◌≡◌, ◌≢◌, refl, ℕ, List, [], ◌∷◌, Option, Some, None, map, length, Ok, Err, arith, ap}
+use Rattle.std.proofs.Common.{◌≡◌, refl, ℕ, List, [], ◌∷◌, Option, Some, None, map, Ok, Err, arith}
 use Rattle.std.specs.Prelude.{⊤, option_map, codes}
 use Rattle.csv.proofs.OnLiterals.{csv_on_literals}
 use Rattle.std.specs.Fmt.{digits}
@@ -11,7 +11,7 @@ use Rattle.fare_codes.specs.Words.{read_area, read_mode}
 use Rattle.fare_tariff.specs.Check.{first_fault_from, is_one_unknown, kind_of}
 use Rattle.fare_tariff.specs.Tariff.{Tariff}
 use Rattle.fare_csv.specs.declared.text_fault.TextFault.TheVariants.{NoHeader}
-use Rattle.fare_csv.specs.CanonicalText.{canonical_rows, canonical_text, record_row}
+use Rattle.fare_csv.specs.CanonicalText.{canonical_rows, record_row}
 use Rattle.fare_csv.specs.Fields.{counted}
 use Rattle.fare_csv.specs.Head.{head_of, read_version}
 use Rattle.fare_csv.specs.Lines.{line_of, lines_of}
@@ -21,8 +21,7 @@ use Rattle.fare_csv.specs.RecordText.{city_of, currency_of}
 use Rattle.fare_csv.specs.Rows.{rows_of}
 use Rattle.fare_csv.specs.TariffText.{edition_of, end_of, ended_by, followed_by, headed, nothing_after, record_of, record_of_kind, records_of, tariff_of}
 use Rattle.fare_book.specs.declared.damage.Damage.TheVariants.{Text, Repeat}
-use Rattle.fare_book.specs.declared.published.Published.TheVariants.{New, Already}
-use Rattle.fare_book.specs.declared.publish_fault.PublishFault.TheVariants.{Differs, Full}
+use Rattle.fare_book.specs.declared.published.Published.TheVariants.{Already}
 use Rattle.fare_book.specs.Book.{settled}
 use Rattle.fare_book.specs.Editions.{editions_of, read_behind, with_bodies}
 use Rattle.fare_book.specs.Publish.{HasNoRoom, IsNewTo, Offers}

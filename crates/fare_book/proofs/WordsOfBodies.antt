@@ -1,5 +1,5 @@
 -- The editions of bodies are those that the words say, and so is their damage.
-use Rattle.std.proofs.Common.{◌≡◌, ◌≢◌, ◌∙◌, ◌⊎◌, ◌<◌, ◌≤◌, ◌+◌, ℕ, suc, zero, inl, inr, List, [], ◌∷◌, ◌++◌, length, get_or, map, Option, Some, None, Result, Ok, Err, true, false, Bool, cond, nat_lt, arith, refl, sym, ap, append_assoc, length-append}
+use Rattle.std.proofs.Common.{◌≡◌, ◌≢◌, ◌∙◌, ◌<◌, ◌≤◌, ◌+◌, ℕ, suc, zero, inl, inr, List, [], ◌∷◌, ◌++◌, length, get_or, map, Option, Some, None, Result, Ok, Err, true, false, Bool, nat_lt, arith, refl, sym, ap, append_assoc, length-append}
 use Rattle.std.proofs.lemmas.List.{append-nil}
 use Rattle.std.proofs.lemmas.Bool.Decides.{nat_tests}
 use Rattle.std.proofs.Math.ListN.{get_or-append}
@@ -9,8 +9,8 @@ use Rattle.fare_csv.specs.declared.text_fault.TextFault.{TextFault}
 use Rattle.fare_csv.specs.TariffText.{edition_of}
 use Rattle.fare_book.specs.declared.damage.Damage.{Damage}
 use Rattle.fare_book.specs.declared.damage.Damage.TheVariants.{Text, Repeat, TooMany}
-use Rattle.fare_book.specs.BodiesInWords.{AreEditionsOf, IsDamaged, IsDamageOf, IsFirstDamage, IsTooMany}
-use Rattle.fare_book.specs.Book.{has_number, most_editions, numbered}
+use Rattle.fare_book.specs.BodiesInWords.{AreEditionsOf, IsDamaged, IsDamageOf, IsFirstDamage}
+use Rattle.fare_book.specs.Book.{most_editions, numbered}
 use Rattle.fare_book.specs.Editions.{DamageAt, ◌>>=◌, at_place, edition_behind, editions_of, place_of, read_behind, unrepeated, with_body, with_bodies, with_edition}
 use Rattle.fare_book.proofs.Bodies.{few}
 use Rattle.fare_book.proofs.EditionLists.{AreDistinct, Found, added_ok, editions_distinct, editions_one_by_one, new_behind, no_place, other_number, placed_ok, went_on, with_bodies-append, with_bodies-length}
