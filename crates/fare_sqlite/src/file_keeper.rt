@@ -56,9 +56,11 @@ impl Keeper for FileKeeper {
 
     ghost ready = { λ keeper. is_some_and (λ table. table.is_ready) keeper.table };
 
-    /// Opens the file of that name, or the table again where a file is open already. It fails where
-    /// the file can't be opened for writing, is no database, holds anything but the table of editions,
-    /// or is open elsewhere.
+    /// Opens the file of that name, and makes it where there is none. Once that has succeeded it opens
+    /// the same table again, and doesn't look at the name. It fails where the file can't be opened for
+    /// writing, as where its folder is missing or it is read-only, where it is no database or holds
+    /// anything but a table of editions, and where it is open elsewhere. Such a file is left as it was,
+    /// and closed again.
     fn open(&mut self, alloc: Global, name: &str) -> Result<(), KeepFault> {
         let answer = self.open_table(alloc, name);
         counted(&mut self.faults, answer)

@@ -1,7 +1,7 @@
 use crate::count::fault_of;
 use crate::form::{holds_editions_alone, is_blank};
 use fare_outside::KeepFault;
-use sqlite::{Alter, Connection, Error, params};
+use sqlite::{Alter, Connection, params};
 
 const CREATE: &str =
     "CREATE TABLE IF NOT EXISTS edition(place INTEGER PRIMARY KEY, body BLOB NOT NULL)";
@@ -68,10 +68,8 @@ pub fn replace<S: Alter>(
 }
 
 fn create<S: Alter>(conn: &mut Connection<S>) -> Result<(), KeepFault> {
-    match conn.execute(CREATE, &[]) {
-        Ok(_) => Ok(()),
-        Err(error) => Err(fault_of(error)),
-    }
+    conn.execute(CREATE, &[]).map_err(fault_of)?;
+    Ok(())
 }
 
 fn count_rows<S: Alter>(conn: &mut Connection<S>) -> Result<i64, KeepFault> {
@@ -88,10 +86,9 @@ fn count_astray<S: Alter>(conn: &mut Connection<S>, count: i64) -> Result<i64, K
 }
 
 fn insert<S: Alter>(conn: &mut Connection<S>, place: i64, body: &[u8]) -> Result<(), KeepFault> {
-    match conn.execute(INSERT, params![place, body]) {
-        Ok(_) => Ok(()),
-        Err(error) => Err(fault_of(error)),
-    }
+    conn.execute(INSERT, params![place, body])
+        .map_err(fault_of)?;
+    Ok(())
 }
 
 /// Answers how many rows it changed.
