@@ -1,11 +1,11 @@
-ghost use Rattle.std.specs.Prelude.{◌≡◌, ◌||◌, None, is_ok};
-ghost use Rattle.fare_sqlite.specs.Held.{is_some_and};
+ghost use Rattle.std.specs.Prelude.{◌≡◌, ◌||◌, None, false, is_ok};
 
 use crate::SqliteKeeper;
 use crate::count::{counted, fault_of};
 use fare_outside::{KeepFault, Keeper};
 use sqlite::{Connection, File, FileStore};
 use std::alloc::Global;
+use std::marker::Model;
 
 /// A keeper over the database file of a name, which `open` opens, and makes where there is none. It
 /// doesn't tell its bodies.
@@ -21,11 +21,18 @@ pub struct FileKeeper {
     faults: u64,
 }
 
+impl Model for FileKeeper {
+    ghost use Rattle.fare_sqlite.specs.State.{KeeperState, is_there_and_ready};
+
+    ghost Value = { KeeperState };
+
+    ghost view = { λ k. record { is_ready = is_there_and_ready k.table; faults = k.faults } };
+}
+
 impl FileKeeper {
     /// A keeper of this process, over no file yet.
     pub fn new(rt: &HostRuntime) -> FileKeeper
-        ensures table { result.table ≡ None }
-        ensures faults { result.faults ≡ 0 }
+        ensures { result ≡ record { is_ready = false; faults = 0 } }
     {
         FileKeeper {
             runtime: *rt,
@@ -35,9 +42,7 @@ impl FileKeeper {
     }
 
     fn open_table(&mut self, alloc: Global, name: &str) -> Result<(), KeepFault>
-        ensures ready { is_some_and (λ table. table.is_ready) self.new.table
-            ≡ (is_some_and (λ table. table.is_ready) self.old.table || is_ok result) }
-        ensures faults { self.new.faults ≡ self.old.faults }
+        ensures { self.new ≡ record self.old { is_ready = self.old.is_ready || is_ok result } }
     {
         if let Some(table) = &mut self.table {
             return table.open(alloc, name);
@@ -54,13 +59,13 @@ impl Keeper for FileKeeper {
 
     ghost faults = { λ keeper. keeper.faults };
 
-    ghost ready = { λ keeper. is_some_and (λ table. table.is_ready) keeper.table };
+    ghost ready = { λ keeper. keeper.is_ready };
 
     /// Opens the file of that name, and makes it where there is none. Once that has succeeded it opens
     /// the same table again, and doesn't look at the name. It fails where the file can't be opened for
     /// writing, as where its folder is missing or it is read-only, where it is no database or holds
-    /// anything but a table of editions, and where it is open elsewhere. Such a file is left as it was,
-    /// and closed again.
+    /// anything but a table of editions, and where it is open elsewhere. Such a file keeps what it
+    /// holds and is closed again; an empty log may be left beside it.
     fn open(&mut self, alloc: Global, name: &str) -> Result<(), KeepFault> {
         let answer = self.open_table(alloc, name);
         counted(&mut self.faults, answer)

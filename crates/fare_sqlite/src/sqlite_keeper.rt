@@ -5,6 +5,7 @@ use crate::table;
 use fare_outside::{KeepFault, Keeper};
 use sqlite::{Alter, Connection};
 use std::alloc::Global;
+use std::marker::Model;
 
 /// A keeper over a database: its bodies are the rows of one table, by place. It doesn't tell them.
 ///
@@ -17,12 +18,18 @@ pub struct SqliteKeeper<S: Alter> {
     faults: u64,
 }
 
+impl<S: Alter> Model for SqliteKeeper<S> {
+    ghost use Rattle.fare_sqlite.specs.State.{KeeperState};
+
+    ghost Value = { KeeperState };
+
+    ghost view = { λ k. record { is_ready = k.is_ready; faults = k.faults } };
+}
+
 impl<S: Alter> SqliteKeeper<S> {
     /// A keeper over that connection, not opened yet.
     pub fn over(conn: Connection<S>) -> SqliteKeeper<S>
-        ensures conn { result.conn ≡ conn }
-        ensures ready { result.is_ready ≡ false }
-        ensures faults { result.faults ≡ 0 }
+        ensures { result ≡ record { is_ready = false; faults = 0 } }
     {
         SqliteKeeper {
             conn,
@@ -32,9 +39,7 @@ impl<S: Alter> SqliteKeeper<S> {
     }
 
     /// The connection that it was over.
-    pub fn into_connection(self) -> Connection<S>
-        ensures { result ≡ self.conn }
-    {
+    pub fn into_connection(self) -> Connection<S> {
         self.conn
     }
 }
