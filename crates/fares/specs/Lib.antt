@@ -1,6 +1,5 @@
 pub mod Exit
 pub mod FaultText
-pub mod Words
 pub mod Request
 pub mod Input
 pub mod Outcome

@@ -12,7 +12,7 @@ use Rattle.fares.specs.declared.exit.Exit.{Exit}
 use Rattle.fares.specs.declared.exit.Exit.TheVariants as ended
 use Rattle.fares.specs.declared.words.Request.{Request}
 use Rattle.fares.specs.declared.words.Request.TheVariants as request
-use Rattle.fares.specs.Request.{request_of}
+use Rattle.fares.specs.Request.{asked}
 use Rattle.fares.specs.Input.{itinerary_text, tariff_text, itinerary_of}
 
 -- an answer: the text to write, or what the run ends in without it
@@ -64,4 +64,4 @@ AnswersRequest request.Nothing source answer = answer ≡ Err ended.Usage
 
 -- the answer to words and a source
 abbrev pub IsOutcome : List (List ℕ) → List ℕ → Answer → Type 0
-IsOutcome words source answer = AnswersRequest (request_of words) source answer
+IsOutcome words source answer = AnswersRequest (asked words) source answer

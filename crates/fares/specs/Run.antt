@@ -1,5 +1,5 @@
 -- How a run ends, whatever happens to its reads and writes.
-use Rattle.std.specs.Prelude.{ℕ, List, [], Option, Ok, Err, ⊤}
+use Rattle.std.specs.Prelude.{◌≡◌, ◌⊎◌, ℕ, List, [], Option, Ok, Err, ⊤}
 use Rattle.std.specs.Io.KnownBytes.{Appends}
 use Rattle.fare_outside.specs.Sink.{AppendsPrefix}
 use Rattle.fares.specs.declared.exit.Exit.{Exit}
@@ -24,6 +24,10 @@ abbrev pub IsSilent : Exit → Type 0
 IsSilent ended.Done = ⊥
 IsSilent ended.WriteFault = ⊥
 IsSilent _ = ⊤
+
+-- a run ended so, or memory was wanting
+abbrev pub IsSoOrMemory : Exit → Exit → Type 0
+IsSoOrMemory expected exit = (exit ≡ expected) ⊎ (exit ≡ ended.Memory)
 
 -- an end that `price` can come to, whatever its source holds and whether it tells it
 abbrev pub IsEndOfPrice : Exit → Type 0

@@ -1,13 +1,12 @@
 //! The fares desk: quotes air itineraries by mileage fare construction. `run` is the whole program over any source,
 //! sink, store, door and gate; `main` calls it over the real ones. What it answers is defined in `specs/` (`Outcome`).
 //!
-//! - `command`, `words`: what the words of the command line ask for;
+//! - `words`: what the words of the command line ask for;
 //! - `input`, `price`, `quote`: the two texts of a source of `price`, and the answer to them;
 //! - `run`: the whole program, from its words to what it ends in;
 //! - `exit`, `fault_line`: what a run ends in, with its status and its line on standard error.
 #![tactic(auto)]
 
-mod command;
 mod exit;
 mod fault_line;
 mod input;

@@ -1,16 +1,16 @@
-ghost use Rattle.std.specs.Prelude.{◌≡◌, ◌≢◌, ◌⊎◌, ◌+◌, ◌≤◌, ◌↔◌, map, string_bytes, IfSome};
+ghost use Rattle.std.specs.Prelude.{◌≡◌, ◌≢◌, ◌⊎◌, ◌+◌, ◌≤◌, map, string_bytes, IfSome};
 ghost use Rattle.std.specs.Io.KnownBytes.{Appends};
 ghost use Rattle.fare_outside.specs.Cause.{Rose};
 ghost use Rattle.fare_outside.specs.Source.{TakesUpTo, TakesJust};
 ghost use Rattle.fare_outside.specs.Sink.{AppendsPrefix};
-ghost use Rattle.fares.specs.Request.{request_of};
+ghost use Rattle.fares.specs.Request.{asked};
 ghost use Rattle.fares.specs.Outcome.{price_limit, IsOutcome};
-ghost use Rattle.fares.specs.Run.{EndsIn, IsSilent, IsEndOfPrice};
+ghost use Rattle.fares.specs.Run.{EndsIn, IsSilent, IsEndOfPrice, IsSoOrMemory};
 
 use crate::exit::Exit;
 use crate::price::{PRICE_LIMIT, price};
-use crate::words::{Request, request_of};
-use fare_outside::{Door, Gate, Keeper, ReadEnd, Sink, Source, read_all, write_all};
+use crate::words::{Request, asked};
+use fare_outside::{Door, Gate, Keeper, NoMemory, ReadEnd, Sink, Source, read_all, write_all};
 use std::alloc::Global;
 use std::thread::Threads;
 
@@ -35,14 +35,14 @@ pub fn run<R: Threads + Sync, S: Source, K: Sink, P: Keeper, D: Door, G: Gate>(
         EndsIn (IsOutcome (map string_bytes words.now) source) result (K.taken out.old) (K.taken out.new)) }
 
     // The ends, whether the source tells its bytes or not.
-    ensures usage { (result ≡ Exit.Usage) ↔ (request_of (map string_bytes words.now) ≡ Request.Nothing) }
-    ensures not_yet { (result ≡ Exit.NotYet) ↔ (request_of (map string_bytes words.now) ≡ Request.Missing) }
-    ensures taken { request_of (map string_bytes words.now) ≡ Request.Price → IsEndOfPrice result }
+    ensures usage { asked (map string_bytes words.now) ≡ Request.Nothing → IsSoOrMemory Exit.Usage result }
+    ensures not_yet { asked (map string_bytes words.now) ≡ Request.Missing → IsSoOrMemory Exit.NotYet result }
+    ensures taken { asked (map string_bytes words.now) ≡ Request.Price → IsEndOfPrice result }
     ensures read_fault { result ≡ Exit.ReadFault → Rose (S.faults src.old) (S.faults src.new) }
     ensures write_fault { result ≡ Exit.WriteFault → Rose (K.faults out.old) (K.faults out.new) }
 
     // What is left alone.
-    ensures untouched { request_of (map string_bytes words.now) ≢ Request.Price → src.new ≡ src.old }
+    ensures untouched { asked (map string_bytes words.now) ≢ Request.Price → src.new ≡ src.old }
     ensures silent { IsSilent result → out.new ≡ out.old }
     ensures store { store.new ≡ store.old }
     ensures door { door.new ≡ door.old }
@@ -53,10 +53,11 @@ pub fn run<R: Threads + Sync, S: Source, K: Sink, P: Keeper, D: Door, G: Gate>(
     ensures source_count { S.faults src.old ≤ S.faults src.new }
     ensures sink_count { K.faults out.old ≤ K.faults out.new }
 {
-    match request_of(words) {
-        Request::Nothing => return Exit::Usage,
-        Request::Missing => return Exit::NotYet,
-        Request::Price => (),
+    match asked(alloc, words) {
+        Ok(Request::Price) => (),
+        Ok(Request::Missing) => return Exit::NotYet,
+        Ok(Request::Nothing) => return Exit::Usage,
+        Err(NoMemory) => return Exit::Memory,
     }
     let source = match read_all(alloc, src, PRICE_LIMIT) {
         Ok(source) => source,

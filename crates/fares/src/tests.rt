@@ -178,6 +178,7 @@ fn other_words_are_not_taken(rt: HostRuntime) -> Result<(), Fail> {
     assert!(rt; status_of(&rt, alloc, &[])? == 2);
     assert!(rt; status_of(&rt, alloc, &["prices"])? == 2);
     assert!(rt; status_of(&rt, alloc, &["price", "LON"])? == 2);
+    assert!(rt; status_of(&rt, alloc, &["quote"])? == 2);
     Ok(())
 }
 
@@ -185,7 +186,22 @@ fn other_words_are_not_taken(rt: HostRuntime) -> Result<(), Fail> {
 fn missing_commands_and_options_are_told(rt: HostRuntime) -> Result<(), Fail> {
     let alloc = rt.alloc();
     assert!(rt; status_of(&rt, alloc, &["quote", "--store", "editions"])? == 30);
-    assert!(rt; status_of(&rt, alloc, &["price", "--workers", "2"])? == 30);
     assert!(rt; status_of(&rt, alloc, &["price", "--best=3"])? == 30);
+    Ok(())
+}
+
+#[test]
+fn workers_are_taken(rt: HostRuntime) -> Result<(), Fail> {
+    let alloc = rt.alloc();
+    let mut source = PlainSource::new(one_sector(alloc)?);
+    let mut sink = PlainSink::new(alloc, 4096)?;
+    let exit = ended(
+        &rt,
+        alloc,
+        &["price", "--workers", "16"],
+        &mut source,
+        &mut sink,
+    )?;
+    assert!(rt; exit.status() == 0);
     Ok(())
 }

@@ -1,14 +1,16 @@
 //! What the words of a command line ask for.
 
-ghost use Rattle.std.specs.Prelude.{◌≡◌, map, string_bytes};
-ghost use Rattle.fares.specs.Request.{request_of, price_request, is_option};
+ghost use Rattle.std.specs.Prelude.{◌≡◌, IfOk, map, string_bytes};
+ghost use Rattle.fares.specs.Request.{asked, request_of};
 
-use crate::command::Command;
+use fare_outside::NoMemory;
+use fare_words::{Command, read_words};
+use std::alloc::Global;
 
 /// What the words of a command line ask for.
 #[derive(Clone, Copy, Debug, PartialEq, Eq)]
 pub enum Request {
-    /// The command `price`, without options.
+    /// The command `price`, without `--best`.
     Price,
     /// A command, or an option of `price`, that the program doesn't have yet.
     Missing,
@@ -16,43 +18,21 @@ pub enum Request {
     Nothing,
 }
 
-/// What words ask for: the first one names a command.
-pub fn request_of(words: &[String]) -> Request
-    ensures { result ≡ request_of (map string_bytes words.now) }
+/// What words ask for.
+pub fn asked(alloc: Global, words: &[String]) -> Result<Request, NoMemory>
+    ensures { IfOk result (λ request. request ≡ asked (map string_bytes words.now)) }
 {
-    match words {
-        [] => Request::Nothing,
-        [first, behind @ ..] => match Command::named(first.as_str()) {
-            None => Request::Nothing,
-            Some(Command::Price) => price_request(behind),
-            Some(_) => Request::Missing,
-        },
-    }
+    let taken = read_words(alloc, words)?;
+    Ok(request_of(&taken))
 }
 
-/// What words behind `price` ask for.
-fn price_request(behind: &[String]) -> Request
-    ensures { result ≡ price_request (map string_bytes behind.now) }
+/// What the command that words give asks for, or their refusal.
+fn request_of(taken: &Option<Command>) -> Request
+    ensures { result ≡ request_of taken.now }
 {
-    match behind {
-        [] => Request::Price,
-        [word, ..] => {
-            if is_option(word.as_str()) {
-                Request::Missing
-            } else {
-                Request::Nothing
-            }
-        }
+    match taken {
+        None => Request::Nothing,
+        Some(Command::Price { best: None, .. }) => Request::Price,
+        Some(_) => Request::Missing,
     }
-}
-
-/// Whether a word gives an option of `price`, alone or with its value.
-fn is_option(word: &str) -> bool
-    ensures { result ≡ is_option word.now }
-{
-    let word = word.as_bytes();
-    word == b"--workers".as_slice()
-        || word.starts_with(b"--workers=")
-        || word == b"--best".as_slice()
-        || word.starts_with(b"--best=")
 }
