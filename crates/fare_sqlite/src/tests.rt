@@ -60,12 +60,12 @@ fn a_table_keeps_bodies_by_place(rt: HostRuntime) -> Result<(), Fail> {
 static OPENED: [&str; 3] = [
     "",
     "CREATE TABLE edition(place INTEGER PRIMARY KEY, body BLOB NOT NULL)",
-    "CREATE TABLE edition(place INTEGER PRIMARY KEY, body BLOB NOT NULL); INSERT INTO edition VALUES (2, x'00'), (1, x'')",
+    "CREATE TABLE edition(place INTEGER PRIMARY KEY, body BLOB NOT NULL); INSERT INTO edition VALUES (2, x''), (1, x'')",
 ];
 
 /// Databases of something else, or with places astray.
 static REFUSED: [&str; 9] = [
-    "CREATE TABLE edition(place INTEGER PRIMARY KEY, body BLOB NOT NULL); INSERT INTO edition VALUES (1, x'00'), (3, x'00')",
+    "CREATE TABLE edition(place INTEGER PRIMARY KEY, body BLOB NOT NULL); INSERT INTO edition VALUES (1, x''), (3, x'')",
     "CREATE TABLE edition(place INTEGER PRIMARY KEY, body BLOB NOT NULL); INSERT INTO edition VALUES (0, x'00')",
     "CREATE TABLE edition(place INTEGER PRIMARY KEY, body BLOB NOT NULL); INSERT INTO edition VALUES (1, 'text')",
     "CREATE TABLE edition(place INTEGER PRIMARY KEY, body BLOB NOT NULL); CREATE INDEX by_body ON edition(body)",
