@@ -1,16 +1,22 @@
-//! One exchange over a door: the answer that is sent on the current connection.
+//! The halves of one exchange over a door: the head of a request that is read from the current connection, and
+//! the answer that is sent on it.
 //!
+//! - `head`, `no_head`: the head, in whatever pieces its bytes come, or why there is none;
 //! - `status`, `reply`: what is answered;
 //! - `sending`: the bytes of an answer, on the current connection.
 #![tactic(auto)]
 
 mod allow;
+mod head;
+mod no_head;
 mod reply;
 mod send_all;
 mod sending;
 mod status;
 
 pub use allow::Allow;
+pub use head::{Head, MOST_FIELDS, MOST_HEAD, read_head};
+pub use no_head::NoHead;
 pub use reply::Reply;
 pub use sending::{Exchange, send};
 pub use status::Status;
