@@ -1,3 +1,4 @@
 pub mod Answers
 pub mod Sending
 pub mod Heads
+pub mod Lengths

@@ -2,12 +2,15 @@
 //! the answer that is sent on it.
 //!
 //! - `head`, `no_head`: the head, in whatever pieces its bytes come, or why there is none;
+//! - `lengths`, `body_fault`: how long the body is that a head announces;
 //! - `status`, `reply`: what is answered;
 //! - `sending`: the bytes of an answer, on the current connection.
 #![tactic(auto)]
 
 mod allow;
+mod body_fault;
 mod head;
+mod lengths;
 mod no_head;
 mod reply;
 mod send_all;
@@ -15,7 +18,9 @@ mod sending;
 mod status;
 
 pub use allow::Allow;
+pub use body_fault::BodyFault;
 pub use head::{Head, MOST_FIELDS, MOST_HEAD, read_head};
+pub use lengths::{MOST_BODY, body_length};
 pub use no_head::NoHead;
 pub use reply::Reply;
 pub use sending::{Exchange, send};
