@@ -2,6 +2,10 @@
 use Rattle.std.specs.Prelude.{◌≡◌, ℕ, ◌<◌, ◌⊎◌, List, ◌++◌, length, Option}
 use Rattle.std.specs.Io.KnownBytes.{Consumes, IsAtEnd}
 use Rattle.httparse.specs.Grammar.{HasNoRequest}
+use Rattle.fare_http.specs.declared.no_piece.NoPiece.{NoPiece}
+use Rattle.fare_http.specs.declared.no_piece.NoPiece.TheVariants.{Memory as PieceMemory, Ended as PieceEnded, Failed as PieceFailed}
+use Rattle.fare_http.specs.declared.no_head.NoHead.{NoHead}
+use Rattle.fare_http.specs.declared.no_head.NoHead.TheVariants.{Memory, Ended, Failed}
 use Rattle.httparse.specs.Spans.{RequestExceeds, RequestOverflows}
 
 -- the most bytes of a head
@@ -29,3 +33,9 @@ EndsEarly left taken = IsAtEnd left × HasNoRequest taken × (length taken < mos
 -- the bytes taken grew by the next bytes of the connection
 abbrev pub Grows : Option (List ℕ) → Option (List ℕ) → List ℕ → List ℕ → Type 0
 Grows old new before after = (piece : List ℕ) × Consumes old new piece × (after ≡ before ++ piece)
+
+-- where no further bytes come, the head isn't whole for the same reason
+abbrev pub head_fault : NoPiece → NoHead
+head_fault PieceMemory = Memory
+head_fault PieceEnded = Ended
+head_fault PieceFailed = Failed

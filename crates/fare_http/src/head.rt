@@ -4,9 +4,10 @@ ghost use Rattle.std.specs.Io.KnownBytes.{Consumes, IsAtEnd};
 ghost use Rattle.httparse.specs.Grammar.{HasNoRequest, NeverHasRequest};
 ghost use Rattle.httparse.specs.Spans.{IsRequestWithin, IsRequestOf, RequestExceeds, RequestOverflows};
 ghost use Rattle.fare_outside.specs.Cause.{Rose};
-ghost use Rattle.fare_http.specs.Heads.{Takes, IsOverLimit, EndsEarly, Grows};
+ghost use Rattle.fare_http.specs.Heads.{Takes, IsOverLimit, EndsEarly};
 
 use crate::NoHead;
+use crate::piece::read_piece;
 use fare_outside::Door;
 use httparse::spans::{HeaderSpan, RequestSpans, parse_request};
 use httparse::{Error, Status};
@@ -66,7 +67,7 @@ pub fn read_head<D: Door>(
         if taken.len() == MOST_HEAD {
             return Err(NoHead::Limit);
         }
-        read_piece(door, &mut taken)?;
+        read_piece(door, &mut taken, MOST_HEAD)?;
     }
 }
 
@@ -87,36 +88,4 @@ fn look(taken: &[u8], fields: &mut [HeaderSpan]) -> Result<Option<RequestSpans>,
         Err(Error::TooManyHeaders) => Err(NoHead::Limit),
         Err(_) => Err(NoHead::Bad),
     }
-}
-
-// The most bytes that one read asks for.
-const PIECE: usize = 4096;
-
-// Adds the next piece of the connection to the bytes taken.
-fn read_piece<D: Door>(door: &mut D, taken: &mut Vec<u8>) -> Result<(), NoHead>
-    requires { vec_len taken.old < MOST_HEAD }
-    ensures grows { OnOk result
-        (Grows (D.left door.old) (D.left door.new) taken.old.items taken.new.items) }
-    ensures progress { OnOk result (vec_len taken.old < vec_len taken.new) }
-    ensures most { OnOk result (vec_len taken.new ≤ MOST_HEAD) }
-    ensures ended { IsErrOf result NoHead.Ended → IsAtEnd (D.left door.new) }
-    ensures none { IsErrOf result NoHead.Ended → Consumes (D.left door.old) (D.left door.new) [] }
-    ensures cause { IsErrOf result NoHead.Failed → Rose (D.cuts door.old) (D.cuts door.new) }
-    ensures not_bad { result ≢ Err NoHead.Bad }
-    ensures not_limit { result ≢ Err NoHead.Limit }
-    ensures never_falls { D.cuts door.old ≤ D.cuts door.new }
-    ensures sent { D.sent door.new ≡ D.sent door.old }
-    ensures waiting { D.waiting door.new ≡ D.waiting door.old }
-    ensures held { D.held door.new ≡ D.held door.old }
-    ensures current { D.current door.new ≡ D.current door.old }
-    ensures faults { D.faults door.new ≡ D.faults door.old }
-{
-    let mut piece = [0; PIECE];
-    let most = PIECE.min(MOST_HEAD - taken.len());
-    let count = door.read(&mut piece[..most])?;
-    if count == 0 {
-        return Err(NoHead::Ended);
-    }
-    taken.extend_from_slice(&piece[..count])?;
-    Ok(())
 }

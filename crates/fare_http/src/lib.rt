@@ -3,15 +3,20 @@
 //!
 //! - `head`, `no_head`: the head, in whatever pieces its bytes come, or why there is none;
 //! - `lengths`, `body_fault`: how long the body is that a head announces;
+//! - `body`: the body of that length;
+//! - `piece`, `no_piece`: the next bytes of a connection, or why there are none;
 //! - `status`, `reply`: what is answered;
 //! - `sending`: the bytes of an answer, on the current connection.
 #![tactic(auto)]
 
 mod allow;
+mod body;
 mod body_fault;
 mod head;
 mod lengths;
 mod no_head;
+mod no_piece;
+mod piece;
 mod reply;
 mod send_all;
 mod sending;

@@ -1,8 +1,7 @@
 ghost use Rattle.std.specs.Prelude.{◌≡◌};
-ghost use Rattle.fare_http.specs.declared.no_head.NoHead.TheVariants.{Memory, Failed as ReadFailed};
+ghost use Rattle.fare_http.specs.Heads.{head_fault};
 
-use fare_outside::Failed;
-use std::alloc::AllocError;
+use crate::no_piece::NoPiece;
 
 /// Why a connection has no head of a request.
 #[derive(Clone, Copy, Debug, PartialEq, Eq)]
@@ -19,18 +18,14 @@ pub enum NoHead {
     Failed,
 }
 
-impl From<AllocError> for NoHead {
-    ghost from_gives = { λ _ e. e ≡ Memory };
+impl From<NoPiece> for NoHead {
+    ghost from_gives = { λ fault e. e ≡ head_fault fault };
 
-    fn from(_: AllocError) -> Self {
-        NoHead::Memory
-    }
-}
-
-impl From<Failed> for NoHead {
-    ghost from_gives = { λ _ e. e ≡ ReadFailed };
-
-    fn from(_: Failed) -> Self {
-        NoHead::Failed
+    fn from(fault: NoPiece) -> Self {
+        match fault {
+            NoPiece::Memory => NoHead::Memory,
+            NoPiece::Ended => NoHead::Ended,
+            NoPiece::Failed => NoHead::Failed,
+        }
     }
 }
