@@ -2,3 +2,4 @@ pub mod Answers
 pub mod Sending
 pub mod Heads
 pub mod Lengths
+pub mod Requests

@@ -4,6 +4,7 @@
 //! - `head`, `no_head`: the head, in whatever pieces its bytes come, or why there is none;
 //! - `lengths`, `body_fault`: how long the body is that a head announces;
 //! - `body`: the body of that length;
+//! - `head_method`, `path_text`: the method and the path of a head;
 //! - `piece`, `no_piece`: the next bytes of a connection, or why there are none;
 //! - `status`, `reply`: what is answered;
 //! - `sending`: the bytes of an answer, on the current connection.
@@ -13,9 +14,11 @@ mod allow;
 mod body;
 mod body_fault;
 mod head;
+mod head_method;
 mod lengths;
 mod no_head;
 mod no_piece;
+mod path_text;
 mod piece;
 mod reply;
 mod send_all;
@@ -27,6 +30,7 @@ pub use body_fault::BodyFault;
 pub use head::{Head, MOST_FIELDS, MOST_HEAD, read_head};
 pub use lengths::{MOST_BODY, body_length};
 pub use no_head::NoHead;
+pub use path_text::PathText;
 pub use reply::Reply;
 pub use sending::{Exchange, send};
 pub use status::Status;
