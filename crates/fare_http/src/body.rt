@@ -16,7 +16,7 @@ pub fn read_body<D: Door>(
     requires { vec_len begun ≤ announced }
     ensures whole { IfOk result
         (λ body. Grows (D.left door.old) (D.left door.new) begun.items body.items) }
-    ensures announced { IfOk result (λ body. vec_len body ≡ announced) }
+    ensures announced { IfOk result (λ body. length body.items ≡ announced) }
     ensures ended { IsErrOf result NoPiece.Ended → IsAtEnd (D.left door.new) }
     ensures short { IsErrOf result NoPiece.Ended → Takes (D.left door.old) (D.left door.new)
         (λ piece. length (begun.items ++ piece) < announced) }

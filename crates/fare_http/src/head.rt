@@ -42,7 +42,7 @@ pub fn read_head<D: Door>(
         (λ head. Consumes (D.left door.old) (D.left door.new) head.taken.items) }
     ensures whole { IfOk result (λ head. IsRequestOf head.taken.items fields.new head.spans) }
     ensures within { IfOk result (λ head. IsRequestWithin head.taken.items fields.new head.spans) }
-    ensures most { IfOk result (λ head. vec_len head.taken ≤ MOST_HEAD) }
+    ensures most { IfOk result (λ head. length head.taken.items ≤ MOST_HEAD) }
 
     ensures bad { IsErrOf result NoHead.Bad →
         Takes (D.left door.old) (D.left door.new) NeverHasRequest }
