@@ -3,3 +3,4 @@ pub mod Sending
 pub mod Heads
 pub mod Lengths
 pub mod Requests
+pub mod Refusals

@@ -6,6 +6,7 @@
 //! - `body`: the body of that length;
 //! - `request_parts`, `head_method`, `path_text`: the method, the path and the length of the body of a head;
 //! - `request`, `no_request`: the whole request, or why there is none;
+//! - `taken`: the request, or the fixed answer to what is wrong with the bytes;
 //! - `piece`, `no_piece`: the next bytes of a connection, or why there are none;
 //! - `status`, `reply`: what is answered;
 //! - `sending`: the bytes of an answer, on the current connection.
@@ -28,6 +29,7 @@ mod request_parts;
 mod send_all;
 mod sending;
 mod status;
+mod taken;
 
 pub use allow::Allow;
 pub use body_fault::BodyFault;
@@ -41,3 +43,7 @@ pub use reply::Reply;
 pub use request::{Request, read_whole};
 pub use sending::{Exchange, send};
 pub use status::Status;
+pub use taken::{Taken, read_request};
+
+#[cfg(test)]
+mod tests;
