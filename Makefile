@@ -18,9 +18,10 @@ try:
 test:
 	.ci/run
 
-# Copies the proved program.
+# Copies the proved program, and its page for `man`.
 install: program
 	install -D $(PROGRAM) $(DESTDIR)$(PREFIX)/bin/fares
+	install -D -m 644 docs/fares.1 $(DESTDIR)$(PREFIX)/share/man/man1/fares.1
 
 # How long a tariff of RECORDS records takes to be read and checked.
 speed: program

@@ -1,0 +1,112 @@
+use crate::*;
+use fare_outside::{KeepFault, Keeper};
+use sqlite::{Connection, Error, MemStore};
+use std::alloc::Global;
+use std::fs;
+use std::test::Fail;
+
+/// The folder in which the tests on files lie.
+const FOLDER: &str = "fare_sqlite_test";
+
+/// A connection to a database in memory, after these statements.
+fn database(alloc: Global, sql: &str) -> Result<Connection<MemStore>, Error> {
+    let mut conn = Connection::open_in_memory(alloc)?;
+    conn.execute_batch(sql)?;
+    Ok(conn)
+}
+
+/// What `open` answers over such a database.
+fn opening(alloc: Global, sql: &str) -> Result<Result<(), KeepFault>, Fail> {
+    let mut store = SqliteKeeper::over(database(alloc, sql)?);
+    Ok(store.open(alloc, "editions"))
+}
+
+/// Opens the store, adds a body, and answers how many there are then.
+fn publish(
+    store: &mut FileKeeper,
+    alloc: Global,
+    name: &str,
+    body: &[u8],
+) -> Result<u64, KeepFault> {
+    store.open(alloc, name)?;
+    store.append(alloc, body)?;
+    store.len(alloc)
+}
+
+fn first_body(store: &mut FileKeeper, alloc: Global, name: &str) -> Result<Vec<u8>, KeepFault> {
+    store.open(alloc, name)?;
+    store.load(alloc, 1)
+}
+
+#[test]
+fn a_table_keeps_bodies_by_place(rt: HostRuntime) -> Result<(), Fail> {
+    let alloc = rt.alloc();
+    let mut store = SqliteKeeper::over(database(alloc, "")?);
+    store.open(alloc, "editions")?;
+    store.append(alloc, b"one")?;
+    store.append(alloc, b"two")?;
+    assert_eq!(rt; store.len(alloc)?, 2);
+    assert_eq!(rt; store.load(alloc, 2)?.as_slice(), b"two".as_slice());
+    store.replace(alloc, 1, b"")?;
+    assert_eq!(rt; store.load(alloc, 1)?.as_slice(), b"".as_slice());
+    assert_eq!(rt; store.load(alloc, 3).err(), Some(KeepFault::Failed));
+    assert_eq!(rt; store.replace(alloc, 3, b"three"), Err(KeepFault::Failed));
+    store.open(alloc, "editions")?;
+    assert_eq!(rt; store.len(alloc)?, 2);
+    Ok(())
+}
+
+/// Databases of editions.
+static OPENED: [&str; 3] = [
+    "",
+    "CREATE TABLE edition(place INTEGER PRIMARY KEY, body BLOB NOT NULL)",
+    "CREATE TABLE edition(place INTEGER PRIMARY KEY, body BLOB NOT NULL); INSERT INTO edition VALUES (2, x''), (1, x'')",
+];
+
+/// Databases of something else, or with places astray.
+static REFUSED: [&str; 9] = [
+    "CREATE TABLE edition(place INTEGER PRIMARY KEY, body BLOB NOT NULL); INSERT INTO edition VALUES (1, x''), (3, x'')",
+    "CREATE TABLE edition(place INTEGER PRIMARY KEY, body BLOB NOT NULL); INSERT INTO edition VALUES (0, x'00')",
+    "CREATE TABLE edition(place INTEGER PRIMARY KEY, body BLOB NOT NULL); INSERT INTO edition VALUES (1, 'text')",
+    "CREATE TABLE edition(place INTEGER PRIMARY KEY, body BLOB NOT NULL); CREATE INDEX by_body ON edition(body)",
+    "CREATE TABLE edition(place INTEGER PRIMARY KEY, body BLOB NOT NULL); BEGIN",
+    "CREATE TABLE edition(place INTEGER, body BLOB NOT NULL)",
+    "CREATE TABLE edition(place INTEGER PRIMARY KEY, body TEXT NOT NULL)",
+    "CREATE TABLE edition(place INTEGER PRIMARY KEY, body BLOB)",
+    "CREATE TABLE other(place INTEGER PRIMARY KEY, body BLOB NOT NULL)",
+];
+
+#[test]
+fn only_a_database_of_editions_is_opened(rt: HostRuntime) -> Result<(), Fail> {
+    for sql in &OPENED {
+        assert_eq!(rt; opening(rt.alloc(), sql)?, Ok(()));
+    }
+    for sql in &REFUSED {
+        assert_eq!(rt; opening(rt.alloc(), sql)?, Err(KeepFault::Failed));
+    }
+    Ok(())
+}
+
+#[test]
+fn a_file_keeps_bodies_for_one_keeper_at_a_time(rt: HostRuntime) -> Result<(), Fail> {
+    let alloc = rt.alloc();
+    let _ = fs::remove_dir_all(&rt, FOLDER);
+    let name = "fare_sqlite_test/editions";
+    let mut first = FileKeeper::new(&rt);
+    let in_no_folder = publish(&mut first, alloc, name, b"one");
+    assert_eq!(rt; in_no_folder, Err(KeepFault::Failed));
+    fs::create_dir(&rt, FOLDER)?;
+    assert_eq!(rt; publish(&mut first, alloc, name, b"one")?, 1);
+    let mut second = FileKeeper::new(&rt);
+    let beside_the_first = publish(&mut second, alloc, name, b"two");
+    assert_eq!(rt; beside_the_first, Err(KeepFault::Failed));
+    drop(first);
+    assert_eq!(rt; publish(&mut second, alloc, name, b"two")?, 2);
+    assert_eq!(rt;
+        first_body(&mut second, alloc, name)?.as_slice(),
+        b"one".as_slice()
+    );
+    drop(second);
+    fs::remove_dir_all(&rt, FOLDER)?;
+    Ok(())
+}
