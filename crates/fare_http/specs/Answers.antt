@@ -1,7 +1,10 @@
 -- The bytes of an answer.
 use Rattle.std.specs.Prelude.{ℕ, List, [], ◌++◌, length, codes, decimal, Option, None, Some}
 use Rattle.fare_http.specs.declared.status.Status.{Status}
-use Rattle.fare_http.specs.declared.status.Status.TheVariants.{Okay, Created, BadRequest, NotFound, MethodNotAllowed, Conflict, ContentTooLarge, UnprocessableContent, InternalServerError, ServiceUnavailable, InsufficientStorage}
+use Rattle.fare_http.specs.declared.status.Status.TheVariants.{Okay, Created, BadRequest, NotFound}
+use Rattle.fare_http.specs.declared.status.Status.TheVariants.{MethodNotAllowed, Conflict, ContentTooLarge}
+use Rattle.fare_http.specs.declared.status.Status.TheVariants.{UnprocessableContent, InternalServerError}
+use Rattle.fare_http.specs.declared.status.Status.TheVariants.{ServiceUnavailable, InsufficientStorage}
 use Rattle.fare_http.specs.declared.allow.Allow.{Allow}
 use Rattle.fare_http.specs.declared.allow.Allow.TheVariants.{Unsaid, Get, Post}
 use Rattle.fare_http.specs.declared.reply.Reply.{Reply}

@@ -50,7 +50,8 @@ IsFixed status text Cut = ⊥
 pub data IsRefused (reply : Reply) (taken : List ℕ) : Type 0 where
   bad_head : Says BadRequest (codes "BAD HEAD\n") reply → NeverHasRequest taken → IsRefused reply taken
   head_limit : Says ContentTooLarge (codes "LIMIT\n") reply → IsOverLimit taken → IsRefused reply taken
-  coded_body : Says BadRequest (codes "CODED BODY\n") reply → Announces (Err Coded) taken → IsRefused reply taken
+  coded_body : Says BadRequest (codes "CODED BODY\n") reply → Announces (Err Coded) taken
+      → IsRefused reply taken
   bad_length : Says BadRequest (codes "BAD LENGTH\n") reply → Announces (Err BadLength) taken → IsRefused reply taken
   body_limit : Says ContentTooLarge (codes "LIMIT\n") reply → Announces (Err TooLong) taken → IsRefused reply taken
 

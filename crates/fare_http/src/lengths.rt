@@ -2,7 +2,8 @@ ghost use Rattle.std.specs.Prelude.{◌≡◌, ◌≤◌, ◌∷◌, ◌++◌, [
 ghost use Rattle.std.specs.List.{list_all};
 ghost use Rattle.std.specs.Char.{is_ascii_digit};
 ghost use Rattle.httparse.specs.Spans.{IsHeaderWithin, header_bytes};
-ghost use Rattle.fare_http.specs.Lengths.{body_length, length_of, number_up_to, has_name, values_named, AreNamed, IsOneWithin};
+ghost use Rattle.fare_http.specs.Lengths.{body_length, length_of, number_up_to, has_name, values_named};
+ghost use Rattle.fare_http.specs.Lengths.{AreNamed, IsOneWithin};
 
 use crate::BodyFault;
 use httparse::spans::{HeaderSpan, Span};
