@@ -1,0 +1,4 @@
+pub mod SendingLemmas
+pub mod LengthLemmas
+pub mod TokenLemmas
+pub mod RequestLemmas

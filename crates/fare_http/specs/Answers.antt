@@ -1,0 +1,49 @@
+-- The bytes of an answer.
+use Rattle.std.specs.Prelude.{ℕ, List, [], ◌++◌, length, codes, decimal, Option, None, Some}
+use Rattle.fare_http.specs.declared.status.Status.{Status}
+use Rattle.fare_http.specs.declared.status.Status.TheVariants.{Okay, Created, BadRequest, NotFound}
+use Rattle.fare_http.specs.declared.status.Status.TheVariants.{MethodNotAllowed, Conflict, ContentTooLarge}
+use Rattle.fare_http.specs.declared.status.Status.TheVariants.{UnprocessableContent, InternalServerError}
+use Rattle.fare_http.specs.declared.status.Status.TheVariants.{ServiceUnavailable, InsufficientStorage}
+use Rattle.fare_http.specs.declared.allow.Allow.{Allow}
+use Rattle.fare_http.specs.declared.allow.Allow.TheVariants.{Unsaid, Get, Post}
+use Rattle.fare_http.specs.declared.reply.Reply.{Reply}
+
+-- a status with its phrase
+abbrev pub status_text : Status → List ℕ
+status_text Okay = codes "200 OK"
+status_text Created = codes "201 Created"
+status_text BadRequest = codes "400 Bad Request"
+status_text NotFound = codes "404 Not Found"
+status_text MethodNotAllowed = codes "405 Method Not Allowed"
+status_text Conflict = codes "409 Conflict"
+status_text ContentTooLarge = codes "413 Content Too Large"
+status_text UnprocessableContent = codes "422 Unprocessable Content"
+status_text InternalServerError = codes "500 Internal Server Error"
+status_text ServiceUnavailable = codes "503 Service Unavailable"
+status_text InsufficientStorage = codes "507 Insufficient Storage"
+
+-- the line that says which method is allowed, where the reply says so
+abbrev pub allow_line : Allow → List ℕ
+allow_line Unsaid = []
+allow_line Get = codes "Allow: GET\r\n"
+allow_line Post = codes "Allow: POST\r\n"
+
+-- an answer: the status line, the fields, an empty line and the body
+abbrev pub answer : Status → Allow → List ℕ → List ℕ
+answer status allow body =
+    codes "HTTP/1.1 " ++ status_text status ++ codes "\r\nContent-Type: text/plain\r\nContent-Length: "
+    ++ decimal (length body) ++ codes "\r\n" ++ allow_line allow ++ codes "Connection: close\r\n\r\n" ++ body
+
+-- the bytes of a reply
+abbrev pub reply_bytes : Reply → List ℕ
+reply_bytes reply = answer reply.status reply.allow reply.body
+
+-- the answer where memory was wanting
+abbrev pub no_memory_bytes : List ℕ
+no_memory_bytes = answer InsufficientStorage Unsaid (codes "NO MEMORY\n")
+
+-- the bytes of a reply, or of the answer where memory was wanting
+abbrev pub answer_bytes : Option Reply → List ℕ
+answer_bytes None = no_memory_bytes
+answer_bytes (Some reply) = reply_bytes reply

@@ -1,0 +1,37 @@
+ghost use Rattle.std.specs.Prelude.{◌≡◌, ◌<◌, ◌≤◌, [], vec_len, OnOk, IsErrOf};
+ghost use Rattle.std.specs.Io.KnownBytes.{Consumes, IsAtEnd};
+ghost use Rattle.fare_outside.specs.Cause.{Rose};
+ghost use Rattle.fare_http.specs.Heads.{Grows};
+
+use crate::no_piece::NoPiece;
+use fare_outside::Door;
+
+/// The most bytes that one read asks for.
+const PIECE: usize = 4096;
+
+/// Adds the next bytes of the current connection to those taken, so that they are at most `most`.
+pub fn read_piece<D: Door>(door: &mut D, taken: &mut Vec<u8>, most: usize) -> Result<(), NoPiece>
+    requires { vec_len taken.old < most }
+    ensures grows { OnOk result
+        (Grows (D.left door.old) (D.left door.new) taken.old.items taken.new.items) }
+    ensures progress { OnOk result (vec_len taken.old < vec_len taken.new) }
+    ensures most { OnOk result (vec_len taken.new ≤ most) }
+    ensures ended { IsErrOf result NoPiece.Ended → IsAtEnd (D.left door.new) }
+    ensures none { IsErrOf result NoPiece.Ended → Consumes (D.left door.old) (D.left door.new) [] }
+    ensures cause { IsErrOf result NoPiece.Failed → Rose (D.cuts door.old) (D.cuts door.new) }
+    ensures never_falls { D.cuts door.old ≤ D.cuts door.new }
+    ensures sent { D.sent door.new ≡ D.sent door.old }
+    ensures waiting { D.waiting door.new ≡ D.waiting door.old }
+    ensures held { D.held door.new ≡ D.held door.old }
+    ensures current { D.current door.new ≡ D.current door.old }
+    ensures faults { D.faults door.new ≡ D.faults door.old }
+{
+    let mut piece = [0; PIECE];
+    let asked = PIECE.min(most - taken.len());
+    let count = door.read(&mut piece[..asked])?;
+    if count == 0 {
+        return Err(NoPiece::Ended);
+    }
+    taken.extend_from_slice(&piece[..count])?;
+    Ok(())
+}

@@ -1,0 +1,66 @@
+ghost use Rattle.std.specs.Prelude.{◌≡◌, ◌≤◌, Err, IfOk};
+ghost use Rattle.httparse.specs.Grammar.{NeverHasRequest};
+ghost use Rattle.fare_http.specs.declared.body_fault.BodyFault.{BodyFault};
+ghost use Rattle.fare_http.specs.declared.no_head.NoHead.{NoHead};
+ghost use Rattle.fare_http.specs.declared.no_piece.NoPiece.{NoPiece};
+ghost use Rattle.fare_outside.specs.Cause.{Rose};
+ghost use Rattle.fare_http.specs.Heads.{Takes, IsOverLimit, EndsEarly};
+ghost use Rattle.fare_http.specs.Requests.{IsWhole, Announces, EndsInBody};
+
+use crate::body::read_body;
+use crate::request_parts::{announced_length, begun_body, method_of, path_text};
+use crate::{MOST_FIELDS, NoRequest, PathText, read_head};
+use fare_outside::{Bytes, Door};
+use http::Method;
+use httparse::spans::EMPTY_HEADER_SPAN;
+use std::alloc::Global;
+
+/// A whole request.
+#[derive(Drop)]
+pub struct Request {
+    /// Its method.
+    pub method: Method,
+    /// Its target up to the first `?`.
+    pub path: PathText,
+    /// Its body.
+    pub body: Bytes,
+}
+
+/// Reads one request from the current connection.
+pub fn read_whole<D: Door>(alloc: Global, door: &mut D) -> Result<Request, NoRequest>
+    ensures whole { IfOk result
+        (λ request. Takes (D.left door.old) (D.left door.new) (IsWhole request)) }
+    ensures bad { result ≡ Err (NoRequest.Head NoHead.Bad) →
+        Takes (D.left door.old) (D.left door.new) NeverHasRequest }
+    ensures limit { result ≡ Err (NoRequest.Head NoHead.Limit) →
+        Takes (D.left door.old) (D.left door.new) IsOverLimit }
+    ensures head_ended { result ≡ Err (NoRequest.Head NoHead.Ended) →
+        Takes (D.left door.old) (D.left door.new) (EndsEarly (D.left door.new)) }
+    ensures length { (fault : BodyFault) → result ≡ Err (NoRequest.Length fault) →
+        Takes (D.left door.old) (D.left door.new) (Announces (Err fault)) }
+    ensures body_ended { result ≡ Err (NoRequest.Body NoPiece.Ended) →
+        Takes (D.left door.old) (D.left door.new) (EndsInBody (D.left door.new)) }
+    ensures head_cause { result ≡ Err (NoRequest.Head NoHead.Failed) →
+        Rose (D.cuts door.old) (D.cuts door.new) }
+    ensures body_cause { result ≡ Err (NoRequest.Body NoPiece.Failed) →
+        Rose (D.cuts door.old) (D.cuts door.new) }
+    ensures never_falls { D.cuts door.old ≤ D.cuts door.new }
+    ensures sent { D.sent door.new ≡ D.sent door.old }
+    ensures waiting { D.waiting door.new ≡ D.waiting door.old }
+    ensures held { D.held door.new ≡ D.held door.old }
+    ensures current { D.current door.new ≡ D.current door.old }
+    ensures faults { D.faults door.new ≡ D.faults door.old }
+{
+    let mut fields = [EMPTY_HEADER_SPAN; MOST_FIELDS];
+    let head = read_head(alloc, door, &mut fields)?;
+    let announced = announced_length(&head, &fields)?;
+    let method = method_of(alloc, &head, &fields)?;
+    let path = path_text(alloc, &head, &fields)?;
+    let begun = begun_body(alloc, &head, announced)?;
+    let body = read_body(door, begun, announced)?;
+    Ok(Request {
+        method,
+        path,
+        body: Bytes::from(body),
+    })
+}
