@@ -14,8 +14,8 @@ use std::net::{Ipv4Addr, TcpListener, TcpStream};
 /// How often an accept is tried again that failed for the peer's sake.
 const MOST_TRIES: usize = 1_000;
 
-/// A door over a port of this machine's own address, 127.0.0.1. It tells nothing of what is sent, and counts each call
-/// that fails.
+/// A door over a port of this machine's own address, 127.0.0.1. It tells nothing of what is sent,
+/// and counts each call that fails.
 #[derive(Drop)]
 pub struct TcpDoor {
     runtime: HostRuntime,
@@ -213,7 +213,10 @@ fn accept_now(listener: &TcpListener) -> io::Result<TcpStream> {
 
 /// A peer gave up, or a signal broke the call off: the next connection may well be accepted.
 fn is_of_the_peer(kind: ErrorKind) -> bool {
-    kind == ErrorKind::ConnectionAborted || kind == ErrorKind::Interrupted
+    matches!(
+        kind,
+        ErrorKind::ConnectionAborted | ErrorKind::ConnectionReset | ErrorKind::Interrupted
+    )
 }
 
 #[cfg(test)]

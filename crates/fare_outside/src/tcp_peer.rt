@@ -9,9 +9,10 @@ use std::time::{Duration, Instant};
 /// How often a call is tried again that a signal broke off.
 const MOST_TRIES: usize = 1_000;
 
-/// How many bytes of a peer are read away after the door's answer, at most, in pieces of `PIECE`.
+/// How many pieces are read away, at most, of what a peer still sends after its answer.
 const MOST_PIECES: usize = 256;
 
+/// The size of such a piece in bytes.
 const PIECE: usize = 4_096;
 
 /// The other end of a connection, which is gone once it was cut off.
@@ -123,8 +124,8 @@ fn allowed(limits: &TcpLimits, waited: Duration) -> Duration {
     limits.silence.min(limits.exchange.saturating_sub(waited))
 }
 
-/// Tells the peer that nothing more comes, and reads until its end, but no longer and no more than
-/// the limits.
+/// Tells the peer that nothing more comes, and reads away what it sends until its end, but no longer
+/// than the limit, and at most so many pieces.
 fn read_away(rt: &HostRuntime, limit: Duration, stream: &TcpStream) -> io::Result<()> {
     stream.shutdown(Shutdown::Write)?;
     let begun = Instant::now(rt)?;
