@@ -8,5 +8,4 @@ pub mod Failures
 pub mod Room
 pub mod Objects
 pub mod ListedDoor
-pub mod OpenDoor
 pub mod Memory

@@ -1,6 +1,6 @@
 //! Everything that the desk reads, writes, keeps or answers lies behind five traits: a source, a
 //! sink, a keeper, a door and a gate. This layer states what may be known of each, and has objects
-//! in memory and over the real streams.
+//! in memory.
 //!
 //! - `source`, `sink`, `keeper`, `door`, `gate`: the traits, with the words of their clauses in `specs/`;
 //! - `reading`, `writing`: a whole source, and a whole text, over any source and sink;
@@ -8,9 +8,7 @@
 //! - `plain_*`: objects in memory that never fail; `mem_*`: the same with a list of failing calls;
 //! - `calls`, `failures`, `fail_at`, `count`, `room`: which calls of those fail, how failures are
 //!   counted, and what fits;
-//! - `at_place`: what stands at a place is read from, or put into, for a door in memory;
-//! - `std_*`: standard input and standard output;
-//! - `tcp_*`: a door over a port, its peers, and how long these may keep it waiting.
+//! - `at_place`: what stands at a place is read from, or put into, for a door in memory.
 #![tactic(auto)]
 
 mod at_place;
@@ -37,15 +35,11 @@ mod reading;
 mod room;
 mod sink;
 mod source;
-mod std_sink;
-mod std_source;
-mod tcp_door;
-mod tcp_limits;
-mod tcp_peer;
 mod writing;
 
 pub use bodies::Bodies;
 pub use bytes::Bytes;
+pub use count::raised;
 pub use door::{Door, MOST_HELD};
 pub use fail_at::FailAt;
 pub use failed::Failed;
@@ -63,10 +57,6 @@ pub use plain_source::PlainSource;
 pub use reading::{ReadEnd, read_all};
 pub use sink::Sink;
 pub use source::Source;
-pub use std_sink::StdSink;
-pub use std_source::StdSource;
-pub use tcp_door::TcpDoor;
-pub use tcp_limits::TcpLimits;
 pub use writing::write_all;
 
 #[cfg(test)]

@@ -301,18 +301,3 @@ fn go_to_other_threads<A: Send + Sync, B: Send + Sync, C: Send + Sync>() {}
 fn what_workers_hand_over_may_cross_threads() {
     go_to_other_threads::<Bytes, Bodies, OpenGate>();
 }
-
-#[test]
-fn standard_input_ends(rt: HostRuntime) -> Result<(), Fail> {
-    let mut src = StdSource::new(&rt);
-    let bytes = read_all(rt.alloc(), &mut src, 1_000_000)?;
-    assert!(rt; bytes.len() <= 1_000_000);
-    Ok(())
-}
-
-#[test]
-fn standard_output_takes_a_text(rt: HostRuntime) -> Result<(), Fail> {
-    let mut out = StdSink::new(&rt);
-    write_all(&mut out, b"standard output\n")?;
-    Ok(())
-}

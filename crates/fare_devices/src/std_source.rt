@@ -1,7 +1,6 @@
 ghost use Rattle.std.specs.Prelude.{◌≡◌, None};
 
-use crate::count::raised;
-use crate::{Failed, Source};
+use fare_outside::{Failed, Source, raised};
 use std::io::Read;
 use std::marker::Model;
 

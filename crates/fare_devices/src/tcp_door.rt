@@ -1,11 +1,11 @@
 ghost use Rattle.std.specs.Prelude.{◌≡◌, ◌≤◌, IfOk, OnErr, None, false, Some};
 ghost use Rattle.fare_outside.specs.Cause.{Rose};
-ghost use Rattle.fare_outside.specs.OpenDoor.{places_of, place_of};
+ghost use Rattle.fare_devices.specs.OpenDoor.{places_of, place_of};
 
-use crate::count::raised;
+use crate::TcpLimits;
 use crate::tcp_peer::TcpPeer;
-use crate::{Door, Failed, MOST_HELD, TcpLimits};
 use arrayvec::ArrayVec;
+use fare_outside::{Door, Failed, MOST_HELD, raised};
 use std::io;
 use std::io::ErrorKind;
 use std::marker::Model;
@@ -30,7 +30,7 @@ pub struct TcpDoor {
 
 impl Model for TcpDoor {
     ghost use Rattle.std.specs.Prelude.{length, is_some};
-    ghost use Rattle.fare_outside.specs.OpenDoor.{OpenDoor};
+    ghost use Rattle.fare_devices.specs.OpenDoor.{OpenDoor};
 
     ghost Value = { OpenDoor };
 

@@ -1,7 +1,6 @@
 ghost use Rattle.std.specs.Prelude.{◌≡◌, None};
 
-use crate::count::raised;
-use crate::{Failed, Sink};
+use fare_outside::{Failed, Sink, raised};
 use std::io::Write;
 use std::marker::Model;
 
