@@ -1,14 +1,14 @@
 -- What is read from a connection, and the fixed answers.
 use Rattle.std.specs.Prelude.{◌≡◌, ◌⊎◌, ℕ, List, Option, Err, codes, ⊤}
 use Rattle.httparse.specs.Grammar.{NeverHasRequest}
-use Rattle.fare_http.specs.declared.status.Status.{Status}
-use Rattle.fare_http.specs.declared.status.Status.TheVariants.{BadRequest, ContentTooLarge}
-use Rattle.fare_http.specs.declared.allow.Allow.TheVariants.{Unsaid}
+use Rattle.fare_http.specs.declared.reply.Status.{Status}
+use Rattle.fare_http.specs.declared.reply.Status.TheVariants.{BadRequest, ContentTooLarge}
+use Rattle.fare_http.specs.declared.reply.Allow.TheVariants.{Unsaid}
 use Rattle.fare_http.specs.declared.reply.Reply.{Reply}
 use Rattle.fare_http.specs.declared.request.Request.{Request}
 use Rattle.fare_http.specs.declared.taken.Taken.{Taken}
 use Rattle.fare_http.specs.declared.taken.Taken.TheVariants.{Whole, Fixed, NoMemory, Cut}
-use Rattle.fare_http.specs.declared.body_fault.BodyFault.TheVariants.{Coded, BadLength, TooLong}
+use Rattle.fare_http.specs.declared.lengths.BodyFault.TheVariants.{Coded, BadLength, TooLong}
 use Rattle.fare_http.specs.Heads.{IsOverLimit, EndsEarly}
 use Rattle.fare_http.specs.Requests.{Announces, EndsInBody}
 
