@@ -1,6 +1,7 @@
-//! The halves of one exchange over a door: the head of a request that is read from the current connection, and
-//! the answer that is sent on it.
+//! Exchanges over a door: a request is read from the current connection, a handler answers it, and the answer is sent.
+//! What one exchange does is defined in `specs/` (`Serving`).
 //!
+//! - `exchanging`: one exchange; `handler`: what answers requests;
 //! - `head`, `piece`: the head, in whatever pieces its bytes come, or why there is none;
 //! - `lengths`: how long the body is that a head announces;
 //! - `body`: the body of that length;
@@ -8,12 +9,16 @@
 //! - `request`: the whole request, or why there is none;
 //! - `taken`: the request, or the fixed answer to what is wrong with the bytes;
 //! - `reply`: what is answered;
-//! - `sending`, `send_all`: the bytes of an answer, on the current connection.
+//! - `sending`, `send_all`: the bytes of an answer, on the current connection;
+//! - `laws`: what the bytes of a connection bring, in whatever pieces they come.
 #![tactic(auto)]
 
 mod body;
+mod exchanging;
+mod handler;
 mod head;
 mod head_method;
+mod laws;
 mod lengths;
 mod path_text;
 mod piece;
@@ -24,7 +29,10 @@ mod send_all;
 mod sending;
 mod taken;
 
+pub use exchanging::exchange;
+pub use handler::{Front, Handler};
 pub use head::{Head, MOST_FIELDS, MOST_HEAD, NoHead, read_head};
+pub use laws::{fault_is_told, head_is_found, short_request_is_cut_off, whole_request_is_read};
 pub use lengths::{BodyFault, MOST_BODY, body_length};
 pub use path_text::PathText;
 pub use piece::NoPiece;
