@@ -20,7 +20,8 @@ grown-none [] place = refl
 grown-none (xs ∷ lists) zero = ap (λ ys. ys ∷ lists) (append-nil xs)
 grown-none (xs ∷ lists) (suc place) = ap (λ ys. xs ∷ ys) (grown-none lists place)
 
-sent_more-nil : (current : Option ℕ) (sent : Option (List (List ℕ))) → sent_more current sent [] ≡ sent
+-- no byte more was sent
+pub sent_more-nil : (current : Option ℕ) (sent : Option (List (List ℕ))) → sent_more current sent [] ≡ sent
 sent_more-nil None None = refl
 sent_more-nil None (Some lists) = refl
 sent_more-nil (Some place) None = refl

@@ -1,12 +1,12 @@
 -- The bytes of an answer.
 use Rattle.std.specs.Prelude.{ℕ, List, [], ◌++◌, length, codes, decimal, Option, None, Some}
-use Rattle.fare_http.specs.declared.status.Status.{Status}
-use Rattle.fare_http.specs.declared.status.Status.TheVariants.{Okay, Created, BadRequest, NotFound}
-use Rattle.fare_http.specs.declared.status.Status.TheVariants.{MethodNotAllowed, Conflict, ContentTooLarge}
-use Rattle.fare_http.specs.declared.status.Status.TheVariants.{UnprocessableContent, InternalServerError}
-use Rattle.fare_http.specs.declared.status.Status.TheVariants.{ServiceUnavailable, InsufficientStorage}
-use Rattle.fare_http.specs.declared.allow.Allow.{Allow}
-use Rattle.fare_http.specs.declared.allow.Allow.TheVariants.{Unsaid, Get, Post}
+use Rattle.fare_http.specs.declared.reply.Status.{Status}
+use Rattle.fare_http.specs.declared.reply.Status.TheVariants.{Okay, Created, BadRequest, NotFound}
+use Rattle.fare_http.specs.declared.reply.Status.TheVariants.{MethodNotAllowed, Conflict, ContentTooLarge}
+use Rattle.fare_http.specs.declared.reply.Status.TheVariants.{UnprocessableContent, InternalServerError}
+use Rattle.fare_http.specs.declared.reply.Status.TheVariants.{ServiceUnavailable, InsufficientStorage}
+use Rattle.fare_http.specs.declared.reply.Allow.{Allow}
+use Rattle.fare_http.specs.declared.reply.Allow.TheVariants.{Unsaid, Get, Post}
 use Rattle.fare_http.specs.declared.reply.Reply.{Reply}
 
 -- a status with its phrase

@@ -2,11 +2,11 @@
 use Rattle.std.specs.Prelude.{◌≡◌, ℕ, ◌<◌, ◌⊎◌, List, ◌++◌, length, Option}
 use Rattle.std.specs.Io.KnownBytes.{Consumes, IsAtEnd}
 use Rattle.httparse.specs.Grammar.{HasNoRequest}
-use Rattle.fare_http.specs.declared.no_piece.NoPiece.{NoPiece}
-use Rattle.fare_http.specs.declared.no_piece.NoPiece.TheVariants.{Memory as PieceMemory, Ended as PieceEnded}
-use Rattle.fare_http.specs.declared.no_piece.NoPiece.TheVariants.{Failed as PieceFailed}
-use Rattle.fare_http.specs.declared.no_head.NoHead.{NoHead}
-use Rattle.fare_http.specs.declared.no_head.NoHead.TheVariants.{Memory, Ended, Failed}
+use Rattle.fare_http.specs.declared.piece.NoPiece.{NoPiece}
+use Rattle.fare_http.specs.declared.piece.NoPiece.TheVariants.{Memory as PieceMemory, Ended as PieceEnded}
+use Rattle.fare_http.specs.declared.piece.NoPiece.TheVariants.{Failed as PieceFailed}
+use Rattle.fare_http.specs.declared.head.NoHead.{NoHead}
+use Rattle.fare_http.specs.declared.head.NoHead.TheVariants.{Memory, Ended, Failed}
 use Rattle.httparse.specs.Spans.{RequestExceeds, RequestOverflows}
 
 -- the most bytes of a head

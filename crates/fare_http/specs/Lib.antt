@@ -4,3 +4,4 @@ pub mod Heads
 pub mod Lengths
 pub mod Requests
 pub mod Refusals
+pub mod Serving

@@ -1,14 +1,15 @@
 -- What is read from a connection, and the fixed answers.
 use Rattle.std.specs.Prelude.{◌≡◌, ◌⊎◌, ℕ, List, Option, Err, codes, ⊤}
 use Rattle.httparse.specs.Grammar.{NeverHasRequest}
-use Rattle.fare_http.specs.declared.status.Status.{Status}
-use Rattle.fare_http.specs.declared.status.Status.TheVariants.{BadRequest, ContentTooLarge}
-use Rattle.fare_http.specs.declared.allow.Allow.TheVariants.{Unsaid}
+use Rattle.fare_http.specs.declared.reply.Status.{Status}
+use Rattle.fare_http.specs.declared.reply.Status.TheVariants.{BadRequest, ContentTooLarge}
+use Rattle.fare_http.specs.declared.reply.Allow.TheVariants.{Unsaid}
 use Rattle.fare_http.specs.declared.reply.Reply.{Reply}
 use Rattle.fare_http.specs.declared.request.Request.{Request}
 use Rattle.fare_http.specs.declared.taken.Taken.{Taken}
 use Rattle.fare_http.specs.declared.taken.Taken.TheVariants.{Whole, Fixed, NoMemory, Cut}
-use Rattle.fare_http.specs.declared.body_fault.BodyFault.TheVariants.{Coded, BadLength, TooLong}
+use Rattle.fare_http.specs.declared.lengths.BodyFault.{BodyFault}
+use Rattle.fare_http.specs.declared.lengths.BodyFault.TheVariants.{Coded, BadLength, TooLong}
 use Rattle.fare_http.specs.Heads.{IsOverLimit, EndsEarly}
 use Rattle.fare_http.specs.Requests.{Announces, EndsInBody}
 
@@ -45,6 +46,12 @@ IsFixed status text (Whole request) = ⊥
 IsFixed status text (Fixed reply) = Says status text reply
 IsFixed status text NoMemory = ⊤
 IsFixed status text Cut = ⊥
+
+-- a reply that says what is wrong with the length of a body
+abbrev pub SaysFault : BodyFault → Reply → Type 0
+SaysFault Coded reply = Says BadRequest (codes "CODED BODY\n") reply
+SaysFault BadLength reply = Says BadRequest (codes "BAD LENGTH\n") reply
+SaysFault TooLong reply = Says ContentTooLarge (codes "LIMIT\n") reply
 
 -- the reply is the fixed answer to what is wrong with these bytes: the first step that fails
 pub data IsRefused (reply : Reply) (taken : List ℕ) : Type 0 where

@@ -4,7 +4,7 @@ use Rattle.std.specs.List.{before_first}
 use Rattle.std.specs.Io.KnownBytes.{IsAtEnd}
 use Rattle.httparse.specs.Grammar.{RequestHead, ReadsRequest, print_request}
 use Rattle.httparse.specs.Spans.{name_and_value}
-use Rattle.fare_http.specs.declared.body_fault.BodyFault.{BodyFault}
+use Rattle.fare_http.specs.declared.lengths.BodyFault.{BodyFault}
 use Rattle.fare_http.specs.declared.request.Request.{Request}
 use Rattle.fare_http.specs.Heads.{most_head, most_fields}
 use Rattle.fare_http.specs.Lengths.{body_length}

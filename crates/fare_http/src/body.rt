@@ -3,8 +3,7 @@ ghost use Rattle.std.specs.Io.KnownBytes.{IsAtEnd};
 ghost use Rattle.fare_outside.specs.Cause.{Rose};
 ghost use Rattle.fare_http.specs.Heads.{Grows, Takes};
 
-use crate::no_piece::NoPiece;
-use crate::piece::read_piece;
+use crate::piece::{NoPiece, read_piece};
 use fare_outside::Door;
 
 /// The whole body, of which the first bytes came behind the head. It takes no byte behind it.

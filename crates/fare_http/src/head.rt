@@ -4,10 +4,9 @@ ghost use Rattle.std.specs.Io.KnownBytes.{Consumes, IsAtEnd};
 ghost use Rattle.httparse.specs.Grammar.{HasNoRequest, NeverHasRequest};
 ghost use Rattle.httparse.specs.Spans.{IsRequestWithin, IsRequestOf, RequestExceeds, RequestOverflows};
 ghost use Rattle.fare_outside.specs.Cause.{Rose};
-ghost use Rattle.fare_http.specs.Heads.{Takes, IsOverLimit, EndsEarly};
+ghost use Rattle.fare_http.specs.Heads.{Takes, IsOverLimit, EndsEarly, head_fault};
 
-use crate::NoHead;
-use crate::piece::read_piece;
+use crate::piece::{NoPiece, read_piece};
 use fare_outside::Door;
 use httparse::spans::{HeaderSpan, RequestSpans, parse_request};
 use httparse::{Error, Status};
@@ -26,6 +25,33 @@ pub struct Head {
     pub taken: Vec<u8>,
     /// Where the parts of the head stand in them.
     pub spans: RequestSpans,
+}
+
+/// Why a connection has no head of a request.
+#[derive(Clone, Copy, Debug, PartialEq, Eq)]
+pub enum NoHead {
+    /// Memory was wanting.
+    Memory,
+    /// No head can begin with the bytes that came.
+    Bad,
+    /// There is no whole head in 16,384 bytes, or it has more than 64 fields.
+    Limit,
+    /// The connection ended before the head was whole.
+    Ended,
+    /// A read failed, and the door's count of cuts rose.
+    Failed,
+}
+
+impl From<NoPiece> for NoHead {
+    ghost from_gives = { λ fault e. e ≡ head_fault fault };
+
+    fn from(fault: NoPiece) -> Self {
+        match fault {
+            NoPiece::Memory => NoHead::Memory,
+            NoPiece::Ended => NoHead::Ended,
+            NoPiece::Failed => NoHead::Failed,
+        }
+    }
 }
 
 /// Reads from the current connection until the head of a request is whole, and puts where its

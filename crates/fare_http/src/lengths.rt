@@ -5,11 +5,21 @@ ghost use Rattle.httparse.specs.Spans.{IsHeaderWithin, header_bytes};
 ghost use Rattle.fare_http.specs.Lengths.{body_length, length_of, number_up_to, has_name, values_named};
 ghost use Rattle.fare_http.specs.Lengths.{AreNamed, IsOneWithin};
 
-use crate::BodyFault;
 use httparse::spans::{HeaderSpan, Span};
 
 /// The most bytes of a body.
 pub const MOST_BODY: usize = 16_777_216;
+
+/// Why a head says nothing that can be taken about its body's length.
+#[derive(Clone, Copy, Debug, PartialEq, Eq)]
+pub enum BodyFault {
+    /// There is a Transfer-Encoding field.
+    Coded,
+    /// There are two Content-Length fields, or one whose value isn't one or more digits.
+    BadLength,
+    /// The length is above 16,777,216.
+    TooLong,
+}
 
 /// How long the body is that these fields of a head announce; with no Content-Length it is empty.
 pub fn body_length(taken: &[u8], fields: &[HeaderSpan]) -> Result<usize, BodyFault>

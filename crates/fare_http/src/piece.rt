@@ -2,12 +2,40 @@ ghost use Rattle.std.specs.Prelude.{◌≡◌, ◌<◌, ◌≤◌, [], vec_len, 
 ghost use Rattle.std.specs.Io.KnownBytes.{Consumes, IsAtEnd};
 ghost use Rattle.fare_outside.specs.Cause.{Rose};
 ghost use Rattle.fare_http.specs.Heads.{Grows};
+ghost use Rattle.fare_http.specs.declared.piece.NoPiece.TheVariants.{Memory, Failed as ReadFailed};
 
-use crate::no_piece::NoPiece;
-use fare_outside::Door;
+use fare_outside::{Door, Failed};
+use std::alloc::AllocError;
 
 /// The most bytes that one read asks for.
 const PIECE: usize = 4096;
+
+/// Why there are no further bytes of a connection.
+#[derive(Clone, Copy, Debug, PartialEq, Eq)]
+pub enum NoPiece {
+    /// Memory was wanting.
+    Memory,
+    /// The connection ended.
+    Ended,
+    /// A read failed, and the door's count of cuts rose.
+    Failed,
+}
+
+impl From<AllocError> for NoPiece {
+    ghost from_gives = { λ _ e. e ≡ Memory };
+
+    fn from(_: AllocError) -> Self {
+        NoPiece::Memory
+    }
+}
+
+impl From<Failed> for NoPiece {
+    ghost from_gives = { λ _ e. e ≡ ReadFailed };
+
+    fn from(_: Failed) -> Self {
+        NoPiece::Failed
+    }
+}
 
 /// Adds the next bytes of the current connection to those taken, so that they are at most `most`.
 pub fn read_piece<D: Door>(door: &mut D, taken: &mut Vec<u8>, most: usize) -> Result<(), NoPiece>

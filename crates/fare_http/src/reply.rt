@@ -1,4 +1,6 @@
-use crate::{Allow, Status};
+ghost use Rattle.std.specs.Prelude.{◌≡◌};
+ghost use Rattle.fare_http.specs.Answers.{status_text, allow_line};
+
 use fare_outside::Bytes;
 
 /// What a request is answered.
@@ -10,4 +12,76 @@ pub struct Reply {
     pub allow: Allow,
     /// The text of the answer.
     pub body: Bytes,
+}
+
+/// How a request ended: the statuses that have a phrase.
+#[derive(Clone, Copy, Debug, PartialEq, Eq)]
+pub enum Status {
+    /// 200
+    Okay,
+    /// 201
+    Created,
+    /// 400
+    BadRequest,
+    /// 404
+    NotFound,
+    /// 405
+    MethodNotAllowed,
+    /// 409
+    Conflict,
+    /// 413
+    ContentTooLarge,
+    /// 422
+    UnprocessableContent,
+    /// 500
+    InternalServerError,
+    /// 503
+    ServiceUnavailable,
+    /// 507
+    InsufficientStorage,
+}
+
+impl Status {
+    /// The status, a space and its phrase.
+    pub fn text(self) -> &'static [u8]
+        ensures { result.now ≡ status_text self }
+    {
+        match self {
+            Status::Okay => b"200 OK",
+            Status::Created => b"201 Created",
+            Status::BadRequest => b"400 Bad Request",
+            Status::NotFound => b"404 Not Found",
+            Status::MethodNotAllowed => b"405 Method Not Allowed",
+            Status::Conflict => b"409 Conflict",
+            Status::ContentTooLarge => b"413 Content Too Large",
+            Status::UnprocessableContent => b"422 Unprocessable Content",
+            Status::InternalServerError => b"500 Internal Server Error",
+            Status::ServiceUnavailable => b"503 Service Unavailable",
+            Status::InsufficientStorage => b"507 Insufficient Storage",
+        }
+    }
+}
+
+/// Which method a reply says is allowed.
+#[derive(Clone, Copy, Debug, PartialEq, Eq)]
+pub enum Allow {
+    /// It says none.
+    Unsaid,
+    /// GET
+    Get,
+    /// POST
+    Post,
+}
+
+impl Allow {
+    /// The line of the answer's head that says it, if there is one.
+    pub fn line(self) -> &'static [u8]
+        ensures { result.now ≡ allow_line self }
+    {
+        match self {
+            Allow::Unsaid => b"",
+            Allow::Get => b"Allow: GET\r\n",
+            Allow::Post => b"Allow: POST\r\n",
+        }
+    }
 }

@@ -1,19 +1,21 @@
 ghost use Rattle.std.specs.Prelude.{◌≡◌, ◌≤◌, Err, IfOk};
 ghost use Rattle.httparse.specs.Grammar.{NeverHasRequest};
-ghost use Rattle.fare_http.specs.declared.body_fault.BodyFault.{BodyFault};
-ghost use Rattle.fare_http.specs.declared.no_head.NoHead.{NoHead};
-ghost use Rattle.fare_http.specs.declared.no_piece.NoPiece.{NoPiece};
+ghost use Rattle.fare_http.specs.declared.lengths.BodyFault.{BodyFault};
+ghost use Rattle.fare_http.specs.declared.head.NoHead.{NoHead};
+ghost use Rattle.fare_http.specs.declared.piece.NoPiece.{NoPiece};
 ghost use Rattle.fare_outside.specs.Cause.{Rose};
 ghost use Rattle.fare_http.specs.Heads.{Takes, IsOverLimit, EndsEarly};
 ghost use Rattle.fare_http.specs.Requests.{IsWhole, Announces, EndsInBody};
+ghost use Rattle.fare_http.specs.declared.request.NoRequest.TheVariants.{Memory, Head, Length, Body};
 
 use crate::body::read_body;
+use crate::piece::NoPiece;
 use crate::request_parts::{announced_length, begun_body, method_of, path_text};
-use crate::{MOST_FIELDS, NoRequest, PathText, read_head};
-use fare_outside::{Bytes, Door};
+use crate::{BodyFault, MOST_FIELDS, NoHead, PathText, read_head};
+use fare_outside::{Bytes, Door, NoMemory};
 use http::Method;
 use httparse::spans::EMPTY_HEADER_SPAN;
-use std::alloc::Global;
+use std::alloc::{AllocError, Global};
 
 /// A whole request.
 #[derive(Drop)]
@@ -24,6 +26,59 @@ pub struct Request {
     pub path: PathText,
     /// Its body.
     pub body: Bytes,
+}
+
+/// Why a connection has no whole request.
+#[derive(Clone, Copy, Debug, PartialEq, Eq)]
+pub enum NoRequest {
+    /// Memory was wanting.
+    Memory,
+    /// It has no head.
+    Head(NoHead),
+    /// Its head announces no length of a body.
+    Length(BodyFault),
+    /// It has no whole body.
+    Body(NoPiece),
+}
+
+impl From<AllocError> for NoRequest {
+    ghost from_gives = { λ _ e. e ≡ Memory };
+
+    fn from(_: AllocError) -> Self {
+        NoRequest::Memory
+    }
+}
+
+impl From<NoMemory> for NoRequest {
+    ghost from_gives = { λ _ e. e ≡ Memory };
+
+    fn from(_: NoMemory) -> Self {
+        NoRequest::Memory
+    }
+}
+
+impl From<NoHead> for NoRequest {
+    ghost from_gives = { λ fault e. e ≡ Head fault };
+
+    fn from(fault: NoHead) -> Self {
+        NoRequest::Head(fault)
+    }
+}
+
+impl From<BodyFault> for NoRequest {
+    ghost from_gives = { λ fault e. e ≡ Length fault };
+
+    fn from(fault: BodyFault) -> Self {
+        NoRequest::Length(fault)
+    }
+}
+
+impl From<NoPiece> for NoRequest {
+    ghost from_gives = { λ fault e. e ≡ Body fault };
+
+    fn from(fault: NoPiece) -> Self {
+        NoRequest::Body(fault)
+    }
 }
 
 /// Reads one request from the current connection.

@@ -59,7 +59,7 @@ pub fn read_request<D: Door>(alloc: Global, door: &mut D) -> Taken
     }
 }
 
-// A fixed answer with this text.
+/// A fixed answer with this status and text, and no word of what is allowed.
 fn fixed(alloc: Global, status: Status, text: &[u8]) -> Taken
     ensures { IsFixed status text.now result }
 {

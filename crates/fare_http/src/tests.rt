@@ -1,9 +1,11 @@
-ghost use Rattle.std.specs.Prelude.{◌≡◌, ◌≤◌, None, [], false, vec_len};
+ghost use Rattle.std.specs.Prelude.{◌≡◌, ◌≤◌, None, [], false, vec_len, ⊤};
 
 use crate::*;
-use fare_outside::{Bytes, Door, Failed};
+use fare_outside::{Bytes, Door, Failed, NoMemory};
+use http::Method;
 use std::alloc::Global;
 use std::test::Fail;
+use std::thread::Threads;
 
 /// A door with one connection, whose bytes come in pieces of at most three; it tells nothing of
 /// them.
@@ -138,5 +140,62 @@ fn a_reply_is_sent(rt: HostRuntime) -> Result<(), Fail> {
         b"HTTP/1.1 405 Method Not Allowed\r\nContent-Type: text/plain\r\nContent-Length: 7\r\n\
 Allow: POST\r\nConnection: close\r\n\r\nMETHOD\n";
     assert_eq!(rt; door.sent.as_slice(), answer.as_slice());
+    Ok(())
+}
+
+/// A handler that answers with the body of the request, and counts.
+#[derive(Drop)]
+struct Echo {
+    asked: u64,
+}
+
+impl Handler for Echo {
+    ghost step = { λ _ _ _ _ _ _. ⊤ };
+
+    fn answer<R: Threads + Sync>(
+        &mut self,
+        _rt: &R,
+        alloc: Global,
+        _method: &Method,
+        _path: &str,
+        body: &[u8],
+    ) -> Result<Reply, NoMemory> {
+        self.asked = self.asked.wrapping_add(1);
+        let mut text = Bytes::new(alloc);
+        text.extend(body)?;
+        Ok(Reply {
+            status: Status::Okay,
+            allow: Allow::Unsaid,
+            body: text,
+        })
+    }
+}
+
+#[test]
+fn only_a_whole_request_reaches_the_handler(rt: HostRuntime) -> Result<(), Fail> {
+    let alloc = rt.alloc();
+    let mut handler = Echo { asked: 0 };
+    let mut door = door_with(alloc, b"PUT / HTTP/1.0\nContent-Length: 2\n\nabc")?;
+    assert_eq!(rt;
+        exchange(&rt, alloc, &mut door, &mut handler),
+        Exchange::Served
+    );
+    let answer = b"HTTP/1.1 200 OK\r\nContent-Type: text/plain\r\nContent-Length: 2\r\n\
+Connection: close\r\n\r\nab";
+    assert_eq!(rt; door.sent.as_slice(), answer.as_slice());
+    assert_eq!(rt; handler.asked, 1);
+
+    let mut door = door_with(alloc, b"PUT / HTTP/1.0\nContent-Length: 3\n\nab")?;
+    assert_eq!(rt;
+        exchange(&rt, alloc, &mut door, &mut handler),
+        Exchange::Cut
+    );
+    assert_eq!(rt; door.sent.len(), 0);
+    let mut door = door_with(alloc, b"PUT / HTTP/1.0\nContent-Length: x\n\n")?;
+    assert_eq!(rt;
+        exchange(&rt, alloc, &mut door, &mut handler),
+        Exchange::Served
+    );
+    assert_eq!(rt; handler.asked, 1);
     Ok(())
 }

@@ -1,6 +1,6 @@
 use Rattle.std.proofs.Common.{◌≡◌, ◌++◌, Err, drop, sym, ap, ◌∙◌, rules, arith}
 use Rattle.std.proofs.KnownBytes.{Consumes-trans}
-use Rattle.fare_http.specs.declared.no_piece.NoPiece.TheVariants.{Ended}
+use Rattle.fare_http.specs.declared.piece.NoPiece.TheVariants.{Ended}
 use Rattle.fare_http.proofs.RequestLemmas.{head-then, body-taken, body-short}
 use Rattle.fare_http.proofs.request.read_whole.Goals as goal
 
