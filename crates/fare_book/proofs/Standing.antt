@@ -1,5 +1,5 @@
 -- Bodies that stand for a book still do after a publication.
-use Rattle.std.proofs.Common.{◌≡◌, ◌∙◌, ℕ, inl, inr, List, Some, None, Ok, Err, true, false, Bool, refl, sym}
+use Rattle.std.proofs.Common.{◌≡◌, ◌∙◌, ℕ, inl, inr, List, Some, None, Ok, Err, true, false, Bool, refl, sym, ap}
 use Rattle.fare_outside.specs.Keeper.{WhereTold, MayAppend}
 use Rattle.fare_tariff.specs.Tariff.{Tariff}
 use Rattle.fare_csv.specs.TariffText.{edition_of}
@@ -99,3 +99,29 @@ pub told_stands : (before after : Told) (old new : BookState) (edition : Tariff)
 told_stands None after old new edition answer made = tt
 told_stands (Some before) None old new edition answer made = tt
 told_stands (Some before) (Some after) old new edition answer made = edition_stands old new edition answer before after made
+
+-- a settled book is open as it is
+own_editions : (before after : Told) (old new : BookState) (edition : Tariff) (answer : Answer) → old.settled ≡ true → OffersOpened old new edition answer before after → Offers old.editions edition answer new before after
+own_editions before after old new edition answer e made =
+    let opened : Ok made.editions ≡ Ok old.editions = rw e at made.opened in
+    let same : made.editions ≡ old.editions = cc in
+    rw same at made.offers
+
+-- want of memory leaves a settled book
+memory_settled : (before after : Told) (old new : BookState) → old.settled ≡ true → MayOpen old new before after → new ≡ settled old.editions
+memory_settled before after old new e (inl same) = same ∙ settled_is old e
+memory_settled before after old new e (inr opens) =
+    let opened : Ok new.editions ≡ Ok old.editions = rw e at opens.1 in
+    let same : new.editions ≡ old.editions = cc in
+    settled_is new opens.0 ∙ ap settled same
+
+-- each answer to an edition in a settled book
+pub in_settled : (before after : Told) (old new : BookState) (edition : Tariff) (answer : Answer) → old.settled ≡ true → PublishesEdition old new edition answer before after → Offers old.editions edition answer new before after
+in_settled before after old new edition (Err (Malformed fault)) e made = made
+in_settled before after old new edition (Err (Damaged place damage)) e made =
+    let found : DamageAt = record { place = place; damage = damage } in
+    let opened : Err found ≡ Ok old.editions = rw e at made.0 in absurd cc
+in_settled before after old new edition (Err KeeperFault) e (inl fails) = let off = fails.unsettled in absurd cc
+in_settled before after old new edition (Err KeeperFault) e (inr made) = own_editions before after old new edition (Err KeeperFault) e made
+in_settled before after old new edition (Err Memory) e made = (memory_settled before after old new e made.0, made.1)
+in_settled before after old new edition answer e made = own_editions before after old new edition answer e made

@@ -58,6 +58,8 @@ impl Book {
     ) -> Result<Published, PublishFault>
         requires { IsTrue (P.ready keeper.old) }
         ensures answer { PublishesEdition self.old self.new edition result (P.bodies keeper.old) (P.bodies keeper.new) }
+        ensures settled { self.old.settled ≡ true →
+            Offers self.old.editions edition result self.new (P.bodies keeper.old) (P.bodies keeper.new) }
         ensures stands { WhereTold (P.bodies keeper.old) (P.bodies keeper.new)
             (KeepsStanding self.old self.new result) }
         ensures carried { IfErr result CarriesFault }
