@@ -13,7 +13,7 @@ use Rattle.fare_book.specs.declared.publish_fault.PublishFault.TheVariants.{Memo
 use Rattle.fare_book.specs.Book.{BookState}
 use Rattle.fare_book.specs.Editions.{DamageAt, editions_of}
 use Rattle.fare_book.specs.Faults.{reopening_fault, text_fault}
-use Rattle.fare_book.specs.Publish.{Answer, Offers, Publishes}
+use Rattle.fare_book.specs.Publish.{Answer, Offers, Publishes, PublishesEdition}
 use Rattle.fare_book.specs.Reopens.{Opens, OpensAs, Stay, Told}
 
 -- the bodies of a keeper, and what a call makes of them
@@ -31,11 +31,11 @@ malformed told book bytes tariff.Memory gives = (inl refl, stay_same told)
 malformed told book bytes fault gives = (gives (λ e. cc), refl, stay_same told)
 
 -- an opening's fault changes nothing
-pub stopped : (before after : Told) (book new : BookState) (bytes : List ℕ) (edition : Tariff) (found : RestoreFault) → edition_of bytes ≡ Ok edition → Opens {A = Unit {0}} book new (Err found) before after → Stay before after → Publishes book new bytes (Err (reopening_fault found)) before after
-stopped before after book new bytes edition restoring.Memory e opens stay = (inl opens, stay)
-stopped before after book new bytes edition restoring.KeeperFault e opens stay =
-    inl (record { readable = (edition, e); unsettled = opens.0; book = opens.1; bodies = stay })
-stopped before after book new bytes edition (restoring.Damaged place damage) e opens stay = ((edition, e), opens.0, opens.1, stay)
+pub stopped : (before after : Told) (book new : BookState) (edition : Tariff) (found : RestoreFault) → Opens {A = Unit {0}} book new (Err found) before after → Stay before after → PublishesEdition book new edition (Err (reopening_fault found)) before after
+stopped before after book new edition restoring.Memory opens stay = (inl opens, stay)
+stopped before after book new edition restoring.KeeperFault opens stay =
+    inl (record { unsettled = opens.0; book = opens.1; bodies = stay })
+stopped before after book new edition (restoring.Damaged place damage) opens stay = (opens.0, opens.1, stay)
 
 -- what changes bodies that stayed before changes the bodies as they were
 pub told_from : (change : Change) (before between after : Told) → Stay before between → ToldAfter between after change → ToldAfter before after change
@@ -81,21 +81,32 @@ opens_from false own opening (Some old) None (Some new) opens never = absurd (ne
 opens_from false own opening (Some old) (Some middle) (Some new) opens never = opens
 
 -- each answer to an edition that is offered to the editions of an open book
-answers : (before after : Told) (old new : BookState) (bytes : List ℕ) (edition : Tariff) (editions : List Tariff) (answer : Answer) → edition_of bytes ≡ Ok edition → OpensAs old before after (Ok editions) → Offers editions edition answer new before after → Publishes old new bytes answer before after
-answers before after old new bytes edition editions (Err Memory) e opened offers =
-    (inr (rw offers.0 (refl, opened)), offers.1)
-answers before after old new bytes edition editions (Err (Malformed fault)) e opened offers = absurd offers
-answers before after old new bytes edition editions (Err (Damaged place damage)) e opened offers = absurd offers
-answers before after old new bytes edition editions (Err KeeperFault) e opened offers =
-    inr (record { edition = edition; editions = editions; readable = e; opened = opened; offers = offers })
-answers before after old new bytes edition editions answer e opened offers =
-    record { edition = edition; editions = editions; readable = e; opened = opened; offers = offers }
+answers : (before after : Told) (old new : BookState) (edition : Tariff) (editions : List Tariff) (answer : Answer) → OpensAs old before after (Ok editions) → Offers editions edition answer new before after → PublishesEdition old new edition answer before after
+answers before after old new edition editions (Err Memory) opened offers = (inr (rw offers.0 (refl, opened)), offers.1)
+answers before after old new edition editions (Err (Malformed fault)) opened offers = offers
+answers before after old new edition editions (Err (Damaged place damage)) opened offers = absurd offers
+answers before after old new edition editions (Err KeeperFault) opened offers =
+    inr (record { editions = editions; opened = opened; offers = offers })
+answers before after old new edition editions answer opened offers =
+    record { editions = editions; opened = opened; offers = offers }
 
 -- an edition that is offered to a book that was opened is published
-pub offered : (before between after : Told) (old middle new : BookState) (bytes : List ℕ) (edition : Tariff) (answer : Answer) → edition_of bytes ≡ Ok edition → OpensAs old before between (Ok middle.editions) → Stay before between → Offers middle.editions edition answer new between after → Publishes old new bytes answer before after
-offered before between after old middle new bytes edition answer e opens stay offers =
+pub offered : (before between after : Told) (old middle new : BookState) (edition : Tariff) (answer : Answer) → OpensAs old before between (Ok middle.editions) → Stay before between → Offers middle.editions edition answer new between after → PublishesEdition old new edition answer before after
+offered before between after old middle new edition answer opens stay offers =
     let never : (told : List (List ℕ)) → between ≡ None → after ≡ Some told → ⊥ =
     λ told silent speaks. let speaks_up : Offers middle.editions edition answer new None (Some told) = rw (silent, speaks) at offers in offers_untold middle.editions edition answer new told speaks_up in
     let opened : OpensAs old before after (Ok middle.editions) = opens_from old.settled (Ok old.editions) (Ok middle.editions) before between after opens never in
     let from = offers_from before between after middle.editions edition answer new stay offers in
-    answers before after old new bytes edition middle.editions answer e opened from
+    answers before after old new edition middle.editions answer opened from
+
+-- a text is published as its edition is
+pub text_published : (before after : Told) (old new : BookState) (bytes : List ℕ) (edition : Tariff) (answer : Answer) → edition_of bytes ≡ Ok edition → PublishesEdition old new edition answer before after → Publishes old new bytes answer before after
+text_published before after old new bytes edition (Err (Malformed fault)) e made = absurd made
+text_published before after old new bytes edition (Err (Damaged place damage)) e made = ((edition, e), made.0, made.1, made.2)
+text_published before after old new bytes edition (Err KeeperFault) e (inl fails) =
+    inl (record { readable = (edition, e); unsettled = fails.unsettled; book = fails.book; bodies = fails.bodies })
+text_published before after old new bytes edition (Err KeeperFault) e (inr made) =
+    inr (record { edition = edition; editions = made.editions; readable = e; opened = made.opened; offers = made.offers })
+text_published before after old new bytes edition (Err Memory) e made = made
+text_published before after old new bytes edition answer e made =
+    record { edition = edition; editions = made.editions; readable = e; opened = made.opened; offers = made.offers }

@@ -68,10 +68,34 @@ pub record IsOffered (old new : BookState) (bytes : List ℕ) (answer : Answer) 
   pub opened : OpensAs old before after (Ok editions)
   pub offers : Offers editions edition answer new before after
 
+-- the book is opened, and the edition is offered to it
+pub record OffersOpened (old new : BookState) (edition : Tariff) (answer : Answer) (before after : Told) : Type 0 where
+  pub editions : List Tariff
+  pub opened : OpensAs old before after (Ok editions)
+  pub offers : Offers editions edition answer new before after
+
 -- a book is as it was, or opened and settled
 abbrev pub MayOpen : BookState → BookState → Told → Told → Type 0
 MayOpen old new before after =
     (new ≡ old) ⊎ ((new.settled ≡ true) × OpensAs old before after (Ok new.editions))
+
+-- the keeper failed while a book that isn't settled was opened, and nothing changed
+pub record CannotOpen (old new : BookState) (before after : Told) : Type 0 where
+  pub unsettled : old.settled ≡ false
+  pub book : new ≡ old
+  pub bodies : Stay before after
+
+-- what each answer to an edition says: what is wrong with the bodies of a book that isn't settled, and then nothing
+-- changed; a failure of the keeper, while the book was opened or at the append; want of memory, in a book that is opened
+-- or not; and every other answer is that to the edition in the open book
+abbrev pub PublishesEdition : BookState → BookState → Tariff → Answer → Told → Told → Type 0
+PublishesEdition old new edition (Err (Malformed fault)) before after = ⊥
+PublishesEdition old new edition (Err (Damaged place damage)) before after =
+    OpensAs old before after (Err (record { place = place; damage = damage })) × (new ≡ old) × Stay before after
+PublishesEdition old new edition (Err KeeperFault) before after =
+    CannotOpen old new before after ⊎ OffersOpened old new edition (Err KeeperFault) before after
+PublishesEdition old new edition (Err Memory) before after = MayOpen old new before after × Stay before after
+PublishesEdition old new edition answer before after = OffersOpened old new edition answer before after
 
 -- a text stands for an edition
 abbrev pub IsReadable : List ℕ → Type 0

@@ -1,10 +1,10 @@
-//! A text is published in a book.
+//! A text, or an edition, is published in a book.
 
 ghost use Rattle.std.specs.Prelude.{◌≡◌, ◌≤◌, ◌++◌, ◌∷◌, ◌↔◌, [], true, IfErr, IsErrOf, IsTrue, OnOk};
 ghost use Rattle.fare_outside.specs.Cause.{Rose};
 ghost use Rattle.fare_outside.specs.Keeper.{WhereTold};
 ghost use Rattle.fare_book.specs.Faults.{CarriesFault};
-ghost use Rattle.fare_book.specs.Publish.{IsNewTo, Offers, Publishes};
+ghost use Rattle.fare_book.specs.Publish.{IsNewTo, Offers, Publishes, PublishesEdition};
 ghost use Rattle.fare_book.specs.Reopens.{IsServed, Opens, Stay};
 ghost use Rattle.fare_book.specs.Restored.{CarriesDamage};
 ghost use Rattle.fare_book.specs.Stands.{KeepsStanding};
@@ -43,6 +43,31 @@ impl Book {
         ensures cause { IsErrOf result PublishFault.KeeperFault → Rose (P.faults keeper.old) (P.faults keeper.new) }
     {
         let edition = read_edition(rt, alloc, bytes)?;
+        self.publish_edition(rt, alloc, keeper, edition)
+    }
+
+    /// Publishes an edition: a new one is stored as its canonical text and becomes the last.
+    ///
+    /// What is left after a refusal, and when `KeeperFault` comes, is as for a text; no answer is `Malformed`.
+    pub fn publish_edition<R: Threads + Sync, P: Keeper>(
+        &mut self,
+        rt: &R,
+        alloc: Global,
+        keeper: &mut P,
+        edition: Edition,
+    ) -> Result<Published, PublishFault>
+        requires { IsTrue (P.ready keeper.old) }
+        ensures answer { PublishesEdition self.old self.new edition result (P.bodies keeper.old) (P.bodies keeper.new) }
+        ensures settled { self.old.settled ≡ true →
+            Offers self.old.editions edition result self.new (P.bodies keeper.old) (P.bodies keeper.new) }
+        ensures stands { WhereTold (P.bodies keeper.old) (P.bodies keeper.new)
+            (KeepsStanding self.old self.new result) }
+        ensures carried { IfErr result CarriesFault }
+
+        ensures ready { IsTrue (P.ready keeper.new) }
+        ensures never_falls { P.faults keeper.old ≤ P.faults keeper.new }
+        ensures cause { IsErrOf result PublishFault.KeeperFault → Rose (P.faults keeper.old) (P.faults keeper.new) }
+    {
         self.open(rt, alloc, keeper)?;
         self.offer(alloc, keeper, edition)
     }

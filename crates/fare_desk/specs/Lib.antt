@@ -3,3 +3,4 @@ pub use Rattle.fare_tariff.specs.Tariff
 pub use Rattle.fare_book.specs.Book
 pub mod Quotation
 pub mod Answers
+pub mod List

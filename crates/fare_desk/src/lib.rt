@@ -2,12 +2,15 @@
 //! (`Quotation`): the answer text of the best construction in the edition that the sale day selects.
 //!
 //! - `quote_fault`: why a trip isn't quoted;
-//! - `quoting`: the text of a quotation.
+//! - `quoting`: the text of a quotation;
+//! - `list`: the text that lists the editions of a book, which is defined in `specs/` (`List`).
 #![tactic(auto)]
 
+mod list;
 mod quote_fault;
 mod quoting;
 
+pub use list::list_text;
 pub use quote_fault::QuoteFault;
 pub use quoting::quote_text;
 

@@ -1,6 +1,6 @@
 //! Quotations over a book of one edition, with the answers of worked examples.
 
-use crate::{QuoteFault, quote_text};
+use crate::{QuoteFault, list_text, quote_text};
 use fare_book::Book;
 use fare_codes::{City, Day};
 use fare_csv::read_edition;
@@ -63,5 +63,14 @@ fn no_edition_comes_before_an_unknown_place(rt: HostRuntime) -> Result<(), Fail>
 fn an_unknown_place_is_named(rt: HostRuntime) -> Result<(), Fail> {
     let fault = quoted(&rt, rt.alloc(), b"TRIP,2025-03-01,LON,MIL,Q1,2025-04-10,Y")?.err();
     assert!(rt; fault == City::read(b"MIL").map(QuoteFault::UnknownPlace));
+    Ok(())
+}
+
+#[test]
+fn a_book_is_listed(rt: HostRuntime) -> Result<(), Fail> {
+    let alloc = rt.alloc();
+    let book = Book::of(alloc, read_edition(&rt, alloc, TARIFF)?)?;
+    let text = list_text(alloc, &book)?;
+    assert!(rt; text.as_slice() == b"EDITION 1 2025-01-01 5\n".as_slice());
     Ok(())
 }

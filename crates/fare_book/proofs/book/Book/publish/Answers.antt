@@ -1,7 +1,6 @@
 use Rattle.std.proofs.Common.{◌≡◌, Err, rules}
-use Rattle.fare_book.specs.Faults.{reopening_fault, text_fault}
-use Rattle.fare_book.proofs.Publications.{malformed, offered, stopped}
-use Rattle.fare_book.proofs.Standing.{told_stands}
+use Rattle.fare_book.specs.Faults.{text_fault}
+use Rattle.fare_book.proofs.Publications.{malformed, text_published}
 use Rattle.fare_book.proofs.book.Book.publish.Goals as goal
 
 pub returns-in_err-edition-clause-answer : goal.returns-in_err-edition-clause-answer
@@ -9,15 +8,6 @@ returns-in_err-edition-clause-answer g c =
     let out : c.from_residual.result ≡ Err (text_fault c.in_err-edition.field-0.0) = search rules in
     rw out (malformed _ c.args.self.now c.args.bytes.now c.in_err-edition.field-0.0 c.in_err-edition.ensures)
 
-pub returns-in_err-open-clause-answer : goal.returns-in_err-open-clause-answer
-returns-in_err-open-clause-answer g c =
-    let out : c.from_residual-in_err-open.result ≡ Err (reopening_fault c.in_err-open.field-0.0) = search rules in
-    rw out (stopped _ _ c.args.self.now c.open.new.self c.args.bytes.now c.in_ok-edition.edition c.in_err-open.field-0.0 c.in_ok-edition.ensures c.in_err-open.ensures.opens c.in_err-open.ensures.bodies)
-
 pub returns-clause-answer : goal.returns-clause-answer
 returns-clause-answer g c =
-    offered _ _ _ c.args.self.now c.open.new.self c.offer.new.self c.args.bytes.now c.in_ok-edition.edition c.offer.result c.in_ok-edition.ensures c.in_ok-open.ensures.opens.1 c.in_ok-open.ensures.bodies c.offer.ensures.offers
-
-pub returns-clause-stands : goal.returns-clause-stands
-returns-clause-stands g c =
-    told_stands _ _ c.args.self.now c.offer.new.self c.args.bytes.now c.offer.result (offered _ _ _ c.args.self.now c.open.new.self c.offer.new.self c.args.bytes.now c.in_ok-edition.edition c.offer.result c.in_ok-edition.ensures c.in_ok-open.ensures.opens.1 c.in_ok-open.ensures.bodies c.offer.ensures.offers)
+    text_published _ _ c.args.self.now c.publish_edition.new.self c.args.bytes.now c.in_ok-edition.edition c.publish_edition.result c.in_ok-edition.ensures c.publish_edition.ensures.answer
