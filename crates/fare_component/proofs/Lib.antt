@@ -6,3 +6,4 @@ pub mod EntryLemmas
 pub mod LawLemmas
 pub mod TableLemmas
 pub mod WalkLemmas
+pub mod WorkedEntries
