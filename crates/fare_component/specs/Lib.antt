@@ -3,4 +3,6 @@ pub use Rattle.fare_tariff.specs.Record
 pub use Rattle.fare_tariff.specs.Tariff
 pub use Rattle.fare_rules.specs.Terms
 pub use Rattle.fare_rules.specs.ComponentAmount
+pub mod Candidates
+pub mod Table
 pub mod Usable

@@ -11,6 +11,7 @@ mod spans;
 mod surcharges;
 mod terms;
 
+pub(crate) use fares::is_half_round_trip;
 pub use fares::{
     covers_cabins, covers_carriers, has_indicator, in_season, may_be_priced, runs_between,
 };

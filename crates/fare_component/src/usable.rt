@@ -14,7 +14,7 @@ use fare_tariff::{Edition, FareRec};
 use fare_trip::Trip;
 
 /// Whether a span can be a component: it holds no surface sector and no city twice.
-fn is_plain(trip: &Trip, a: usize, b: usize) -> bool
+pub(crate) fn is_plain(trip: &Trip, a: usize, b: usize) -> bool
     requires within { b ≤ count trip.now }
     ensures { result ≡ (not (holds_surface trip.now a b) && not (repeats_city trip.now a b)) }
 {

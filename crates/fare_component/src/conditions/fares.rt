@@ -36,7 +36,7 @@ pub fn runs_between(trip: &Trip, a: usize, b: usize, back: bool, fare: &FareRec)
 }
 
 /// Whether a fare is a half round trip, and not one way.
-fn is_half_round_trip(fare: &FareRec) -> bool
+pub(crate) fn is_half_round_trip(fare: &FareRec) -> bool
     ensures { result ≡ is_half_round_trip fare.now }
 {
     matches!(fare.kind, Kind::HR)

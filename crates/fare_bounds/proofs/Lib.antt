@@ -1,0 +1,3 @@
+pub mod BoundLemmas
+pub mod CostLemmas
+pub mod CoverLemmas

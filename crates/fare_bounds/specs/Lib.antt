@@ -1,0 +1,3 @@
+pub use Rattle.fare_component.specs.Table
+pub mod Covers
+pub mod Search

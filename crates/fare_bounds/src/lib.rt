@@ -1,0 +1,14 @@
+//! Bounds for a search over constructions: the least that the rest of a trip can cost from each of its points on. No
+//! call takes memory.
+//!
+//! - `limits`: how great the numbers can be;
+//! - `costs`: what an entry of the table costs at least, and the cheapest of some;
+//! - `rest`: the rests of a trip.
+#![tactic(auto)]
+
+mod costs;
+mod limits;
+mod rest;
+
+pub use limits::{COST_LIMIT, LAST_POINT};
+pub use rest::Rest;

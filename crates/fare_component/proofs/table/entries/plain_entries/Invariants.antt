@@ -1,0 +1,11 @@
+-- the walk has kept the entries of all numbers before the first candidate that is still to come
+use Rattle.std.proofs.Common.{◌-◌}
+use Rattle.fare_component.specs.Candidates.{passed}
+use Rattle.fare_component.proofs.WalkLemmas.{IsWalked}
+use Rattle.fare_component.proofs.table.entries.plain_entries.Given as goal
+
+abbrev pub invariant-loop-number : goal.invariant-loop-number
+invariant-loop-number l = IsWalked l.edition l.trip l.a l.b l.candidates l.entries
+
+abbrev pub decreases-loop-number : goal.decreases-loop-number
+decreases-loop-number l = 128 - passed l.candidates

@@ -1,0 +1,104 @@
+//! The table of a trip in an edition: what each fare costs for each span, computed once.
+//!
+//! - `entry`: one fare of a span;
+//! - `cursor`, `candidates`: the fares between two cities, in record order;
+//! - `entries`, `row`: all entries of a span, and of all spans from a point.
+
+ghost use Rattle.std.specs.Prelude.{◌≡◌, ◌≤◌, length, map, All, IfOk};
+ghost use Rattle.fare_trip.specs.Itinerary.{count};
+ghost use Rattle.fare_rules.specs.Numbers.{numbers};
+ghost use Rattle.fare_component.specs.Table.{IsInBounds, entries_of, row_of};
+
+mod candidates;
+mod cursor;
+mod entries;
+mod entry;
+mod row;
+
+pub use entries::MOST_ENTRIES;
+pub use entry::Entry;
+use fare_outside::NoMemory;
+use fare_tariff::Edition;
+use fare_trip::Trip;
+use row::Row;
+use std::alloc::Global;
+use std::marker::Model;
+
+/// The fares that may be used for each span of a trip, with what they cost. A contract sees its edition and its trip.
+#[derive(Drop)]
+pub struct Table<'a> {
+    edition: &'a Edition,
+    trip: &'a Trip,
+    rows: Vec<Row>,
+}
+
+impl<'a> Model for Table<'a> {
+    ghost use Rattle.std.specs.Prelude.{◌≡◌, map};
+    ghost use Rattle.fare_trip.specs.Itinerary.{count};
+    ghost use Rattle.fare_rules.specs.Numbers.{numbers};
+    ghost use Rattle.fare_component.specs.Table.{Pricing, row_of};
+
+    ghost Value = { Pricing };
+
+    ghost view = { λ t. record { edition = t.edition.now; trip = t.trip.now } };
+
+    ghost invariant = { λ t. t.rows.items ≡ map (row_of t.edition.now t.trip.now) (numbers 0 (count t.trip.now)) };
+}
+
+impl<'a> Table<'a> {
+    /// The table of a trip in an edition.
+    pub fn prepare(
+        alloc: Global,
+        edition: &'a Edition,
+        trip: &'a Trip,
+    ) -> Result<Table<'a>, NoMemory>
+        ensures { IfOk result (λ table. table ≡ record { edition = edition.now; trip = trip.now }) }
+    {
+        let rows = rows_of(alloc, edition, trip)?;
+        Ok(Table {
+            edition,
+            trip,
+            rows,
+        })
+    }
+
+    /// The entries of the span from a point to another, in record order: each fare that has an amount there in some
+    /// direction; none where the two points make no span.
+    pub fn entries(&self, a: usize, b: usize) -> &[Entry]
+        ensures entries { result.now ≡ entries_of self.now.edition self.now.trip a b }
+        ensures few { length result.now ≤ MOST_ENTRIES }
+        ensures bounds { All IsInBounds result.now }
+    {
+        if a < self.rows.len() {
+            self.rows[a].entries(b)
+        } else {
+            &[]
+        }
+    }
+
+    /// The edition that it was prepared from.
+    pub fn edition(&self) -> &'a Edition
+        ensures { result.now ≡ self.now.edition }
+    {
+        self.edition
+    }
+
+    /// The trip that it was prepared for.
+    pub fn trip(&self) -> &'a Trip
+        ensures { result.now ≡ self.now.trip }
+    {
+        self.trip
+    }
+}
+
+/// The rows of all points but the last.
+#[tactic(auto, using(crate::proofs::TableLemmas::made_push))]
+fn rows_of(alloc: Global, edition: &Edition, trip: &Trip) -> Result<Vec<Row>, NoMemory>
+    ensures { IfOk result (λ rows. rows.items ≡ map (row_of edition.now trip.now) (numbers 0 (count trip.now))) }
+{
+    let mut rows = Vec::new(alloc);
+    for a in 0..trip.count() {
+        rows.push(Row::of(alloc, edition, trip, a)?)?;
+    }
+    Ok(rows)
+}

@@ -1,0 +1,109 @@
+ghost use Rattle.std.specs.Prelude.{◌≡◌, ◌<◌, ◌≤◌, [], ◌∷◌, ◌++◌, length, All, IfOk, OnOk, if◌then◌else◌};
+ghost use Rattle.fare_trip.specs.Itinerary.{count};
+ghost use Rattle.fare_component.specs.Table.{IsInBounds, entries_of, has_amount};
+
+use crate::table::candidates::{all_candidates, candidates_past, first_candidate};
+use crate::table::entry::{Entry, entry_of};
+use crate::usable::is_plain;
+use fare_outside::NoMemory;
+use fare_points::indicator;
+use fare_tariff::Edition;
+use fare_trip::Trip;
+use std::alloc::Global;
+use std::marker::Model;
+
+/// A span has at most this many entries: 64 fares may be filed from its start to its end for its indicator, and as many
+/// the other way.
+pub const MOST_ENTRIES: usize = 128;
+
+/// The entries of one span.
+#[derive(Drop)]
+pub(crate) struct Entries {
+    items: Vec<Entry>,
+}
+
+impl Model for Entries {
+    ghost use Rattle.std.specs.Prelude.{List, All, length, ◌≤◌};
+    ghost use Rattle.fare_component.specs.declared.table.entry.Entry.{Entry};
+    ghost use Rattle.fare_component.specs.declared.table.entries.TheConstants.{MOST_ENTRIES};
+    ghost use Rattle.fare_component.specs.Table.{IsInBounds};
+
+    ghost Value = { List Entry };
+
+    ghost view = { λ e. e.items.items };
+
+    ghost invariant = { λ e. All IsInBounds e.items.items × (length e.items.items ≤ MOST_ENTRIES) };
+}
+
+impl Entries {
+    /// No entry.
+    fn new(alloc: Global) -> Entries
+        ensures { result ≡ [] }
+    {
+        Entries {
+            items: Vec::new(alloc),
+        }
+    }
+
+    /// Puts an entry last, where it has an amount in some direction.
+    fn keep(&mut self, entry: Entry) -> Result<(), NoMemory>
+        requires bounds { IsInBounds entry }
+        requires room { length self.old < MOST_ENTRIES }
+        ensures { OnOk result (self.new ≡ self.old ++ (if has_amount entry then entry ∷ [] else [])) }
+    {
+        if entry.out.is_some() || entry.back.is_some() {
+            self.items.push(entry)?;
+        }
+        Ok(())
+    }
+
+    /// All of them.
+    pub(crate) fn as_slice(&self) -> &[Entry]
+        ensures entries { result.now ≡ self.now }
+        ensures few { length result.now ≤ MOST_ENTRIES }
+        ensures bounds { All IsInBounds result.now }
+    {
+        self.items.as_slice()
+    }
+}
+
+/// The entries of a span that can be a component: each fare between its ends for its indicator is tried.
+fn plain_entries(
+    alloc: Global,
+    edition: &Edition,
+    trip: &Trip,
+    a: usize,
+    b: usize,
+) -> Result<Entries, NoMemory>
+    requires rises { a < b }
+    requires within { b ≤ count trip.now }
+    ensures { IfOk result (λ entries. entries ≡ entries_of edition.now trip.now a b) }
+{
+    let (from, to) = (trip.point(a), trip.point(b));
+    let ind = indicator(edition, trip, a, b);
+    let mut entries = Entries::new(alloc);
+    let mut candidates = all_candidates(edition, from, to, ind);
+    while let Some(number) = first_candidate(candidates) {
+        candidates = candidates_past(edition, from, to, ind, candidates, number);
+        entries.keep(entry_of(edition, trip, a, b, number))?;
+    }
+    Ok(entries)
+}
+
+/// The entries of two points of a trip: those of the span, and none where they make no span.
+pub(crate) fn entries_of(
+    alloc: Global,
+    edition: &Edition,
+    trip: &Trip,
+    a: usize,
+    b: usize,
+) -> Result<Entries, NoMemory>
+    requires within { b ≤ count trip.now }
+    ensures { IfOk result (λ entries. entries ≡ entries_of edition.now trip.now a b) }
+{
+    if a < b && is_plain(trip, a, b) {
+        plain_entries(alloc, edition, trip, a, b)
+    } else {
+        Ok(Entries::new(alloc))
+    }
+}

@@ -1,0 +1,58 @@
+ghost use Rattle.std.specs.Prelude.{◌≡◌, ◌≤◌, [], length, slice_index_or, All, IfOk};
+ghost use Rattle.fare_component.specs.Table.{IsInBounds, row_of};
+
+use crate::table::entries::{Entries, MOST_ENTRIES, entries_of};
+use crate::table::entry::Entry;
+use fare_outside::NoMemory;
+use fare_tariff::Edition;
+use fare_trip::Trip;
+use std::alloc::Global;
+use std::marker::Model;
+
+/// The entries of all spans from one point, by the points where they end.
+#[derive(Drop)]
+pub(crate) struct Row {
+    spans: Vec<Entries>,
+}
+
+impl Model for Row {
+    ghost use Rattle.std.specs.Prelude.{List};
+    ghost use Rattle.fare_component.specs.declared.table.entry.Entry.{Entry};
+
+    ghost Value = { List (List Entry) };
+
+    ghost view = { λ r. r.spans.items };
+}
+
+impl Row {
+    /// The row of a point.
+    #[tactic(auto, using(crate::proofs::TableLemmas::made_push))]
+    pub(crate) fn of(
+        alloc: Global,
+        edition: &Edition,
+        trip: &Trip,
+        a: usize,
+    ) -> Result<Row, NoMemory>
+        ensures { IfOk result
+            (λ row. row ≡ row_of edition.now trip.now a) }
+    {
+        let mut spans = Vec::new(alloc);
+        for b in 0..trip.count() + 1 {
+            spans.push(entries_of(alloc, edition, trip, a, b)?)?;
+        }
+        Ok(Row { spans })
+    }
+
+    /// The entries of the span that ends at a point; none behind the last.
+    pub(crate) fn entries(&self, b: usize) -> &[Entry]
+        ensures entries { result.now ≡ slice_index_or self.now b [] }
+        ensures few { length result.now ≤ MOST_ENTRIES }
+        ensures bounds { All IsInBounds result.now }
+    {
+        if b < self.spans.len() {
+            self.spans[b].as_slice()
+        } else {
+            &[]
+        }
+    }
+}
