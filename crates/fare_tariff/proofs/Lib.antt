@@ -1,3 +1,9 @@
+pub mod Chain
+pub mod FoundByKey
+pub mod Places
+pub mod Looks
+pub mod SameKind
+pub mod FaultPlaces
 pub mod Scans
 pub mod Faults
 pub mod Validity
