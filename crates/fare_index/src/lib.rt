@@ -14,3 +14,6 @@ mod places;
 
 pub use index::Index;
 pub use key::Key;
+
+#[cfg(test)]
+mod tests;

@@ -4,7 +4,6 @@ pub mod Places
 pub mod Looks
 pub mod SameKind
 pub mod FaultPlaces
-pub mod Scans
 pub mod Faults
 pub mod Validity
 pub mod CheckExamples
