@@ -157,23 +157,23 @@ is_fare_between-true from to ind (filed.Fare s) h =
 is_fare_between-true from to ind _ h = cc
 
 -- the k-th number of a list that begins at a number: its place, its record, and how many pass before it
-record IsNth (test : Record → Bool) (from : ℕ) (all : List Record) (k number : ℕ) : Type 0 where
-  place : ℕ
-  numbered : number ≡ from + place
-  one : Record
-  there : slice_get all place ≡ Some one
-  passes : test one ≡ true
-  before : count_by test (take place all) ≡ k
+pub record IsNth (test : Record → Bool) (from : ℕ) (all : List Record) (k number : ℕ) : Type 0 where
+  pub place : ℕ
+  pub numbered : number ≡ from + place
+  pub one : Record
+  pub there : slice_get all place ≡ Some one
+  pub passes : test one ≡ true
+  pub before : count_by test (take place all) ≡ k
 
 -- a count begins with the first record
-count_cons : (test : Record → Bool) (x : Record) (xs : List Record) → count_by test (x ∷ xs) ≡ count_by test (x ∷ []) + count_by test xs
+pub count_cons : (test : Record → Bool) (x : Record) (xs : List Record) → count_by test (x ∷ xs) ≡ count_by test (x ∷ []) + count_by test xs
 count_cons test x xs = sum_by-append (λ one. cond (test one) 1 0) (x ∷ []) xs
 
 -- one record counts as one where it passes, and as none where it doesn't
-counted : (test : Record → Bool) (x : Record) → test x ≡ true → count_by test (x ∷ []) ≡ 1
+pub counted : (test : Record → Bool) (x : Record) → test x ≡ true → count_by test (x ∷ []) ≡ 1
 counted test x h = rw h refl
 
-not_counted : (test : Record → Bool) (x : Record) → test x ≡ false → count_by test (x ∷ []) ≡ 0
+pub not_counted : (test : Record → Bool) (x : Record) → test x ≡ false → count_by test (x ∷ []) ≡ 0
 not_counted test x h = rw h refl
 
 -- one record further
@@ -200,7 +200,7 @@ nth_step test from x xs k number false fails h later =
     nth_later test from x xs k k number (omega (arith, none)) (later k h)
 
 -- each number of the list of those that pass is the k-th for some k
-nth_at : (test : Record → Bool) (from : ℕ) (all : List Record) (k number : ℕ) → slice_get (numbers_from test from all) k ≡ Some number → IsNth test from all k number
+pub nth_at : (test : Record → Bool) (from : ℕ) (all : List Record) (k number : ℕ) → slice_get (numbers_from test from all) k ≡ Some number → IsNth test from all k number
 nth_at test from [] k number h = cc
 nth_at test from (x ∷ xs) k number h =
     nth_step test from x xs k number (test x) refl h (λ j later. nth_at test (from + 1) xs j number later)

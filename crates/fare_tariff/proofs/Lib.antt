@@ -1,4 +1,9 @@
-pub mod Scans
+pub mod Chain
+pub mod FoundByKey
+pub mod Places
+pub mod Looks
+pub mod SameKind
+pub mod FaultPlaces
 pub mod Faults
 pub mod Validity
 pub mod CheckExamples

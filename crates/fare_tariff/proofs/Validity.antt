@@ -41,7 +41,7 @@ pub record HasNoKind (all earlier : List Record) (one : Record) : Type 0 where
   pub no_overlap : overlap_of earlier one ≡ None
 
 -- a record with no least kind has none of the kinds
-no_kind-parts : (all earlier : List Record) (one : Record) → kind_of all earlier one ≡ None → HasNoKind all earlier one
+pub no_kind-parts : (all earlier : List Record) (one : Record) → kind_of all earlier one ≡ None → HasNoKind all earlier one
 unfolding kind_of
 no_kind-parts all earlier one h =
     let a = option_or-none _ _ h in

@@ -7,3 +7,6 @@ pub mod Tariff
 pub mod Lookup
 pub mod Check
 pub mod Filed
+pub mod Keyed
+pub mod Sought
+pub mod Faulty

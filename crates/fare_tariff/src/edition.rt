@@ -5,7 +5,8 @@ ghost use Rattle.fare_tariff.specs.Filed.{IsFiledFare};
 ghost use Rattle.fare_tariff.specs.Lookup.{fare_at};
 ghost use Rattle.fare_tariff.specs.Record.{FareRecord};
 
-use crate::check::{CheckFault, amounts_are_in_range, first_fault};
+use crate::check::{CheckFault, first_fault};
+use crate::filed::Filed;
 use crate::limits::{LAST_EDITION, MOST_RECORDS};
 use crate::records::Record;
 use fare_codes::Day;
@@ -18,7 +19,7 @@ use std::thread::Threads;
 pub struct Edition {
     number: u32,
     effective: Day,
-    records: Vec<Record>,
+    filed: Filed,
 }
 
 impl Model for Edition {
@@ -27,16 +28,16 @@ impl Model for Edition {
 
     ghost Value = { Tariff };
 
-    ghost view = { λ e. record { number = e.number; effective = e.effective; records = e.records.items } };
+    ghost view = { λ e. record { number = e.number; effective = e.effective; records = e.filed } };
 
-    ghost invariant = { λ e. IsEdition e.number e.records.items };
+    ghost invariant = { λ e. IsEdition e.number e.filed };
 }
 
 impl Edition {
     /// The edition with just these records, or the fault of the least record that has one.
     pub fn check<R: Threads + Sync>(
-        _rt: &R,
-        _alloc: Global,
+        rt: &R,
+        alloc: Global,
         number: u32,
         effective: Day,
         records: Vec<Record>,
@@ -45,13 +46,16 @@ impl Edition {
         requires in_range { number ≤ LAST_EDITION }
         ensures { Gives CheckFault.Memory (λ edition. edition) result (check_edition number effective records.items) }
     {
-        amounts_are_in_range(records.as_slice());
-        match first_fault(records.as_slice()) {
+        let Ok(filed) = Filed::of(alloc, records) else {
+            return Err(CheckFault::Memory);
+        };
+        let _records = filed.records();
+        match first_fault(rt, &filed) {
             Some(fault) => Err(fault),
             None => Ok(Edition {
                 number,
                 effective,
-                records,
+                filed,
             }),
         }
     }
@@ -79,6 +83,16 @@ impl Edition {
         let _records = self.records();
     }
 
+    /// Its records with the places of their keys.
+    #[tactic(auto, using(crate::proofs::Validity::length_in_limit))]
+    pub(crate) fn filed(&self) -> &Filed
+        ensures records { result.now ≡ self.now.records }
+        ensures valid { IsEdition self.now.number self.now.records }
+        ensures in_limit { length result.now ≤ MOST_RECORDS }
+    {
+        &self.filed
+    }
+
     /// Its records, of which the first has the record number 2.
     #[tactic(auto, using(crate::proofs::Validity::length_in_limit))]
     pub fn records(&self) -> &[Record]
@@ -86,6 +100,6 @@ impl Edition {
         ensures valid { IsEdition self.now.number self.now.records }
         ensures in_limit { length result.now ≤ MOST_RECORDS }
     {
-        self.records.as_slice()
+        self.filed.records()
     }
 }

@@ -4,19 +4,23 @@
 //! - `records`: a record of each kind with its ranges, keys, terms and lists of names, and when two are the same;
 //! - `limits`: how many records there may be, and how great their numbers;
 //! - `edition`: an edition, which is valid by its type;
+//! - `filed`: a list of records with the places of their keys;
 //! - `check`: each kind of fault as its own test, and the first fault of a list of records;
-//! - `look_up`: cities, currencies, fares, rules and mileages, each as a search of the records;
+//! - `look_up`: cities, currencies, fares, rules and mileages, each found by its key;
+//! - `seasons`: when two seasons share a day;
 //! - `laws`: what follows of every edition, with nothing to run.
 #![tactic(auto)]
 
 mod check;
 mod edition;
+mod filed;
 mod laws;
 mod limits;
 mod look_up;
 mod records;
+mod seasons;
 
-pub use check::{CheckFault, CheckKind, overlap_is_a_shared_day};
+pub use check::{CheckFault, CheckKind};
 pub use edition::Edition;
 pub use laws::fare_of_a_day_is_one;
 pub use limits::{
@@ -27,6 +31,7 @@ pub use records::{
     CityRec, CurRec, EmaRec, FareKey, FareRec, MileRec, Names, PairRec, Record, RuleList, RuleRec,
     Terms, same_records,
 };
+pub use seasons::overlap_is_a_shared_day;
 
 #[cfg(test)]
 mod tests;

@@ -1,12 +1,12 @@
-//! The look-ups of an edition, each a search of its list of records, and the tests of one record that they share with
-//! the check.
+//! The look-ups of an edition, each by the key of a record, which the check shares.
 
 mod fares;
 mod miles;
 mod places;
 mod rules;
+mod seek;
 
-pub(crate) use fares::{has_key, is_fare_between, number_at};
-pub(crate) use miles::{mpm_in, tpm_in};
-pub(crate) use places::{city_in, city_record, currency_in, currency_record};
-pub(crate) use rules::{rule_in, rule_record};
+pub(crate) use fares::{has_key, nth_place, number_at};
+pub(crate) use places::{city_record, currency_record};
+pub(crate) use rules::rule_record;
+pub(crate) use seek::{Sought, first_fare};

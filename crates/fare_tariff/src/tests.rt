@@ -277,6 +277,74 @@ fn too_many_fares(rt: HostRuntime) -> Result<(), Fail> {
     Ok(())
 }
 
+/// As many records as one of these lists has.
+const LONG: usize = 200_699;
+
+/// One of 500 cities.
+fn town(rt: &impl Abort, at: u64) -> City {
+    let letter = |of: u64| b'A' + (of % 26) as u8;
+    city(rt, [letter(at), letter(at / 26), letter(at / 676)])
+}
+
+/// The permitted miles of one of 62,500 pairs of the cities, by five indicators in turn.
+fn miles_of(rt: &impl Abort, at: u64, miles: u32) -> Record {
+    Record::Mpm(MileRec {
+        from: town(rt, at / 5 % 250),
+        to: town(rt, 250 + at / 1_250 % 250),
+        ind: match at % 5 {
+            0 => Indicator::WH,
+            1 => Indicator::EH,
+            2 => Indicator::AT,
+            3 => Indicator::PA,
+            _ => Indicator::AP,
+        },
+        miles,
+    })
+}
+
+/// A long list whose first and last records state these miles.
+fn long_list(rt: &impl Abort, alloc: Global, first: u16, last: u16) -> Result<Vec<Record>, Fail> {
+    let mut records = Vec::with_capacity(alloc, LONG)?;
+    records.push(miles_of(rt, 0, u32::from(first)))?;
+    records.push(currency(rt, *b"GB"))?;
+    for at in 0..500u64 {
+        records.push(Record::City(CityRec {
+            code: town(rt, at),
+            country: country(rt, *b"GB"),
+            area: Area::Two,
+        }))?;
+    }
+    for at in 1..200_197u64 {
+        records.push(miles_of(rt, at, 1))?;
+    }
+    records.push(miles_of(rt, 200_197, u32::from(last)))?;
+    Ok(records)
+}
+
+#[test]
+fn the_first_of_two_faults(rt: HostRuntime) -> Result<(), Fail> {
+    let effective = Day::read(b"2025-01-01").ok_or("a day")?;
+    let kind = CheckKind::ZeroMileage;
+    for (first, last, fault) in [
+        (0, 0, Some(CheckFault::At { number: 2, kind })),
+        (
+            1,
+            0,
+            Some(CheckFault::At {
+                number: 200_700,
+                kind,
+            }),
+        ),
+        (1, 1, None),
+    ] {
+        let records = long_list(&rt, rt.alloc(), first, last)?;
+        assert_eq!(rt; records.len(), LONG);
+        let checked = Edition::check(&rt, rt.alloc(), 7, effective, records);
+        assert_eq!(rt; checked.err(), fault);
+    }
+    Ok(())
+}
+
 #[test]
 fn looks_up_places(rt: HostRuntime) -> Result<(), Fail> {
     let tariff = edition(&rt, rt.alloc())?;

@@ -1,35 +1,41 @@
 //! The least kind of a record, and the fault of the least record that has one.
 
-ghost use Rattle.std.specs.Prelude.{◌≡◌, ◌<◌, ◌≤◌, length, IfNone};
+ghost use Rattle.std.specs.Prelude.{◌≡◌, ◌<◌, ◌≤◌, length, take, IfNone};
 ghost use Rattle.fare_tariff.specs.Check.{kind_of, first_fault};
+ghost use Rattle.fare_tariff.specs.Faulty.{has_kind_at, fault_of, first_faulty};
 
 use crate::check::keys::{duplicate_of, overlap_of};
 use crate::check::names::{names_unknown_city, names_unknown_currency, names_unknown_rule};
 use crate::check::numbers::{has_same_points, is_one_too_many, is_zero_mileage};
 use crate::check::{CheckFault, CheckKind};
+use crate::filed::Filed;
 use crate::limits::MOST_RECORDS;
 use crate::records::Record;
+use rayon::prelude::*;
+use std::marker::Sync;
+use std::thread::Threads;
 
-/// The least kind of a record of a list that has these before it.
+/// The least kind of a record at a place.
 #[tactic(auto, unfolding(crate::specs::Check::kind_of))]
-fn kind_of(records: &[Record], earlier: &[Record], one: &Record) -> Option<CheckKind>
-    requires { length earlier.now ≤ MOST_RECORDS }
-    ensures kind { result ≡ kind_of records.now earlier.now one.now }
-    ensures within { IfNone result (length earlier.now < MOST_RECORDS) }
+fn kind_of(filed: &Filed, place: usize, one: &Record) -> Option<CheckKind>
+    requires within { place ≤ length filed.now }
+    requires in_limit { place ≤ MOST_RECORDS }
+    ensures kind { result ≡ kind_of filed.now (take place filed.now) one.now }
+    ensures within { IfNone result (place < MOST_RECORDS) }
 {
-    if let Some(first) = duplicate_of(earlier, one) {
+    if let Some(first) = duplicate_of(filed, place, one) {
         return Some(CheckKind::Duplicate(first));
     }
-    if names_unknown_city(records, one) {
+    if names_unknown_city(filed, one) {
         return Some(CheckKind::UnknownCity);
     }
-    if names_unknown_rule(records, one) {
+    if names_unknown_rule(filed, one) {
         return Some(CheckKind::UnknownRule);
     }
-    if names_unknown_currency(records, one) {
+    if names_unknown_currency(filed, one) {
         return Some(CheckKind::UnknownCurrency);
     }
-    if is_one_too_many(earlier, one) {
+    if is_one_too_many(filed, place, one) {
         return Some(CheckKind::TooManyFares);
     }
     if has_same_points(one) {
@@ -38,24 +44,59 @@ fn kind_of(records: &[Record], earlier: &[Record], one: &Record) -> Option<Check
     if is_zero_mileage(one) {
         return Some(CheckKind::ZeroMileage);
     }
-    if earlier.len() >= MOST_RECORDS {
+    if place >= MOST_RECORDS {
         return Some(CheckKind::OutOfLimit);
     }
-    overlap_of(earlier, one).map(|first| CheckKind::Overlap(first))
+    overlap_of(filed, place, one).map(|first| CheckKind::Overlap(first))
+}
+
+/// Whether a record has a kind.
+fn has_kind(filed: &Filed, place: usize) -> bool
+    requires { place < length filed.now }
+    ensures { result ≡ has_kind_at filed.now place }
+{
+    if place >= MOST_RECORDS {
+        return true;
+    }
+    let one = &filed.records()[place];
+    is_one_too_many(filed, place, one) || kind_of(filed, place, one).is_some()
+}
+
+/// The least place of a record that has a kind, sought on all processors.
+fn first_faulty<R: Threads + Sync>(rt: &R, filed: &Filed) -> Option<usize>
+    ensures { result ≡ first_faulty filed.now }
+{
+    (0..filed.records().len()).into_par_iter().position_first(
+        rt,
+        |place: usize| -> bool
+            requires { place < length filed.now }
+            ensures { result ≡ has_kind_at filed.entry.now place }
+        { has_kind(filed, place) },
+    )
+}
+
+/// The fault of the record at a place.
+fn fault_at(filed: &Filed, place: usize) -> Option<CheckFault>
+    requires within { place < length filed.now }
+    requires in_limit { place ≤ MOST_RECORDS }
+    ensures { result ≡ fault_of filed.now place }
+{
+    let one = &filed.records()[place];
+    match kind_of(filed, place, one) {
+        None => None,
+        Some(kind) => Some(CheckFault::At {
+            number: place as u32 + 2,
+            kind,
+        }),
+    }
 }
 
 /// The fault of the least record that has one.
-#[tactic(auto, using(crate::proofs::Faults::first_fault_all))]
-pub(crate) fn first_fault(records: &[Record]) -> Option<CheckFault>
-    ensures { result ≡ first_fault records.now }
+pub(crate) fn first_fault<R: Threads + Sync>(rt: &R, filed: &Filed) -> Option<CheckFault>
+    ensures { result ≡ first_fault filed.now }
 {
-    for (place, one) in records.iter().enumerate() {
-        if let Some(kind) = kind_of(records, &records[..place], one) {
-            return Some(CheckFault::At {
-                number: place as u32 + 2,
-                kind,
-            });
-        }
+    match first_faulty(rt, filed) {
+        None => None,
+        Some(place) => fault_at(filed, place),
     }
-    None
 }

@@ -6,74 +6,75 @@ ghost use Rattle.std.specs.Option.{option_to_list};
 ghost use Rattle.fare_tariff.specs.Check.{is_unknown_city, is_one_unknown, names_unknown_city, is_unknown_rule};
 ghost use Rattle.fare_tariff.specs.Check.{names_unknown_rule, names_unknown_currency};
 
+use crate::filed::Filed;
 use crate::look_up::{city_record, currency_record, rule_record};
 use crate::records::Record;
 use fare_codes::{City, RuleId};
 
 /// Whether a city has no record.
-fn is_unknown_city(records: &[Record], city: City) -> bool
-    ensures { result ≡ is_unknown_city records.now city }
+fn is_unknown_city(filed: &Filed, city: City) -> bool
+    ensures { result ≡ is_unknown_city filed.now city }
 {
-    city_record(records, city).is_none()
+    city_record(filed, city).is_none()
 }
 
 /// Whether a via field names a city that has no record.
-fn is_unknown_via(records: &[Record], via: &Option<City>) -> bool
-    ensures { result ≡ list_any (is_unknown_city records.now) (option_to_list via.now) }
+fn is_unknown_via(filed: &Filed, via: &Option<City>) -> bool
+    ensures { result ≡ list_any (is_unknown_city filed.now) (option_to_list via.now) }
 {
     match via {
         None => false,
-        Some(city) => is_unknown_city(records, *city),
+        Some(city) => is_unknown_city(filed, *city),
     }
 }
 
 /// Whether one of two cities or of a via field has no record.
 #[tactic(auto, unfolding(crate::specs::Check::is_one_unknown))]
-fn is_one_unknown(records: &[Record], a: City, b: City, via: &Option<City>) -> bool
-    ensures { result ≡ is_one_unknown records.now a b via.now }
+fn is_one_unknown(filed: &Filed, a: City, b: City, via: &Option<City>) -> bool
+    ensures { result ≡ is_one_unknown filed.now a b via.now }
 {
-    is_unknown_city(records, a) || (is_unknown_city(records, b) || is_unknown_via(records, via))
+    is_unknown_city(filed, a) || (is_unknown_city(filed, b) || is_unknown_via(filed, via))
 }
 
 /// Whether a record names a city that has no record.
-pub(crate) fn names_unknown_city(records: &[Record], one: &Record) -> bool
-    ensures { result ≡ names_unknown_city records.now one.now }
+pub(crate) fn names_unknown_city(filed: &Filed, one: &Record) -> bool
+    ensures { result ≡ names_unknown_city filed.now one.now }
 {
     match one {
-        Record::Fare(r) => is_one_unknown(records, r.from, r.to, &None),
-        Record::Mpm(r) => is_one_unknown(records, r.from, r.to, &None),
-        Record::Tpm(r) => is_one_unknown(records, r.from, r.to, &None),
-        Record::Ema(r) => is_one_unknown(records, r.from, r.to, &r.via),
+        Record::Fare(r) => is_one_unknown(filed, r.from, r.to, &None),
+        Record::Mpm(r) => is_one_unknown(filed, r.from, r.to, &None),
+        Record::Tpm(r) => is_one_unknown(filed, r.from, r.to, &None),
+        Record::Ema(r) => is_one_unknown(filed, r.from, r.to, &r.via),
         _ => false,
     }
 }
 
 /// Whether a rule field names a rule that has no record.
-fn is_unknown_rule(records: &[Record], rule: &Option<RuleId>) -> bool
-    ensures { result ≡ is_unknown_rule records.now rule.now }
+fn is_unknown_rule(filed: &Filed, rule: &Option<RuleId>) -> bool
+    ensures { result ≡ is_unknown_rule filed.now rule.now }
 {
     match rule {
         None => false,
-        Some(id) => rule_record(records, *id).is_none(),
+        Some(id) => rule_record(filed, *id).is_none(),
     }
 }
 
 /// Whether a record is a fare whose rule isn't filed.
-pub(crate) fn names_unknown_rule(records: &[Record], one: &Record) -> bool
-    ensures { result ≡ names_unknown_rule records.now one.now }
+pub(crate) fn names_unknown_rule(filed: &Filed, one: &Record) -> bool
+    ensures { result ≡ names_unknown_rule filed.now one.now }
 {
     match one {
-        Record::Fare(r) => is_unknown_rule(records, &r.rule),
+        Record::Fare(r) => is_unknown_rule(filed, &r.rule),
         _ => false,
     }
 }
 
 /// Whether a record is a city whose country has no currency.
-pub(crate) fn names_unknown_currency(records: &[Record], one: &Record) -> bool
-    ensures { result ≡ names_unknown_currency records.now one.now }
+pub(crate) fn names_unknown_currency(filed: &Filed, one: &Record) -> bool
+    ensures { result ≡ names_unknown_currency filed.now one.now }
 {
     match one {
-        Record::City(r) => currency_record(records, r.country).is_none(),
+        Record::City(r) => currency_record(filed, r.country).is_none(),
         _ => false,
     }
 }

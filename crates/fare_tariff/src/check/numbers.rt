@@ -1,30 +1,24 @@
 //! Limits of count, and numbers and points that no record of an edition has.
 
-ghost use Rattle.std.specs.Prelude.{◌≡◌, ◌≤◌, length, count_by};
-ghost use Rattle.fare_tariff.specs.Lookup.{is_fare_between};
+ghost use Rattle.std.specs.Prelude.{◌≡◌, take};
 ghost use Rattle.fare_tariff.specs.Check.{is_one_too_many, has_same_points, is_zero_mileage};
 
+use crate::check::keys::before;
+use crate::filed::Filed;
 use crate::limits::MOST_FARES_BETWEEN;
-use crate::look_up::is_fare_between;
+use crate::look_up::nth_place;
 use crate::records::Record;
-use fare_codes::{City, Indicator};
 
-/// How many records are fares from a city to another for an indicator.
-fn fares_between(records: &[Record], from: City, to: City, ind: Indicator) -> usize
-    ensures { result ≡ count_by (is_fare_between from to ind) records.now }
-{
-    records
-        .iter()
-        .filter(|one| is_fare_between(from, to, ind, one))
-        .count()
-}
-
-/// Whether as many of the earlier records as there may be are fares with the from, to and indicator of this fare.
-pub(crate) fn is_one_too_many(earlier: &[Record], one: &Record) -> bool
-    ensures { result ≡ is_one_too_many earlier.now one.now }
+/// Whether as many of the records before a place as there may be are fares with the from, to and indicator of a fare.
+#[tactic(auto, using(crate::proofs::Places::too_many))]
+pub(crate) fn is_one_too_many(filed: &Filed, place: usize, one: &Record) -> bool
+    ensures { result ≡ is_one_too_many (take place filed.now) one.now }
 {
     match one {
-        Record::Fare(r) => fares_between(earlier, r.from, r.to, r.ind) >= MOST_FARES_BETWEEN,
+        Record::Fare(r) => {
+            let last = MOST_FARES_BETWEEN as u32 - 1;
+            before(place, nth_place(filed, r.from, r.to, r.ind, last)).is_some()
+        }
         _ => false,
     }
 }

@@ -8,9 +8,12 @@ ghost use Rattle.fare_tariff.specs.Lookup.{fare_in, has_key, is_fare_on, is_fare
 ghost use Rattle.fare_tariff.specs.Lookup.{fare_number, fare_at, nth_fare};
 
 use crate::edition::Edition;
+use crate::filed::Filed;
 use crate::limits::{MOST_FARES_BETWEEN, MOST_RECORDS};
+use crate::look_up::seek::{Sought, first_fare};
 use crate::records::{FareKey, FareRec, Record, same_rules};
 use fare_codes::{City, FARE_LIMIT, Indicator, MonthDay};
+use fare_index::Key;
 
 impl Edition {
     /// The record number of the fare with this key whose season holds a day; nothing means that no record has the key
@@ -19,7 +22,7 @@ impl Edition {
         ensures number { result ≡ fare_number self.now key.now on }
         ensures filed { IfSome result (λ number. IsSomeAnd (fare_at self.now number) (IsFareOn key.now on)) }
     {
-        fare_number(self.records(), key, on)
+        fare_number(self.filed(), key, on)
     }
 
     /// The fare that the record of a number files; nothing where it files none.
@@ -39,7 +42,7 @@ impl Edition {
         ensures filed { IfSome result (λ number. IsSomeAnd (fare_at self.now number) (IsFareBetween from to ind)) }
         ensures few { OnSome result (k < MOST_FARES_BETWEEN) }
     {
-        nth_fare_number(self.records(), from, to, ind, k)
+        nth_fare_number(self.filed(), from, to, ind, k)
     }
 }
 
@@ -85,24 +88,6 @@ pub(crate) fn has_key(key: &FareKey, fare: &FareRec) -> bool
         && same_rules(&fare.rule, &key.rule)
 }
 
-/// Whether a record files a fare that has a key and whose season holds a day.
-fn is_fare_on(key: &FareKey, on: MonthDay, one: &Record) -> bool
-    ensures { result ≡ is_fare_on key.now on one.now }
-{
-    match one {
-        Record::Fare(filed) => has_key(key, filed) && filed.season.holds(on),
-        _ => false,
-    }
-}
-
-/// The place of the first fare that has a key and whose season holds a day.
-fn fare_place(records: &[Record], key: &FareKey, on: MonthDay) -> Option<usize>
-    ensures place { result ≡ position (is_fare_on key.now on) records.now }
-    ensures within { IfSome result (λ place. place < length records.now) }
-{
-    records.iter().position(|one| is_fare_on(key, on, one))
-}
-
 /// The record number of the record at a place.
 pub(crate) fn number_at(place: Option<usize>) -> Option<u32>
     requires { IfSome place (λ at. at < MOST_RECORDS) }
@@ -115,37 +100,41 @@ pub(crate) fn number_at(place: Option<usize>) -> Option<u32>
 }
 
 /// The record number of the fare with a key whose season holds a day.
-fn fare_number(records: &[Record], key: &FareKey, on: MonthDay) -> Option<u32>
-    requires { length records.now ≤ MOST_RECORDS }
-    ensures { result ≡ option_map number_at (position (is_fare_on key.now on) records.now) }
+fn fare_number(filed: &Filed, key: &FareKey, on: MonthDay) -> Option<u32>
+    requires { length filed.now ≤ MOST_RECORDS }
+    ensures { result ≡ option_map number_at (position (is_fare_on key.now on) filed.now) }
 {
-    number_at(fare_place(records, key, on))
+    number_at(first_fare(filed, key, &Sought::On(on)))
 }
 
-/// Whether a record files a fare from a city to another for an indicator.
-pub(crate) fn is_fare_between(from: City, to: City, ind: Indicator, one: &Record) -> bool
-    ensures { result ≡ is_fare_between from to ind one.now }
+/// The place of the `k`-th fare, from 0, of a city, another and an indicator.
+pub(crate) fn nth_place(
+    filed: &Filed,
+    from: City,
+    to: City,
+    ind: Indicator,
+    k: u32,
+) -> Option<usize>
+    ensures place { result ≡ slice_get (numbers_from (is_fare_between from to ind) 0 filed.now) k }
+    ensures within { IfSome result (λ place. place < length filed.now) }
 {
-    match one {
-        Record::Fare(filed) => { filed.from.is(from) && filed.to.is(to) && filed.ind.is(ind) }
-        _ => false,
+    let mut left = k;
+    let mut at = filed.first(&Key::Fares(from, to, ind));
+    while let Some(place) = at {
+        if left == 0 {
+            return Some(place);
+        }
+        left -= 1;
+        at = filed.next(place);
     }
+    None
 }
 
 /// The record number of the `k`-th fare, from 0, of a city, another and an indicator.
-#[tactic(auto, using(crate::proofs::Scans::numbers_from_more, crate::proofs::Scans::numbers_from_all))]
-fn nth_fare_number(records: &[Record], from: City, to: City, ind: Indicator, k: u32) -> Option<u32>
-    requires { length records.now ≤ MOST_RECORDS }
-    ensures { result ≡ slice_get (numbers_from (is_fare_between from to ind) 2 records.now) k }
+#[tactic(auto, using(crate::proofs::Places::numbered))]
+fn nth_fare_number(filed: &Filed, from: City, to: City, ind: Indicator, k: u32) -> Option<u32>
+    requires { length filed.now ≤ MOST_RECORDS }
+    ensures { result ≡ slice_get (numbers_from (is_fare_between from to ind) 2 filed.now) k }
 {
-    let mut left = k;
-    for (place, one) in records.iter().enumerate() {
-        if is_fare_between(from, to, ind, one) {
-            if left == 0 {
-                return Some(place as u32 + 2);
-            }
-            left -= 1;
-        }
-    }
-    None
+    number_at(nth_place(filed, from, to, ind, k))
 }

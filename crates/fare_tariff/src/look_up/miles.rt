@@ -1,14 +1,15 @@
 //! Mileages of unordered pairs of cities.
 
-ghost use Rattle.std.specs.Prelude.{◌≡◌, ◌<◌, ◌≤◌, IfSome, bytes_eq};
-ghost use Rattle.std.specs.List.{list_any};
-ghost use Rattle.fare_tariff.specs.Lookup.{first_some, greatest, mpm_in, tpm_in, allowance_in, is_by_way_of, mpm, tpm};
-ghost use Rattle.fare_tariff.specs.Lookup.{allowance};
+ghost use Rattle.std.specs.Prelude.{◌≡◌, ◌<◌, ◌≤◌, IfSome};
+ghost use Rattle.fare_tariff.specs.Lookup.{first_some, greatest, mpm_in, tpm_in, allowance_in, mpm, tpm, allowance};
+ghost use Rattle.fare_tariff.specs.Keyed.{extra_miles};
 
 use crate::edition::Edition;
+use crate::filed::Filed;
 use crate::limits::MOST_MILES;
 use crate::records::{Record, same_pairs};
 use fare_codes::{City, Indicator};
+use fare_index::Key;
 
 impl Edition {
     /// The maximum permitted mileage of an unordered pair of cities and an indicator; nothing means that no record has
@@ -18,7 +19,7 @@ impl Edition {
         ensures above_zero { IfSome result (λ miles. 0 < miles) }
         ensures in_range { IfSome result (λ miles. miles ≤ MOST_MILES) }
     {
-        permitted_miles(self.records(), a, b, ind)
+        permitted_miles(self.filed(), a, b, ind)
     }
 
     /// The ticketed point mileage of an unordered pair of cities; nothing means that no record has it as its key.
@@ -27,7 +28,7 @@ impl Edition {
         ensures above_zero { IfSome result (λ miles. 0 < miles) }
         ensures in_range { IfSome result (λ miles. miles ≤ MOST_MILES) }
     {
-        ticketed_miles(self.records(), a, b)
+        ticketed_miles(self.filed(), a, b)
     }
 
     /// The greatest extra mileage allowance of an unordered pair of cities and an indicator that is filed for every way
@@ -36,7 +37,7 @@ impl Edition {
         ensures miles { result ≡ allowance self.now a b ind via.now }
         ensures in_range { result ≤ MOST_MILES }
     {
-        greatest_allowance(self.records(), a, b, ind, via)
+        greatest_allowance(self.filed(), a, b, ind, via)
     }
 }
 
@@ -58,17 +59,15 @@ pub(crate) fn mpm_in(a: City, b: City, ind: Indicator, one: &Record) -> Option<u
 }
 
 /// The maximum permitted mileage of an unordered pair of cities and an indicator.
-#[tactic(auto, using(crate::proofs::Scans::first_some_more, crate::proofs::Scans::first_some_all))]
-fn permitted_miles(records: &[Record], a: City, b: City, ind: Indicator) -> Option<u32>
-    ensures miles { result ≡ first_some (mpm_in a b ind) records.now }
+#[tactic(auto, using(crate::proofs::FoundByKey::mpm_found))]
+fn permitted_miles(filed: &Filed, a: City, b: City, ind: Indicator) -> Option<u32>
+    ensures miles { result ≡ first_some (mpm_in a b ind) filed.now }
     ensures in_range { IfSome result (λ miles. miles ≤ MOST_MILES) }
 {
-    for one in records {
-        if let Some(miles) = mpm_in(a, b, ind, one) {
-            return Some(miles);
-        }
+    match filed.find(&Key::permitted(a, b, ind)) {
+        None => None,
+        Some(one) => mpm_in(a, b, ind, one),
     }
-    None
 }
 
 /// The ticketed point miles that a record files between two cities.
@@ -89,47 +88,25 @@ pub(crate) fn tpm_in(a: City, b: City, one: &Record) -> Option<u32>
 }
 
 /// The ticketed point mileage of an unordered pair of cities.
-#[tactic(auto, using(crate::proofs::Scans::first_some_more, crate::proofs::Scans::first_some_all))]
-fn ticketed_miles(records: &[Record], a: City, b: City) -> Option<u32>
-    ensures miles { result ≡ first_some (tpm_in a b) records.now }
+#[tactic(auto, using(crate::proofs::FoundByKey::tpm_found))]
+fn ticketed_miles(filed: &Filed, a: City, b: City) -> Option<u32>
+    ensures miles { result ≡ first_some (tpm_in a b) filed.now }
     ensures in_range { IfSome result (λ miles. miles ≤ MOST_MILES) }
 {
-    for one in records {
-        if let Some(miles) = tpm_in(a, b, one) {
-            return Some(miles);
-        }
-    }
-    None
-}
-
-/// Whether a via city is empty or one of some cities.
-fn is_by_way_of(cities: &[City], via: &Option<City>) -> bool
-    ensures { result ≡ is_by_way_of cities.now via.now }
-{
-    match via {
-        None => true,
-        Some(via) => is_among(*via, cities),
+    match filed.find(&Key::ticketed(a, b)) {
+        None => None,
+        Some(one) => tpm_in(a, b, one),
     }
 }
 
-/// Whether a city is one of some cities.
-fn is_among(city: City, cities: &[City]) -> bool
-    ensures { result ≡ list_any (bytes_eq city) cities.now }
-{
-    cities.iter().any(|other| city.is(*other))
-}
-
-/// The extra miles that a record allows between two cities for an indicator by way of some cities.
-fn allowance_in(a: City, b: City, ind: Indicator, cities: &[City], one: &Record) -> u32
-    ensures miles { result ≡ allowance_in a b ind cities.now one.now }
+/// The extra miles that a record allows, where it has a key.
+fn extra_miles(key: &Key, one: &Record) -> u32
+    ensures miles { result ≡ extra_miles key.now one.now }
     ensures in_range { result ≤ MOST_MILES }
 {
     match one {
         Record::Ema(filed) => {
-            if same_pairs(filed.from, filed.to, a, b)
-                && filed.ind.is(ind)
-                && is_by_way_of(cities, &filed.via)
-            {
+            if *key == Key::extra(filed.from, filed.to, filed.ind, filed.via) {
                 filed.miles
             } else {
                 0
@@ -139,15 +116,28 @@ fn allowance_in(a: City, b: City, ind: Indicator, cities: &[City], one: &Record)
     }
 }
 
-/// The greatest extra mileage allowance of an unordered pair of cities and an indicator by way of some cities.
-#[tactic(auto, using(crate::proofs::Scans::greatest_more, crate::proofs::Scans::greatest_all))]
-fn greatest_allowance(records: &[Record], a: City, b: City, ind: Indicator, cities: &[City]) -> u32
-    ensures miles { result ≡ greatest (allowance_in a b ind cities.now) records.now }
+/// The greatest extra miles that records with a key allow.
+fn greatest_extra(filed: &Filed, key: &Key) -> u32
+    ensures miles { result ≡ greatest (extra_miles key.now) filed.now }
     ensures in_range { result ≤ MOST_MILES }
 {
-    let mut most = 0;
-    for one in records {
-        most = most.max(allowance_in(a, b, ind, cities, one));
+    let mut most = 0u32;
+    let mut at = filed.first(key);
+    while let Some(place) = at {
+        most = most.max(extra_miles(key, &filed.records()[place]));
+        at = filed.next(place);
+    }
+    most
+}
+
+/// The greatest extra mileage allowance of an unordered pair of cities and an indicator by way of some cities.
+fn greatest_allowance(filed: &Filed, a: City, b: City, ind: Indicator, cities: &[City]) -> u32
+    ensures miles { result ≡ greatest (allowance_in a b ind cities.now) filed.now }
+    ensures in_range { result ≤ MOST_MILES }
+{
+    let mut most = greatest_extra(filed, &Key::extra(a, b, ind, None));
+    for city in cities {
+        most = most.max(greatest_extra(filed, &Key::extra(a, b, ind, Some(*city))));
     }
     most
 }

@@ -1,4 +1,4 @@
-//! Cities and the currencies of countries.
+//! Cities and the currencies of countries, found by their keys.
 
 ghost use Rattle.std.specs.Prelude.{◌≡◌, IfSome};
 ghost use Rattle.std.specs.Option.{option_copied};
@@ -7,8 +7,10 @@ ghost use Rattle.fare_tariff.specs.Filed.{IsFiledCity};
 ghost use Rattle.fare_tariff.specs.Lookup.{first_some, city_in, currency_in, city_record, currency_of};
 
 use crate::edition::Edition;
+use crate::filed::Filed;
 use crate::records::{CityRec, CurRec, Record};
 use fare_codes::{City, Country};
+use fare_index::Key;
 
 impl Edition {
     /// The record of a city; nothing means that no record has it as its key.
@@ -16,7 +18,7 @@ impl Edition {
         ensures record { option_copied result ≡ city_record self.now c }
         ensures filed { IfSome result (λ r. IsFiledCity self.now c r.now) }
     {
-        city_record(self.records(), c)
+        city_record(self.filed(), c)
     }
 
     /// The record of a country's currency; nothing means that no record has the country as its key.
@@ -24,7 +26,7 @@ impl Edition {
         ensures record { option_copied result ≡ currency_of self.now c }
         ensures in_range { IfSome result (λ r. IsCurrency r.now.roe r.now.decimals r.now.unit) }
     {
-        currency_record(self.records(), c)
+        currency_record(self.filed(), c)
     }
 }
 
@@ -45,16 +47,14 @@ pub(crate) fn city_in(city: City, one: &Record) -> Option<&CityRec>
 }
 
 /// The record of a city.
-#[tactic(auto, using(crate::proofs::Scans::first_some_more, crate::proofs::Scans::first_some_all))]
-pub(crate) fn city_record(records: &[Record], city: City) -> Option<&CityRec>
-    ensures { option_copied result ≡ first_some (city_in city) records.now }
+#[tactic(auto, using(crate::proofs::FoundByKey::city_found))]
+pub(crate) fn city_record(filed: &Filed, city: City) -> Option<&CityRec>
+    ensures { option_copied result ≡ first_some (city_in city) filed.now }
 {
-    for one in records {
-        if let Some(filed) = city_in(city, one) {
-            return Some(filed);
-        }
+    match filed.find(&Key::City(city)) {
+        None => None,
+        Some(one) => city_in(city, one),
     }
-    None
 }
 
 /// The currency that a record files, where it is that of this country.
@@ -75,15 +75,13 @@ pub(crate) fn currency_in(country: Country, one: &Record) -> Option<&CurRec>
 }
 
 /// The currency of a country.
-#[tactic(auto, using(crate::proofs::Scans::first_some_more, crate::proofs::Scans::first_some_all))]
-pub(crate) fn currency_record(records: &[Record], country: Country) -> Option<&CurRec>
-    ensures record { option_copied result ≡ first_some (currency_in country) records.now }
+#[tactic(auto, using(crate::proofs::FoundByKey::currency_found))]
+pub(crate) fn currency_record(filed: &Filed, country: Country) -> Option<&CurRec>
+    ensures record { option_copied result ≡ first_some (currency_in country) filed.now }
     ensures in_range { IfSome result (λ r. IsCurrency r.now.roe r.now.decimals r.now.unit) }
 {
-    for one in records {
-        if let Some(filed) = currency_in(country, one) {
-            return Some(filed);
-        }
+    match filed.find(&Key::Currency(country)) {
+        None => None,
+        Some(one) => currency_in(country, one),
     }
-    None
 }

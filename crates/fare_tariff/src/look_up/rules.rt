@@ -8,9 +8,11 @@ ghost use Rattle.fare_tariff.specs.Lookup.{first_some, rule_in, rule_record, ter
 ghost use Rattle.fare_tariff.specs.Lookup.{lists_in, same_rule, unit_names, end_names, unit_ok, ends_ok};
 
 use crate::edition::Edition;
+use crate::filed::Filed;
 use crate::limits::{MOST_STOPS, MOST_TRANSFERS};
 use crate::records::{Names, Record, RuleRec, Terms, same_rules};
 use fare_codes::RuleId;
+use fare_index::Key;
 
 impl Edition {
     /// The terms of a rule field; nothing means that the rule isn't filed.
@@ -29,7 +31,7 @@ impl Edition {
         ensures terms { result ≡ option_map terms_of (rule_record self.now id) }
         ensures in_range { IfSome result AreInRange }
     {
-        match rule_record(self.records(), id) {
+        match rule_record(self.filed(), id) {
             None => None,
             Some(filed) => Some(terms_of(filed)),
         }
@@ -55,7 +57,7 @@ impl Edition {
     {
         match rule {
             None => true,
-            Some(id) => match rule_record(self.records(), *id) {
+            Some(id) => match rule_record(self.filed(), *id) {
                 None => false,
                 Some(filed) => lists(&filed.units, other),
             },
@@ -68,7 +70,7 @@ impl Edition {
     {
         match rule {
             None => true,
-            Some(id) => match rule_record(self.records(), *id) {
+            Some(id) => match rule_record(self.filed(), *id) {
                 None => false,
                 Some(filed) => lists(&filed.ends, other),
             },
@@ -87,16 +89,14 @@ pub(crate) fn rule_in(id: RuleId, one: &Record) -> Option<&RuleRec>
 }
 
 /// The record of a rule.
-#[tactic(auto, using(crate::proofs::Scans::first_some_more, crate::proofs::Scans::first_some_all))]
-pub(crate) fn rule_record(records: &[Record], id: RuleId) -> Option<&RuleRec>
-    ensures { option_copied result ≡ first_some (rule_in id) records.now }
+#[tactic(auto, using(crate::proofs::FoundByKey::rule_found))]
+pub(crate) fn rule_record(filed: &Filed, id: RuleId) -> Option<&RuleRec>
+    ensures { option_copied result ≡ first_some (rule_in id) filed.now }
 {
-    for one in records {
-        if let Some(filed) = rule_in(id, one) {
-            return Some(filed);
-        }
+    match filed.find(&Key::Rule(id)) {
+        None => None,
+        Some(one) => rule_in(id, one),
     }
-    None
 }
 
 /// The terms that a rule's record states.

@@ -1,12 +1,17 @@
--- the record at hand decides the fault of what is left, and is within the limit where it has no kind
-use Rattle.std.proofs.Common.{◌∙◌, arith, length-take-le}
-use Rattle.fare_tariff.proofs.Faults.{fault_here, fault_later}
+-- the fault is that at the first place
+use Rattle.std.proofs.Common.{ap, sym, ◌∙◌, option_and_then}
+use Rattle.fare_tariff.specs.Faulty.{fault_of}
+use Rattle.fare_tariff.proofs.FaultPlaces.{fault_of_first, faulty_within, faulty_in_limit}
 use Rattle.fare_tariff.proofs.check.kind.first_fault.Goals as goal
 
-pub returns-in-Some : goal.returns-in-Some
-returns-in-Some c =
-    fault_here _ _ _ _ c.loop-place-test.true c.index-records-place.is c.in-Some.ensures.kind ∙ c.loop-place.invariant.0
+pub fault_at-requires-clause-within : goal.fault_at-requires-clause-within
+fault_at-requires-clause-within g c = faulty_within c.args.filed.now c.in-Some.place (sym c.in-Some.ensures)
 
-pub loop-place-preserved : goal.loop-place-preserved
-loop-place-preserved c =
-    (fault_later _ _ _ c.loop-place-test.true c.index-records-place.is c.in_default.ensures.kind ∙ c.loop-place.invariant.0, omega (arith, c.in_default.ensures.within, length-take-le c.loop-place.place c.args.records.now))
+pub fault_at-requires-clause-in_limit : goal.fault_at-requires-clause-in_limit
+fault_at-requires-clause-in_limit g c = faulty_in_limit c.args.filed.now c.in-Some.place (sym c.in-Some.ensures)
+
+pub returns-in-None : goal.returns-in-None
+returns-in-None g c = ap (option_and_then (fault_of c.args.filed.now)) c.in-None.ensures ∙ sym (fault_of_first c.args.filed.now)
+
+pub returns-in-Some : goal.returns-in-Some
+returns-in-Some g c = c.fault_at.ensures ∙ ap (option_and_then (fault_of c.args.filed.now)) c.in-Some.ensures ∙ sym (fault_of_first c.args.filed.now)

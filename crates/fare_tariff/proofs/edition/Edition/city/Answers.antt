@@ -10,4 +10,4 @@ pub returns-clause-filed : goal.returns-clause-filed
 returns-clause-filed c =
     of_copied c.city_record.result (IsFiledCity c.args.self.now c.args.c) (λ r h.
     let found : city_record c.args.self.now c.args.c ≡ Some r = cc in
-    filed_city c.args.self.now c.args.c r c.records.ensures.valid.no_fault found)
+    filed_city c.args.self.now c.args.c r c.filed.ensures.valid.no_fault found)

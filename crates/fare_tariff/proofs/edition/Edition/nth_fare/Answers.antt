@@ -11,12 +11,12 @@ pub returns-clause-filed : goal.returns-clause-filed
 returns-clause-filed c =
     of_value c.nth_fare_number.result (λ number. IsSomeAnd (fare_at c.args.self.now number) (IsFareBetween c.args.from c.args.to c.args.ind)) (λ number h.
     let found : nth_fare c.args.self.now c.args.from c.args.to c.args.ind c.args.k ≡ Some number = cc in
-    let facts = filed_nth c.args.self.now c.args.from c.args.to c.args.ind c.args.k number c.records.ensures.valid.no_fault found in
+    let facts = filed_nth c.args.self.now c.args.from c.args.to c.args.ind c.args.k number c.filed.ensures.valid.no_fault found in
     facts.0)
 
 pub returns-clause-few : goal.returns-clause-few
 returns-clause-few c =
     of_some c.nth_fare_number.result (c.args.k < MOST_FARES_BETWEEN) (λ number h.
     let found : nth_fare c.args.self.now c.args.from c.args.to c.args.ind c.args.k ≡ Some number = cc in
-    let facts = filed_nth c.args.self.now c.args.from c.args.to c.args.ind c.args.k number c.records.ensures.valid.no_fault found in
+    let facts = filed_nth c.args.self.now c.args.from c.args.to c.args.ind c.args.k number c.filed.ensures.valid.no_fault found in
     facts.1)

@@ -9,4 +9,4 @@ pub returns-clause-above_zero : goal.returns-clause-above_zero
 returns-clause-above_zero c =
     of_value c.ticketed_miles.result (λ miles. 0 < miles) (λ miles h.
     let found : first_some (tpm_in c.args.a c.args.b) c.args.self.now.records ≡ Some miles = cc in
-    tpm_above_zero c.args.self.now.records c.args.a c.args.b miles c.records.ensures.valid.no_fault found)
+    tpm_above_zero c.args.self.now.records c.args.a c.args.b miles c.filed.ensures.valid.no_fault found)

@@ -1,0 +1,4 @@
+pub mod Key
+pub mod SameKeys
+pub mod Pairs
+pub mod Places

@@ -1,0 +1,56 @@
+ghost use Rattle.std.specs.Prelude.{◌≡◌, ◌+◌, ◌<◌, IfOk, length, drop, slice_index_or};
+ghost use Rattle.std.specs.List.{position_from};
+ghost use Rattle.fare_index.specs.declared.key.Key.{Key};
+ghost use Rattle.fare_index.specs.Key.{same_key};
+
+use crate::key::Key;
+use crate::places::{Places, places_of};
+use fare_outside::NoMemory;
+use std::alloc::Global;
+use std::marker::Model;
+
+/// The places of equal keys in a list of keys. It is seen as that list.
+#[derive(Drop)]
+pub struct Index {
+    keys: Vec<Key>,
+    places: Places<Key>,
+}
+
+impl Model for Index {
+    ghost use Rattle.std.specs.Prelude.{List};
+    ghost use Rattle.fare_index.specs.declared.key.Key.{Key};
+    ghost use Rattle.fare_index.specs.Key.{same_key};
+    ghost use Rattle.fare_index.specs.Places.{ArePlaces};
+
+    ghost Value = { List Key };
+
+    ghost view = { λ i. i.keys.items };
+
+    ghost invariant = { λ i. ArePlaces same_key i.keys.items i.places };
+}
+
+impl Index {
+    /// The index of a list of keys.
+    pub fn of(alloc: Global, keys: Vec<Key>) -> Result<Index, NoMemory>
+        ensures { IfOk result (λ index. index ≡ keys.items) }
+    {
+        let places = places_of(alloc, keys.as_slice())?;
+        Ok(Index { keys, places })
+    }
+
+    /// The first place of a key; nothing where the list doesn't have it.
+    pub fn first(&self, key: &Key) -> Option<usize>
+        ensures { result ≡ position_from (same_key key.now) 0 self.now }
+    {
+        self.places.first.get(key).copied()
+    }
+
+    /// The next place of the key at a place; nothing where the key doesn't come again.
+    pub fn next(&self, place: usize) -> Option<usize>
+        requires { place < length self.now }
+        ensures { (d : Key) → result
+            ≡ position_from (same_key (slice_index_or self.now place d)) (place + 1) (drop (place + 1) self.now) }
+    {
+        self.places.next[place]
+    }
+}

@@ -1,0 +1,19 @@
+//! The places of equal keys in a list of keys: the first place of a key, and after each place the next of its key. An
+//! index is seen as the list of keys that it was made from; each look-up answers as if it searched that list.
+//!
+//! - `key`: the key of a filed record, in which a pair of cities is unordered where the record's is;
+//! - `pairs`: the keys of unordered pairs;
+//! - `places`: one pass over a list of keys, from its back;
+//! - `index`: the index of a list of keys.
+#![tactic(auto)]
+
+mod index;
+mod key;
+mod pairs;
+mod places;
+
+pub use index::Index;
+pub use key::Key;
+
+#[cfg(test)]
+mod tests;

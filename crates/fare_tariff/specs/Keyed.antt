@@ -1,0 +1,39 @@
+-- The keys by which the records of a list are found.
+use Rattle.std.specs.Prelude.{◌≡◌, ℕ, Bool, true, List, Option, Some, None, map, nat_lt, if◌then◌else◌}
+use Rattle.std.specs.List.{list_all}
+use Rattle.fare_index.specs.declared.key.Key.{Key}
+use Rattle.fare_index.specs.declared.key.Key.TheVariants as kind
+use Rattle.fare_index.specs.Key.{same_key}
+use Rattle.fare_index.specs.Pairs.{permitted_key, ticketed_key, extra_key}
+use Rattle.fare_tariff.specs.declared.records.record.Record.{Record}
+use Rattle.fare_tariff.specs.declared.records.record.Record.TheVariants as filed
+use Rattle.fare_tariff.specs.Check.{has_amount_in_range}
+
+-- the key of a record: that of a fare is its from, to and indicator, and a pair of miles is unordered
+abbrev pub own_key : Record → Key
+own_key (filed.City r) = kind.City r.code
+own_key (filed.Cur r) = kind.Currency r.country
+own_key (filed.Rule r) = kind.Rule r.id
+own_key (filed.Fare r) = kind.Fares r.from r.to r.ind
+own_key (filed.Mpm r) = permitted_key r.from r.to r.ind
+own_key (filed.Tpm r) = ticketed_key r.from r.to
+own_key (filed.Ema r) = extra_key r.from r.to r.ind r.via
+
+-- a record has a key
+abbrev pub has_own_key : Key → Record → Bool
+has_own_key key one = same_key key (own_key one)
+
+-- the extra miles that a record allows, where it has a key, else 0
+abbrev pub extra_miles : Key → Record → ℕ
+extra_miles key (filed.Ema r) = if same_key key (extra_key r.from r.to r.ind r.via) then r.miles else 0
+extra_miles key _ = 0
+
+-- a place, if it stands before another
+abbrev pub before : ℕ → Option ℕ → Option ℕ
+before place None = None
+before place (Some first) = if nat_lt first place then Some first else None
+
+-- an index is that of the keys of a list of records, of which each fare's amount is in its range
+pub record IsIndexed (records : List Record) (index : List Key) : Type 0 where
+  pub keys : index ≡ map own_key records
+  pub amounts : list_all has_amount_in_range records ≡ true

@@ -1,0 +1,116 @@
+//! Records with the places of their keys.
+
+ghost use Rattle.std.specs.Prelude.{◌≡◌, ◌+◌, ◌<◌, true, find, map, IfOk, OnOk, length, drop, slice_index_or};
+ghost use Rattle.std.specs.List.{list_all, position_from};
+ghost use Rattle.std.specs.Option.{option_copied};
+ghost use Rattle.fare_tariff.specs.declared.records.record.Record.{Record};
+ghost use Rattle.fare_tariff.specs.Check.{has_amount_in_range};
+ghost use Rattle.fare_codes.specs.declared.nuc.TheConstants.{FARE_LIMIT};
+ghost use Rattle.fare_tariff.specs.Keyed.{own_key, has_own_key};
+
+use crate::records::{FareRec, Record};
+use fare_index::{Index, Key};
+use fare_outside::NoMemory;
+use std::alloc::Global;
+use std::marker::Model;
+
+/// A list of records in which each is found by its key. It is seen as the list.
+#[derive(Drop)]
+pub(crate) struct Filed {
+    records: Vec<Record>,
+    index: Index,
+}
+
+impl Model for Filed {
+    ghost use Rattle.std.specs.Prelude.{List};
+    ghost use Rattle.fare_tariff.specs.declared.records.record.Record.{Record};
+    ghost use Rattle.fare_tariff.specs.Keyed.{IsIndexed};
+
+    ghost Value = { List Record };
+
+    ghost view = { λ f. f.records.items };
+
+    ghost invariant = { λ f. IsIndexed f.records.items f.index };
+}
+
+impl Filed {
+    /// The records with the places of their keys.
+    pub(crate) fn of(alloc: Global, records: Vec<Record>) -> Result<Filed, NoMemory>
+        ensures { IfOk result (λ filed. filed ≡ records.items) }
+    {
+        let keys = own_keys(alloc, records.as_slice())?;
+        let index = Index::of(alloc, keys)?;
+        Ok(Filed { records, index })
+    }
+
+    /// The records, in their order.
+    pub(crate) fn records(&self) -> &[Record]
+        ensures records { result.now ≡ self.now }
+        ensures amounts { list_all has_amount_in_range self.now ≡ true }
+    {
+        self.records.as_slice()
+    }
+
+    /// The place of the first record with a key.
+    pub(crate) fn first(&self, key: &Key) -> Option<usize>
+        ensures { result ≡ position_from (has_own_key key.now) 0 self.now }
+    {
+        self.index.first(key)
+    }
+
+    /// The next place of a record with the key of the record at a place.
+    pub(crate) fn next(&self, place: usize) -> Option<usize>
+        requires { place < length self.now }
+        ensures { (d : Record) → result ≡ position_from
+            (has_own_key (own_key (slice_index_or self.now place d))) (place + 1) (drop (place + 1) self.now) }
+    {
+        self.index.next(place)
+    }
+
+    /// The first record with a key.
+    pub(crate) fn find(&self, key: &Key) -> Option<&Record>
+        ensures { option_copied result ≡ find (has_own_key key.now) self.now }
+    {
+        match self.first(key) {
+            None => None,
+            Some(place) => Some(&self.records[place]),
+        }
+    }
+}
+
+/// The key of the fares between a fare's cities for its indicator; a fare's amount is in its range by its type.
+fn fares_key(fare: &FareRec) -> Key
+    ensures key { result ≡ Key.Fares fare.now.from fare.now.to fare.now.ind }
+    ensures amount { fare.now.amount < FARE_LIMIT }
+{
+    let _ = &fare.amount;
+    Key::Fares(fare.from, fare.to, fare.ind)
+}
+
+/// The key of a record.
+pub(crate) fn own_key(one: &Record) -> Key
+    ensures key { result ≡ own_key one.now }
+    ensures amount { has_amount_in_range one.now ≡ true }
+{
+    match one {
+        Record::City(r) => Key::City(r.code),
+        Record::Cur(r) => Key::Currency(r.country),
+        Record::Rule(r) => Key::Rule(r.id),
+        Record::Fare(r) => fares_key(r),
+        Record::Mpm(r) => Key::permitted(r.from, r.to, r.ind),
+        Record::Tpm(r) => Key::ticketed(r.from, r.to),
+        Record::Ema(r) => Key::extra(r.from, r.to, r.ind, r.via),
+    }
+}
+
+/// The keys of the records of a list.
+fn own_keys(alloc: Global, records: &[Record]) -> Result<Vec<Key>, NoMemory>
+    ensures keys { IfOk result (λ keys. keys.items ≡ map own_key records.now) }
+    ensures amounts { OnOk result (list_all has_amount_in_range records.now ≡ true) }
+{
+    let mut keys = Vec::with_capacity(alloc, records.len())?;
+    for one in records {
+        keys.push(own_key(one))?;
+    }
+    Ok(keys)
+}

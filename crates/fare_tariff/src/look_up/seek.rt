@@ -1,0 +1,51 @@
+//! The first fare with a key whose season is of some kind, found among the fares of its cities and its indicator.
+
+ghost use Rattle.std.specs.Prelude.{◌≡◌, ◌<◌, length, position, IfSome};
+ghost use Rattle.fare_tariff.specs.Sought.{is_sought};
+
+use crate::filed::Filed;
+use crate::look_up::has_key;
+use crate::records::{FareKey, Record};
+use crate::seasons::seasons_overlap;
+use fare_codes::{MonthDay, Season};
+use fare_index::Key;
+
+/// Which season a fare that is sought has.
+#[derive(Clone, Copy)]
+pub(crate) enum Sought {
+    /// One that holds a day.
+    On(MonthDay),
+    /// Just this one.
+    Of(Season),
+    /// One that overlaps this one.
+    Over(Season),
+}
+
+/// Whether a record files a fare that has a key and is sought.
+fn is_sought(key: &FareKey, sought: &Sought, one: &Record) -> bool
+    ensures { result ≡ is_sought key.now sought.now one.now }
+{
+    match one {
+        Record::Fare(filed) => match sought {
+            Sought::On(day) => has_key(key, filed) && filed.season.holds(*day),
+            Sought::Of(season) => has_key(key, filed) && filed.season.is(*season),
+            Sought::Over(season) => has_key(key, filed) && seasons_overlap(&filed.season, season),
+        },
+        _ => false,
+    }
+}
+
+/// The place of the first fare that has a key and is sought.
+pub(crate) fn first_fare(filed: &Filed, key: &FareKey, sought: &Sought) -> Option<usize>
+    ensures place { result ≡ position (is_sought key.now sought.now) filed.now }
+    ensures within { IfSome result (λ place. place < length filed.now) }
+{
+    let mut at = filed.first(&Key::Fares(key.from, key.to, key.ind));
+    while let Some(place) = at {
+        if is_sought(key, sought, &filed.records()[place]) {
+            return Some(place);
+        }
+        at = filed.next(place);
+    }
+    None
+}
