@@ -12,3 +12,6 @@ mod rest;
 
 pub use limits::{COST_LIMIT, LAST_POINT};
 pub use rest::Rest;
+
+#[cfg(test)]
+mod tests;
