@@ -1,0 +1,4 @@
+pub mod WalkedLemmas
+pub mod StepLemmas
+pub mod ChoiceLemmas
+pub mod PieceLemmas
