@@ -2,3 +2,5 @@ pub mod WalkedLemmas
 pub mod StepLemmas
 pub mod ChoiceLemmas
 pub mod PieceLemmas
+pub mod LeastLemmas
+pub mod SumLemmas

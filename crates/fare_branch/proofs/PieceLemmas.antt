@@ -31,7 +31,7 @@ some_end a b e = let same : a ≡ b = cc in (ap (λ (c : Choice). c.0) same, ap 
 dearer : (xs ys : List Part) (px py : ℕ) → py < px → is_before xs px ys py ≡ false
 dearer xs ys px py h = not_after ys xs py px (before_says ys xs py px (inl h))
 
-cheaper : (xs ys : List Part) (px py : ℕ) → is_before xs px ys py ≡ false → py ≤ px
+pub cheaper : (xs ys : List Part) (px py : ℕ) → is_before xs px ys py ≡ false → py ≤ px
 cheaper xs ys px py h =
     elim (cases_lt px py) [
       | inl l ↦ absurd (both (sym (before_says xs ys px py (inl l)) ∙ h))

@@ -4,6 +4,7 @@ pub use Rattle.fare_component.specs.Table
 pub use Rattle.fare_bounds.specs.Covers
 pub mod Floors
 pub mod Beginnings
+pub mod Costs
 pub mod Walked
 pub mod Search
 pub mod LeastPrice

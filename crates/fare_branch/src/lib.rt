@@ -2,6 +2,7 @@
 //! found by a walk that leaves out what can't be before what is known.
 //!
 //! - `bound`: what a search asks for the least price known, and tells what it finds;
+//! - `own_bound`: a bound that knows no more than it was told;
 //! - `pieces`: the first-part choices by their numbers, and ranges of them;
 //! - `partial`: first parts of constructions, part by part;
 //! - `floors`: what first parts cost at least;
@@ -13,6 +14,7 @@
 
 mod bound;
 mod floors;
+mod own_bound;
 mod partial;
 mod pieces;
 mod searching;
@@ -20,6 +22,7 @@ mod walking;
 
 pub use bound::{Bound, NO_PRICE};
 pub use floors::floor_of;
+pub use own_bound::OwnBound;
 pub use partial::Partial;
 pub use pieces::{Piece, choices};
 pub use searching::search;
