@@ -1,0 +1,131 @@
+-- Walks over the constructions that begin in a piece, and what a search of it comes to.
+use Rattle.std.proofs.Common.{◌≡◌, ℕ, zero, suc, ◌+◌, ◌-◌, ◌<◌, ◌≤◌, ◌⊎◌, max, true, false, List, [], ◌∷◌, ◌++◌, length, Option, Some, None, refl, ap, subst, sym, ◌∙◌, inl, inr, arith}
+use Rattle.std.specs.Prelude.{slice_get, nat_le}
+use Rattle.std.proofs.lemmas.Option.{slice_get_within}
+use Rattle.std.proofs.lemmas.Bool.{cases_Bool, cases_lt, leb-true, leb-false, lt-ltb}
+use Rattle.fare_trip.specs.Itinerary.{Itinerary, count}
+use Rattle.fare_tariff.specs.Tariff.{Tariff}
+use Rattle.fare_rules.specs.declared.part.Part.{Part}
+use Rattle.fare_rules.specs.Best.{IsLawful}
+use Rattle.fare_rules.specs.Completion.{Choice, first_part_choices}
+use Rattle.fare_rules.specs.Construction.{greatest_unit, places}
+use Rattle.fare_rules.specs.Order.{is_before}
+use Rattle.fare_rules.proofs.OrderLemmas.{before_says, before_tells}
+use Rattle.fare_units.specs.Walk.{GoesOn, IsPart}
+use Rattle.fare_units.proofs.NextLemmas.{next_numbered}
+use Rattle.fare_branch.specs.declared.pieces.Piece.{Piece}
+use Rattle.fare_branch.specs.Search.{BeginsBy, BeginsIn, IsSearched, AllCostMore, kept_at}
+use Rattle.fare_branch.specs.Walked.{IsWalk, IsPassed, IsAmong}
+use Rattle.fare_branch.proofs.WalkedLemmas.{walk_nothing, walk_then, walk_within, not_after}
+
+abbrev Found : Type 0
+Found = Option (List Part × ℕ)
+
+none_some : {A : Type 0} (x : A) → None ≡ Some x → ⊥
+none_some x e = cc
+
+some_end : (a b : Choice) → Some a ≡ Some b → (a.0 ≡ b.0) × (a.1 ≡ b.1)
+some_end a b e = let same : a ≡ b = cc in (ap (λ (c : Choice). c.0) same, ap (λ (c : Choice). c.1) same)
+
+-- what costs less is not behind what costs more
+dearer : (xs ys : List Part) (px py : ℕ) → py < px → is_before xs px ys py ≡ false
+dearer xs ys px py h = not_after ys xs py px (before_says ys xs py px (inl h))
+
+pub cheaper : (xs ys : List Part) (px py : ℕ) → is_before xs px ys py ≡ false → py ≤ px
+cheaper xs ys px py h =
+    elim (cases_lt px py) [
+      | inl l ↦ absurd (both (sym (before_says xs ys px py (inl l)) ∙ h))
+      | inr g ↦ g
+    ]
+  where
+    both : true ≡ false → ⊥
+    both e = cc
+
+module _ (tariff : Tariff) (trip : Itinerary) where
+  -- a number of no choice
+  pub choice_none : (number least : ℕ) (best : Found) → None ≡ slice_get (first_part_choices tariff trip) number → IsWalk tariff trip (BeginsBy tariff trip number) least best least best
+  choice_none number least best e = walk_nothing tariff trip (BeginsBy tariff trip number) least best (λ parts price l b. none_some (b.first.end, b.first.fare) (e ∙ b.choice))
+
+  -- what begins with a choice begins with its part
+  by_part : (number : ℕ) (part : Part) → part.unit ≡ 1 → Some (part.end, part.fare) ≡ slice_get (first_part_choices tariff trip) number → (parts : List Part) (price : ℕ) → IsLawful tariff trip parts price → BeginsBy tariff trip number parts → GoesOn [] (IsPart part) parts
+  by_part number part unit e parts price l b =
+      let same = some_end (part.end, part.fare) (b.first.end, b.first.fare) (e ∙ b.choice) in
+      let P : List Part → Type 0 = λ xs. IsLawful tariff trip xs price in
+      let numbered : (1 ≤ b.first.unit) × (b.first.unit ≤ greatest_unit [] (places []) + 1) = next_numbered tariff trip [] b.first b.rest price (subst P b.whole l) in
+      let low : 1 ≤ b.first.unit = numbered.0 in
+      let high : b.first.unit ≤ 0 + 1 = numbered.1 in
+      let one : b.first.unit ≡ part.unit = omega arith in
+      record { next = b.first; rest = b.rest; whole = b.whole; meets = λ i. record { end = sym same.0 i; unit = one i; fare = sym same.1 i } }
+
+  part_by : (number : ℕ) (part : Part) → Some (part.end, part.fare) ≡ slice_get (first_part_choices tariff trip) number → (parts : List Part) → GoesOn [] (IsPart part) parts → BeginsBy tariff trip number parts
+  part_by number part e parts g = record {
+    first = g.next;
+    rest = g.rest;
+    whole = g.whole;
+    choice = sym e ∙ ap (λ (p : Part). Some (p.end, p.fare)) (sym g.meets);
+  }
+
+  pub choice_walked : (number before after : ℕ) (part : Part) (best found : Found) → part.unit ≡ 1 → Some (part.end, part.fare) ≡ slice_get (first_part_choices tariff trip) number → IsWalk tariff trip (GoesOn [] (IsPart part)) before best after found → IsWalk tariff trip (BeginsBy tariff trip number) before best after found
+  choice_walked number before after part best found unit e walk =
+      walk_within tariff trip (BeginsBy tariff trip number) (GoesOn [] (IsPart part)) before after best found walk (by_part number part unit e) (part_by number part e)
+
+  -- number by number
+  piece : ℕ → ℕ → Piece
+  piece first past = record { first = first; past = past }
+
+  pub piece_none : (first least : ℕ) (best : Found) → IsWalk tariff trip (BeginsIn tariff trip (record { first = first; past = first })) least best least best
+  piece_none first least best = walk_nothing tariff trip (BeginsIn tariff trip (record { first = first; past = first })) least best (λ parts price l b. let low : first ≤ b.number = b.above in let high : b.number < first = b.below in omega arith)
+
+  in_or_by : (first number : ℕ) (parts : List Part) → BeginsIn tariff trip (record { first = first; past = number + 1 }) parts → BeginsIn tariff trip (record { first = first; past = number }) parts ⊎ BeginsBy tariff trip number parts
+  in_or_by first number parts b =
+      let high : b.number < number + 1 = b.below in
+      elim (cases_lt b.number number) [
+        | inl l ↦ inl (record { number = b.number; above = b.above; below = l; by = b.by })
+        | inr g ↦ let P : ℕ → Type 0 = λ n. BeginsBy tariff trip n parts in
+            let same : b.number ≡ number = omega arith in
+            inr (subst P same b.by)
+      ]
+
+  pub piece_more : (first number a b c : ℕ) (best middle found : Found) → first ≤ number → IsWalk tariff trip (BeginsIn tariff trip (record { first = first; past = number })) a best b middle → IsWalk tariff trip (BeginsBy tariff trip number) b middle c found → IsWalk tariff trip (BeginsIn tariff trip (record { first = first; past = number + 1 })) a best c found
+  piece_more first number a b c best middle found up one two =
+      walk_then tariff trip (BeginsIn tariff trip (record { first = first; past = number })) (BeginsBy tariff trip number) (BeginsIn tariff trip (record { first = first; past = number + 1 })) a b c best middle found one two
+      (in_or_by first number)
+      (λ parts d. let low : d.number < number = d.below in record { number = d.number; above = d.above; below = omega arith; by = d.by })
+      (λ parts d. record { number = number; above = up; below = omega arith; by = d })
+
+  pub piece_all : (piece : Piece) (number before after : ℕ) (best found : Found) → number ≤ max piece.first piece.past → (number < piece.past → length (first_part_choices tariff trip) ≤ number) → IsWalk tariff trip (BeginsIn tariff trip (record { first = piece.first; past = number })) before best after found → IsWalk tariff trip (BeginsIn tariff trip piece) before best after found
+  piece_all piece number before after best found within all walk =
+      walk_within tariff trip (BeginsIn tariff trip piece) (BeginsIn tariff trip (record { first = piece.first; past = number })) before after best found walk
+      (λ parts price l b. record { number = b.number; above = b.above; below = below_number b.number b.below (slice_get_within (first_part_choices tariff trip) b.number (b.by.first.end, b.by.first.fare) b.by.choice); by = b.by })
+      (λ parts b. let low : b.number < number = b.below in let up : piece.first ≤ b.number = b.above in record { number = b.number; above = b.above; below = omega arith; by = b.by })
+    where
+      below_number : (k : ℕ) → k < piece.past → k < length (first_part_choices tariff trip) → k < number
+      below_number k past some =
+          elim (cases_lt number piece.past) [
+            | inl l ↦ let few : length (first_part_choices tariff trip) ≤ number = all l in omega arith
+            | inr g ↦ omega arith
+          ]
+
+  -- what a search answers
+  pub searched : (piece : Piece) (before after least : ℕ) (found : Found) → least ≤ after → IsWalk tariff trip (BeginsIn tariff trip piece) before None after found → IsSearched tariff trip piece least (kept_at found least)
+  searched piece before after least None low walk = λ parts price l b.
+      elim (walk.walked parts price l b) [ inl h ↦ omega arith | inr h ↦ absurd h ]
+  searched piece before after least (Some best) low walk =
+      let told = walk.told tt in
+      let least_told : after ≤ best.1 = told.1 in
+      elim (cases_Bool (nat_le best.1 least)) [
+        | inl t ↦
+            let up : best.1 ≤ least = leb-true best.1 least t in
+            rw t (record {
+              lawful = told.0;
+              begins = elim walk.from [ inl e ↦ absurd (none_some best (sym e)) | inr b ↦ b ];
+              told = omega arith;
+              first = λ other cost l b. elim (walk.walked other cost l b) [ inl h ↦ dearer other best.0 cost best.1 (omega arith) | inr h ↦ h ];
+            })
+        | inr f ↦
+            let above : least < best.1 = leb-false best.1 least f in
+            rw f (λ parts price l b. elim (walk.walked parts price l b) [
+              | inl h ↦ omega arith
+              | inr h ↦ let up : best.1 ≤ price = cheaper parts best.0 price best.1 h in omega arith
+            ])
+      ]

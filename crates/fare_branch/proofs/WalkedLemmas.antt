@@ -1,0 +1,156 @@
+-- Pruned walks over constructions: how they are put together, and what they come to.
+use Rattle.std.proofs.Common.{◌≡◌, ℕ, ◌<◌, ◌≤◌, ◌⊎◌, min, true, false, List, [], ◌∷◌, ◌++◌, Option, Some, None, Result, Ok, Err, refl, sym, ap, subst, ◌∙◌, inl, inr, arith}
+use Rattle.std.proofs.lemmas.Bool.{cases_Bool, cases_order}
+use Rattle.fare_trip.specs.Itinerary.{Itinerary}
+use Rattle.fare_tariff.specs.Tariff.{Tariff}
+use Rattle.fare_rules.specs.declared.part.Part.{Part}
+use Rattle.fare_rules.specs.declared.broken.Broken.{Broken}
+use Rattle.fare_rules.specs.Best.{IsLawful}
+use Rattle.fare_rules.specs.Lawful.{lawful_price}
+use Rattle.fare_rules.specs.Order.{is_before}
+use Rattle.fare_rules.proofs.OrderLemmas.{ListBefore, Before, before_tells, before_says}
+use Rattle.fare_units.specs.Walk.{TakesBetter, IsBound, IsList}
+use Rattle.fare_units.proofs.WalkLemmas.{before_before, not_before_itself}
+use Rattle.fare_branch.specs.Walked.{IsWalk, IsPassed, IsTold, IsAmong, is_beaten}
+
+abbrev Found : Type 0
+Found = Option (List Part × ℕ)
+
+true_false : true ≡ false → ⊥
+true_false e = cc
+
+-- what was found stays among more lists
+among_more : (D E : List Part → Type 0) → ((parts : List Part) → D parts → E parts) → (found : Found) → IsAmong D found → IsAmong E found
+among_more D E more None h = h
+among_more D E more (Some found) h = more found.0 h
+
+-- what was passed stays so where the least price falls
+passed_falls : (before after : ℕ) (best : Found) (parts : List Part) (price : ℕ) → after ≤ before → IsPassed before best parts price → IsPassed after best parts price
+passed_falls before after best parts price h (inl l) = inl (omega arith)
+passed_falls before after best parts price h (inr b) = inr b
+
+-- a list that is before another is before all that go on from that
+list_before_longer : (xs ys rest : List Part) → ListBefore xs ys → ListBefore xs (ys ++ rest)
+list_before_longer [] ys rest h = absurd h
+list_before_longer (x ∷ xs) [] rest h = absurd h
+list_before_longer (x ∷ xs) (y ∷ ys) rest (inl h) = inl h
+list_before_longer (x ∷ xs) (y ∷ ys) rest (inr (e, h)) = inr (e, list_before_longer xs ys rest h)
+
+before_longer : (xs ys rest : List Part) (px floor price : ℕ) → floor ≤ price → Before xs px ys floor → Before xs px (ys ++ rest) price
+before_longer xs ys rest px floor price up (inl l) = inl (omega arith)
+before_longer xs ys rest px floor price up (inr (e, h)) =
+    elim (cases_order floor price) [
+      | inl same ↦ inr (e ∙ same, list_before_longer xs ys rest h)
+      | inr other ↦ elim other [ inl l ↦ inl (omega arith) | inr g ↦ absurd (omega arith) ]
+    ]
+
+-- what is before another does not come after it
+pub not_after : (xs ys : List Part) (px py : ℕ) → is_before xs px ys py ≡ true → is_before ys py xs px ≡ false
+not_after xs ys px py h =
+    elim (cases_Bool (is_before ys py xs px)) [
+      | inl t ↦ absurd (true_false (sym (before_before xs ys xs px py px h t) ∙ not_before_itself xs px))
+      | inr f ↦ f
+    ]
+
+-- no completion of parts that are beaten is before the best that was found
+pub beaten_is_passed : (best : Found) (front rest parts : List Part) (floor price : ℕ) → is_beaten best front floor ≡ true → floor ≤ price → parts ≡ front ++ rest → IsBound parts price best
+beaten_is_passed None front rest parts floor price h up whole = absurd (true_false (sym h))
+beaten_is_passed (Some best) front rest parts floor price h up whole =
+    let P : List Part → Type 0 = λ xs. is_before xs price best.0 best.1 ≡ false in
+    subst P (sym whole)
+    (not_after best.0 (front ++ rest) best.1 price
+    (before_says best.0 (front ++ rest) best.1 price (before_longer best.0 front rest best.1 floor price up (before_tells best.0 front best.1 floor h))))
+
+ok_same : (p q : ℕ) → ◌≡◌ {A = Result ℕ Broken} (Ok p) (Ok q) → p ≡ q
+ok_same p q e = cc
+
+module _ (tariff : Tariff) (trip : Itinerary) where
+  told_falls : (before after : ℕ) (best : Found) → after ≤ before → IsTold tariff trip before best → IsTold tariff trip after best
+  told_falls before after None h t = tt
+  told_falls before after (Some best) h t = (t.0, omega arith)
+
+  -- lists that are left out, since each lawful one is passed where the least price has fallen
+  pub walk_left_out : (D : List Part → Type 0) (before after : ℕ) (best : Found) → after ≤ before → ((parts : List Part) (price : ℕ) → IsLawful tariff trip parts price → D parts → IsPassed after best parts price) → IsWalk tariff trip D before best after best
+  walk_left_out D before after best h passed = record {
+    falls = h;
+    told = told_falls before after best h;
+    kept = λ parts price p. passed_falls before after best parts price h p;
+    walked = passed;
+    from = inl refl;
+  }
+
+  -- a walk over lists of which none is lawful
+  pub walk_nothing : (D : List Part → Type 0) (least : ℕ) (best : Found) → ((parts : List Part) (price : ℕ) → IsLawful tariff trip parts price → D parts → ⊥) → IsWalk tariff trip D least best least best
+  walk_nothing D least best none = walk_left_out D least least best (omega arith) (λ parts price l d. absurd (none parts price l d))
+
+  -- a walk from a least price that had fallen
+  pub walk_fallen : (D : List Part → Type 0) (before now after : ℕ) (best found : Found) → now ≤ before → IsWalk tariff trip D now best after found → IsWalk tariff trip D before best after found
+  walk_fallen D before now after best found h walk =
+      let falls : after ≤ now = walk.falls in
+      record {
+        falls = omega arith;
+        told = λ t. walk.told (told_falls before now best h t);
+        kept = λ parts price p. walk.kept parts price (passed_falls before now best parts price h p);
+        walked = walk.walked;
+        from = walk.from;
+      }
+
+  from_then : (D E F : List Part → Type 0) (best middle found : Found) → ((parts : List Part) → D parts → F parts) → ((parts : List Part) → E parts → F parts) → (middle ≡ best) ⊎ IsAmong D middle → (found ≡ middle) ⊎ IsAmong E found → (found ≡ best) ⊎ IsAmong F found
+  from_then D E F best middle found d e (inl same) (inl kept) = inl (kept ∙ same)
+  from_then D E F best middle found d e (inr among) (inl kept) = inr (subst (IsAmong F) (sym kept) (among_more D F d middle among))
+  from_then D E F best middle found d e first (inr among) = inr (among_more E F e found among)
+
+  -- one walk after another
+  pub walk_then : (D E F : List Part → Type 0) (a b c : ℕ) (best middle found : Found) → IsWalk tariff trip D a best b middle → IsWalk tariff trip E b middle c found → ((parts : List Part) → F parts → D parts ⊎ E parts) → ((parts : List Part) → D parts → F parts) → ((parts : List Part) → E parts → F parts) → IsWalk tariff trip F a best c found
+  walk_then D E F a b c best middle found first second each d e =
+      let one : b ≤ a = first.falls in
+      let two : c ≤ b = second.falls in
+      record {
+        falls = omega arith;
+        told = λ t. second.told (first.told t);
+        kept = λ parts price p. second.kept parts price (first.kept parts price p);
+        walked = λ parts price l f. elim (each parts f) [ inl h ↦ second.kept parts price (first.walked parts price l h) | inr h ↦ second.walked parts price l h ];
+        from = from_then D E F best middle found d e first.from second.from;
+      }
+
+  -- a walk over lists among which are all lawful ones of those asked for
+  pub walk_within : (D E : List Part → Type 0) (before after : ℕ) (best found : Found) → IsWalk tariff trip E before best after found → ((parts : List Part) (price : ℕ) → IsLawful tariff trip parts price → D parts → E parts) → ((parts : List Part) → E parts → D parts) → IsWalk tariff trip D before best after found
+  walk_within D E before after best found walk each back = record {
+    falls = walk.falls;
+    told = walk.told;
+    kept = walk.kept;
+    walked = λ parts price l d. walk.walked parts price l (each parts price l d);
+    from = elim walk.from [ inl same ↦ inl same | inr among ↦ inr (among_more E D back found among) ];
+  }
+
+  -- a lawful list is taken where it is better
+  pub walk_taken : (parts : List Part) (price before : ℕ) (best found : Found) → IsLawful tariff trip parts price → TakesBetter parts price best found → IsWalk tariff trip (IsList parts) before best (min before price) found
+  walk_taken parts price before best found lawful better =
+      let least : ℕ = min before price in
+      let low : min before price ≤ before = omega arith in
+      record {
+        falls = low;
+        told = λ t. elim better.chosen [
+          | inl same ↦ subst (IsTold tariff trip (min before price)) (sym same) (told_falls before (min before price) best low t)
+          | inr new ↦ subst (IsTold tariff trip (min before price)) (sym new) (lawful, omega arith)
+        ];
+        kept = λ others cost p. elim p [ inl l ↦ inl (omega arith) | inr b ↦ inr (better.kept others cost b) ];
+        walked = λ others cost l d.
+            let P : List Part → Type 0 = λ xs. IsLawful tariff trip xs cost in
+            let same : cost ≡ price = ok_same cost price (sym (subst P d l) ∙ lawful) in
+            let Q : List Part → Type 0 = λ xs. IsBound xs cost found in
+            let R : ℕ → Type 0 = λ n. IsBound parts n found in
+            inr (subst Q (sym d) (subst R (sym same) better.bound));
+        from = elim better.chosen [ inl same ↦ inl same | inr new ↦ inr (subst (IsAmong (IsList parts)) (sym new) refl) ];
+      }
+
+  err_ok : (x : Broken) (y : ℕ) → Err x ≡ Ok y → ⊥
+  err_ok x y e = cc
+
+  -- a list that is not lawful is left out
+  pub walk_unlawful : (parts : List Part) (broken : Broken) (least : ℕ) (best : Found) → lawful_price tariff trip parts ≡ Err broken → IsWalk tariff trip (IsList parts) least best least best
+  walk_unlawful parts broken least best e =
+      walk_nothing (IsList parts) least best
+      (λ others price l d.
+      let P : List Part → Type 0 = λ xs. IsLawful tariff trip xs price in
+      err_ok broken price (sym e ∙ subst P d l))

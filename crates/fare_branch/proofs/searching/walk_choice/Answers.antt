@@ -1,0 +1,12 @@
+use Rattle.std.proofs.Common.{◌≡◌, List, [], refl, subst}
+use Rattle.fare_rules.specs.declared.part.Part.{Part}
+use Rattle.fare_units.specs.Walk.{GoesOn, IsPart}
+use Rattle.fare_branch.specs.Walked.{IsWalk}
+use Rattle.fare_branch.proofs.PieceLemmas.{choice_walked}
+use Rattle.fare_branch.proofs.searching.walk_choice.Goals as goal
+
+pub returns-clause-walk : goal.returns-clause-walk
+returns-clause-walk g c =
+    let part : Part = record { end = c.in-Some.end; unit = 1; fare = c.in-Some.fare } in
+    let P : List Part → Type 0 = λ front. IsWalk c.args.table.now.edition c.args.table.now.trip (GoesOn front (IsPart (record { end = c.in-Some.end; unit = 1; fare = c.in-Some.fare }))) (g.B.Bound.least c.args.bound.now) c.args.best (g.B.Bound.least c.enter.new.bound) c.enter.result in
+    choice_walked c.args.table.now.edition c.args.table.now.trip c.args.number (g.B.Bound.least c.args.bound.now) (g.B.Bound.least c.enter.new.bound) (record { end = c.in-Some.end; unit = 1; fare = c.in-Some.fare }) c.args.best c.enter.result refl c.in-Some.ensures.choice (subst P c.new.ensures c.enter.ensures.walk)

@@ -1,0 +1,30 @@
+-- What parts cost at least, part by part and unit by unit.
+use Rattle.std.specs.Prelude.{ℕ, ◌+◌, List, Option, Some, None, sum_by}
+use Rattle.fare_trip.specs.Itinerary.{Itinerary}
+use Rattle.fare_tariff.specs.Tariff.{Tariff}
+use Rattle.fare_rules.specs.declared.part.Part.{Part}
+use Rattle.fare_rules.specs.Construction.{start_of, end_of, part_at, own, units}
+use Rattle.fare_component.specs.Table.{entry_of}
+use Rattle.fare_bounds.specs.Covers.{least_cost}
+
+-- an amount, 0 where there is none
+abbrev pub or_nothing : Option ℕ → ℕ
+or_nothing None = 0
+or_nothing (Some amount) = amount
+
+-- what a fare costs at least for a span: the price of a one way unit, or the lesser amount of a half round trip
+abbrev pub fare_least : Tariff → Itinerary → ℕ → ℕ → ℕ → Option ℕ
+fare_least tariff trip a b number = least_cost (entry_of tariff trip a b number)
+
+-- what a part costs at least
+abbrev pub part_least : Tariff → Itinerary → List Part → ℕ → ℕ
+part_least tariff trip parts k =
+    or_nothing (fare_least tariff trip (start_of trip parts k) (end_of parts k) (part_at parts k).fare)
+
+-- what the parts of a unit cost at least
+abbrev pub unit_least : Tariff → Itinerary → List Part → ℕ → ℕ
+unit_least tariff trip parts unit = sum_by (part_least tariff trip parts) (own parts unit)
+
+-- what units cost at least
+abbrev pub units_least : Tariff → Itinerary → List Part → ℕ
+units_least tariff trip parts = sum_by (unit_least tariff trip parts) (units parts)

@@ -1,0 +1,10 @@
+pub use Rattle.fare_rules.specs.Completion
+pub use Rattle.fare_units.specs.Walk
+pub use Rattle.fare_component.specs.Table
+pub use Rattle.fare_bounds.specs.Covers
+pub mod Floors
+pub mod Beginnings
+pub mod Costs
+pub mod Walked
+pub mod Search
+pub mod LeastPrice

@@ -1,0 +1,28 @@
+//! The pruned search: the best construction of a trip among those that begin in a piece of the first-part choices,
+//! found by a walk that leaves out what can't be before what is known.
+//!
+//! - `bound`: what a search asks for the least price known, and tells what it finds;
+//! - `own_bound`: a bound that knows no more than it was told;
+//! - `pieces`: the first-part choices by their numbers, and ranges of them;
+//! - `partial`: first parts of constructions, part by part;
+//! - `floors`: what first parts cost at least;
+//! - `walking`: the walk over the constructions that begin with some parts;
+//! - `searching`: the search of a piece.
+//!
+//! Each of these stands on those above it.
+#![tactic(auto)]
+
+mod bound;
+mod floors;
+mod own_bound;
+mod partial;
+mod pieces;
+mod searching;
+mod walking;
+
+pub use bound::{Bound, NO_PRICE};
+pub use floors::floor_of;
+pub use own_bound::OwnBound;
+pub use partial::Partial;
+pub use pieces::{Piece, choices};
+pub use searching::search;

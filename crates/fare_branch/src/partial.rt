@@ -1,0 +1,116 @@
+//! First parts of constructions, part by part.
+
+ghost use Rattle.std.specs.Prelude.{◌≡◌, ◌≤◌, ◌<◌, [], length};
+ghost use Rattle.fare_rules.specs.Construction.{end_of, greatest_unit, places};
+ghost use Rattle.fare_units.specs.Walk.{next_start};
+ghost use Rattle.fare_branch.specs.Floors.{IsMadeWith, IsNext, may_follow};
+
+use fare_component::Table;
+use fare_rules::Part;
+use fare_trip::Trip;
+use fare_units::{Construction, MOST_PARTS, part_at, start_of, unit_count};
+use std::marker::Model;
+
+/// The first parts of a construction. They take no memory.
+#[derive(Drop)]
+pub struct Partial {
+    parts: Construction,
+}
+
+impl Model for Partial {
+    ghost use Rattle.std.specs.Prelude.{List};
+    ghost use Rattle.fare_rules.specs.declared.part.Part.{Part};
+
+    ghost Value = { List Part };
+
+    ghost view = { λ p. p.parts };
+}
+
+impl Partial {
+    /// No part: what every construction begins with.
+    pub fn new() -> Partial
+        ensures { result ≡ [] }
+    {
+        Partial {
+            parts: Construction::new(),
+        }
+    }
+
+    /// Its parts, in the order of travel.
+    pub fn parts(&self) -> &[Part]
+        ensures parts { result.now ≡ self.now }
+        ensures few { length result.now ≤ MOST_PARTS }
+    {
+        self.parts.parts()
+    }
+
+    /// Its parts as a construction.
+    pub(crate) fn construction(&self) -> &Construction
+        ensures { result.now ≡ self.now }
+    {
+        &self.parts
+    }
+
+    /// The point where its last part ends; 0 where it has none.
+    pub(crate) fn end(&self) -> usize
+        ensures value { result ≡ end_of self.now (length self.now) }
+        ensures small { result < 256 }
+    {
+        let parts = self.parts();
+        part_at(parts, parts.len()).end as usize
+    }
+
+    /// Where a part that comes after it starts.
+    pub(crate) fn next_start(&self, trip: &Trip) -> usize
+        ensures value { result ≡ next_start trip.now self.now }
+        ensures small { result ≤ 256 }
+    {
+        let parts = self.parts();
+        start_of(trip, parts, parts.len() + 1)
+    }
+
+    /// The greatest unit number of its parts; 0 where it has none.
+    pub(crate) fn greatest_unit(&self) -> usize
+        ensures value { result ≡ greatest_unit self.now (places self.now) }
+        ensures small { result ≤ 255 }
+    {
+        unit_count(&self.parts)
+    }
+
+    /// Whether a part may come after it: the part ends above its start and within the trip, and its unit's number is in
+    /// order.
+    fn may_follow(&self, trip: &Trip, part: Part) -> bool
+        ensures { result ≡ may_follow trip.now self.now part }
+    {
+        self.next_start(trip) < part.end as usize
+            && part.end as usize <= trip.count()
+            && part.unit as usize <= self.greatest_unit() + 1
+    }
+
+    /// The parts with one more at their end; nothing only where that longer list has no completion.
+    pub fn next(&self, table: &Table, part: Part) -> Option<Partial>
+        requires made { IsMadeWith table.now self.now }
+        ensures { IsNext table.now self.now part result }
+    {
+        let trip = table.trip();
+        let _sectors = trip.count();
+        if !self.may_follow(trip, part) {
+            return None;
+        }
+        let mut longer = copied(self.parts());
+        let _room = longer.try_push(part);
+        Some(Partial { parts: longer })
+    }
+}
+
+/// A construction of some parts.
+pub(crate) fn copied(parts: &[Part]) -> Construction
+    requires { length parts.now ≤ MOST_PARTS }
+    ensures { result ≡ parts.now }
+{
+    let mut copied = Construction::new();
+    for part in parts {
+        let _room = copied.try_push(*part);
+    }
+    copied
+}

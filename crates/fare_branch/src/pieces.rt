@@ -1,0 +1,81 @@
+//! The first-part choices of a table: each end with each fare that may be used up to there, priced out, numbered from 0
+//! by greater end and then by record number; and ranges of them.
+
+ghost use Rattle.std.specs.Prelude.{◌≡◌, ◌≤◌, ◌<◌, ◌*◌, length, filter, map, slice_get, IfSome};
+ghost use Rattle.fare_trip.specs.Itinerary.{count};
+ghost use Rattle.fare_rules.specs.Completion.{first_part_choices, choices_to};
+ghost use Rattle.fare_branch.specs.Beginnings.{begins, outward, fare_of_entry};
+
+use fare_component::{Entry, Table};
+
+/// A range of the first-part choices: from the number `first` on, and below the number `past`.
+#[derive(Clone, Copy, Debug)]
+pub struct Piece {
+    /// The number of the first choice.
+    pub first: u32,
+    /// The number past the last choice.
+    pub past: u32,
+}
+
+/// Whether a fare may begin: it has an amount priced out.
+fn begins(entry: &Entry) -> bool
+    ensures { result ≡ begins entry.now }
+{
+    entry.out.is_some()
+}
+
+/// How many of some entries may begin.
+fn count_of(entries: &[Entry]) -> usize
+    ensures { result ≡ length (outward entries.now) }
+{
+    entries.iter().filter(|entry| begins(entry)).count()
+}
+
+/// The fare of the entry that is the `n`th, from 0, of those that may begin.
+fn nth_of(entries: &[Entry], n: usize) -> Option<u32>
+    ensures { result ≡ slice_get (map fare_of_entry (outward entries.now)) n }
+{
+    let mut left = n;
+    for entry in entries {
+        if !begins(entry) {
+            continue;
+        }
+        if left == 0 {
+            return Some(entry.fare);
+        }
+        left -= 1;
+    }
+    None
+}
+
+/// How many first-part choices there are.
+pub fn choices(table: &Table) -> u32
+    ensures { result ≡ length (first_part_choices table.now.edition table.now.trip) }
+{
+    let sectors = table.trip().count();
+    let mut total = 0;
+    for end in 1..sectors + 1 {
+        total += count_of(table.entries(0, end)) as u32;
+    }
+    total
+}
+
+/// The end and the fare of the first-part choice of a number.
+pub(crate) fn choice(table: &Table, number: u32) -> Option<(usize, u32)>
+    ensures choice { result ≡ slice_get (first_part_choices table.now.edition table.now.trip) number }
+    ensures within { IfSome result (λ choice. (1 ≤ choice.0) × (choice.0 ≤ count table.now.trip)) }
+{
+    let mut left = number as usize;
+    for end in (1..table.trip().count() + 1).rev() {
+        let entries = table.entries(0, end);
+        let here = count_of(entries);
+        if left < here {
+            return match nth_of(entries, left) {
+                None => None,
+                Some(fare) => Some((end, fare)),
+            };
+        }
+        left -= here;
+    }
+    None
+}

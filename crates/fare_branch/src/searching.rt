@@ -1,0 +1,84 @@
+//! The search of a piece.
+
+ghost use Rattle.std.specs.Prelude.{◌≡◌, None};
+ghost use Rattle.fare_bounds.specs.Covers.{AreRests};
+ghost use Rattle.fare_branch.specs.Search.{IsLeastPrice, BeginsIn, BeginsBy, IsSearched, kept_at};
+ghost use Rattle.fare_branch.specs.Walked.{IsWalk, IsUnderAll};
+
+use crate::bound::Bound;
+use crate::partial::Partial;
+use crate::pieces::{Piece, choice, choices};
+use crate::walking::{Found, enter};
+use fare_bounds::Rest;
+use fare_component::Table;
+use fare_rules::Part;
+use fare_units::Construction;
+
+/// The best of the constructions that begin in a piece, where its price is the least that the bound knows at the end;
+/// nothing only where each of them costs more than that.
+pub fn search<B: Bound>(
+    table: &Table,
+    rest: &Rest,
+    piece: Piece,
+    bound: &mut B,
+) -> Option<(Construction, u64)>
+    requires rest { AreRests table.now.edition table.now.trip rest.now }
+    requires least { IsLeastPrice table.now.edition table.now.trip (B.fixed bound.old) }
+    ensures fixed { B.fixed bound.new ≡ B.fixed bound.old }
+    ensures searched { IsSearched table.now.edition table.now.trip piece (B.least bound.new) result }
+{
+    let found = walk_piece(table, rest, piece, bound);
+    let least = bound.seen();
+    kept_at(found, least)
+}
+
+/// What was found, where its price is no more than a number.
+fn kept_at(found: Found, least: u64) -> Found
+    ensures { result ≡ kept_at found least }
+{
+    match found {
+        Some((parts, price)) if price <= least => Some((parts, price)),
+        _ => None,
+    }
+}
+
+/// Walks over the constructions that begin in a piece.
+fn walk_piece<B: Bound>(table: &Table, rest: &Rest, piece: Piece, bound: &mut B) -> Found
+    requires rest { AreRests table.now.edition table.now.trip rest.now }
+    requires under { IsUnderAll table.now.edition table.now.trip (B.fixed bound.old) }
+    ensures fixed { B.fixed bound.new ≡ B.fixed bound.old }
+    ensures walk { IsWalk table.now.edition table.now.trip (BeginsIn table.now.edition table.now.trip piece)
+        (B.least bound.old) None (B.least bound.new) result }
+{
+    let mut best = None;
+    for number in piece.first..piece.past.min(choices(table)) {
+        best = walk_choice(table, rest, number, best, bound);
+    }
+    best
+}
+
+/// Walks over the constructions that begin with a choice.
+fn walk_choice<B: Bound>(
+    table: &Table,
+    rest: &Rest,
+    number: u32,
+    best: Found,
+    bound: &mut B,
+) -> Found
+    requires rest { AreRests table.now.edition table.now.trip rest.now }
+    requires under { IsUnderAll table.now.edition table.now.trip (B.fixed bound.old) }
+    ensures fixed { B.fixed bound.new ≡ B.fixed bound.old }
+    ensures walk { IsWalk table.now.edition table.now.trip (BeginsBy table.now.edition table.now.trip number)
+        (B.least bound.old) best (B.least bound.new) result }
+{
+    let _sectors = table.trip().count();
+    let Some((end, fare)) = choice(table, number) else {
+        return best;
+    };
+    let part = Part {
+        end: end as u8,
+        unit: 1,
+        fare,
+    };
+    enter(table, rest, &Partial::new(), part, best, bound)
+}

@@ -1,0 +1,198 @@
+//! The walk over the constructions that begin with some parts. What can't be before the best that was found, or costs
+//! more than the least price known, is left out.
+
+ghost use Rattle.std.specs.Prelude.{◌≡◌, ◌+◌, ◌<◌, ◌≤◌, length};
+ghost use Rattle.fare_trip.specs.Itinerary.{count};
+ghost use Rattle.fare_rules.specs.Construction.{greatest_unit, places};
+ghost use Rattle.fare_units.specs.Walk.{Completes, GoesOn, AnyPart, EndsAt, HasFare, IsPart, IsList, TakesBetter, next_start};
+ghost use Rattle.fare_bounds.specs.Covers.{AreRests};
+ghost use Rattle.fare_branch.specs.Floors.{IsMadeWith};
+ghost use Rattle.fare_branch.specs.Walked.{IsWalk, IsUnderAll, is_beaten};
+
+use crate::bound::Bound;
+use crate::floors::floor_of;
+use crate::partial::{Partial, copied};
+use fare_bounds::Rest;
+use fare_component::Table;
+use fare_rules::Part;
+use fare_units::{Construction, earlier, lawful_price};
+
+/// The best construction that was found, with its price.
+pub(crate) type Found = Option<(Construction, u64)>;
+
+/// The better one of a construction and the best that was found.
+#[tactic(auto, using(fare_units::proofs::WalkLemmas::better_of_none, fare_units::proofs::WalkLemmas::better_of_earlier, fare_units::proofs::WalkLemmas::better_of_later))]
+fn better(front: &Partial, price: u64, best: Found) -> Found
+    ensures { TakesBetter front.now price best result }
+{
+    match best {
+        None => Some((copied(front.parts()), price)),
+        Some((parts, least)) => {
+            if earlier(front.construction(), price, &parts, least) {
+                return Some((copied(front.parts()), price));
+            }
+            Some((parts, least))
+        }
+    }
+}
+
+/// Whether what was found is before each completion of some parts that costs no less than a floor.
+fn is_beaten(best: &Found, front: &Partial, floor: u64) -> bool
+    ensures { result ≡ is_beaten best.now front.now floor }
+{
+    match best {
+        None => false,
+        Some((parts, price)) => earlier(parts, *price, front.construction(), floor),
+    }
+}
+
+/// Takes a construction, where it is lawful and before the best that was found, and tells its price.
+fn take<B: Bound>(table: &Table, front: &Partial, best: Found, bound: &mut B) -> Found
+    requires under { IsUnderAll table.now.edition table.now.trip (B.fixed bound.old) }
+    ensures fixed { B.fixed bound.new ≡ B.fixed bound.old }
+    ensures walk { IsWalk table.now.edition table.now.trip (IsList front.now) (B.least bound.old) best
+        (B.least bound.new) result }
+{
+    match lawful_price(table.edition(), table.trip(), front.construction()) {
+        Err(_) => best,
+        Ok(price) => {
+            bound.found(price);
+            better(front, price, best)
+        }
+    }
+}
+
+/// Walks over all constructions that have these parts as their first ones.
+#[cycle(walk)]
+fn walk<B: Bound>(table: &Table, rest: &Rest, front: &Partial, best: Found, bound: &mut B) -> Found
+    requires rest { AreRests table.now.edition table.now.trip rest.now }
+    requires made { IsMadeWith table.now front.now }
+    requires under { IsUnderAll table.now.edition table.now.trip (B.fixed bound.old) }
+    ensures fixed { B.fixed bound.new ≡ B.fixed bound.old }
+    ensures walk { IsWalk table.now.edition table.now.trip (Completes front.now) (B.least bound.old) best
+        (B.least bound.new) result }
+{
+    if front.end() == table.trip().count() {
+        return take(table, front, best, bound);
+    }
+    walk_ends(table, rest, front, best, bound)
+}
+
+/// Walks over those that go on with any part, the greatest end first.
+#[cycle(walk)]
+fn walk_ends<B: Bound>(
+    table: &Table,
+    rest: &Rest,
+    front: &Partial,
+    best: Found,
+    bound: &mut B,
+) -> Found
+    requires rest { AreRests table.now.edition table.now.trip rest.now }
+    requires made { IsMadeWith table.now front.now }
+    requires under { IsUnderAll table.now.edition table.now.trip (B.fixed bound.old) }
+    ensures fixed { B.fixed bound.new ≡ B.fixed bound.old }
+    ensures walk { IsWalk table.now.edition table.now.trip (GoesOn front.now AnyPart) (B.least bound.old) best
+        (B.least bound.new) result }
+{
+    let trip = table.trip();
+    let mut best = best;
+    for end in (front.next_start(trip) + 1..trip.count() + 1).rev() {
+        best = walk_entries(table, rest, front, end, best, bound);
+    }
+    best
+}
+
+/// Walks over those that go on with a part that ends at a point, by record number.
+#[cycle(walk)]
+fn walk_entries<B: Bound>(
+    table: &Table,
+    rest: &Rest,
+    front: &Partial,
+    end: usize,
+    best: Found,
+    bound: &mut B,
+) -> Found
+    requires rest { AreRests table.now.edition table.now.trip rest.now }
+    requires made { IsMadeWith table.now front.now }
+    requires rises { next_start table.now.trip front.now < end }
+    requires within { end ≤ count table.now.trip }
+    requires under { IsUnderAll table.now.edition table.now.trip (B.fixed bound.old) }
+    ensures fixed { B.fixed bound.new ≡ B.fixed bound.old }
+    ensures walk { IsWalk table.now.edition table.now.trip (GoesOn front.now (EndsAt end)) (B.least bound.old) best
+        (B.least bound.new) result }
+{
+    let entries = table.entries(front.next_start(table.trip()), end);
+    let mut best = best;
+    for entry in entries {
+        best = walk_units(table, rest, front, end, entry.fare, best, bound);
+    }
+    best
+}
+
+/// Walks over those that go on with a part that ends at a point and has the fare of a record number.
+#[cycle(walk)]
+fn walk_units<B: Bound>(
+    table: &Table,
+    rest: &Rest,
+    front: &Partial,
+    end: usize,
+    fare: u32,
+    best: Found,
+    bound: &mut B,
+) -> Found
+    requires rest { AreRests table.now.edition table.now.trip rest.now }
+    requires made { IsMadeWith table.now front.now }
+    requires rises { next_start table.now.trip front.now < end }
+    requires within { end ≤ count table.now.trip }
+    requires under { IsUnderAll table.now.edition table.now.trip (B.fixed bound.old) }
+    ensures fixed { B.fixed bound.new ≡ B.fixed bound.old }
+    ensures walk { IsWalk table.now.edition table.now.trip (GoesOn front.now (HasFare end fare)) (B.least bound.old) best
+        (B.least bound.new) result }
+{
+    let sectors = table.trip().count();
+    prove!(end <= sectors);
+    let mut best = best;
+    for unit in 1..front.greatest_unit() + 2 {
+        let part = Part {
+            end: end as u8,
+            unit: unit as u8,
+            fare,
+        };
+        best = enter(table, rest, front, part, best, bound);
+    }
+    best
+}
+
+/// Walks over those that go on with a part, where that can still bring what is wanted.
+#[cycle(walk)]
+pub(crate) fn enter<B: Bound>(
+    table: &Table,
+    rest: &Rest,
+    front: &Partial,
+    part: Part,
+    best: Found,
+    bound: &mut B,
+) -> Found
+    requires rest { AreRests table.now.edition table.now.trip rest.now }
+    requires made { IsMadeWith table.now front.now }
+    requires rises { next_start table.now.trip front.now < part.end }
+    requires within { part.end ≤ count table.now.trip }
+    requires under { IsUnderAll table.now.edition table.now.trip (B.fixed bound.old) }
+    ensures fixed { B.fixed bound.new ≡ B.fixed bound.old }
+    ensures walk { IsWalk table.now.edition table.now.trip (GoesOn front.now (IsPart part)) (B.least bound.old) best
+        (B.least bound.new) result }
+{
+    let Some(longer) = front.next(table, part) else {
+        return best;
+    };
+    let Some(floor) = floor_of(table, rest, &longer) else {
+        return best;
+    };
+    if is_beaten(&best, &longer, floor) {
+        return best;
+    }
+    if bound.seen() < floor {
+        return best;
+    }
+    walk(table, rest, &longer, best, bound)
+}
