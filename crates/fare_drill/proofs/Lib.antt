@@ -9,3 +9,4 @@ pub mod Sections
 pub mod PairSections
 pub mod Sizes
 pub mod Valid
+pub mod DrillExamples

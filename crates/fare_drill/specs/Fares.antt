@@ -37,7 +37,7 @@ carriers = codes "YY" ∷ codes "Q1" ∷ []
 abbrev pub rules : List (Option RuleId)
 rules = None ∷ Some (codes "A") ∷ []
 
--- the ways between two cities by kind, carrier and rule, each kind in turn with all carriers, each of these with all rules
+-- the ways between two cities: each kind with each carrier, and each of these with each rule
 abbrev pub ways_between : ℕ → ℕ → List FareWay
 ways_between i j =
     flat_map (λ kind. flat_map (λ carrier. map (λ rule.

@@ -42,7 +42,8 @@ fn fare_of(way: Way, drawn: u32) -> Record
     })
 }
 
-/// The amount of a way's fare, in hundredths: that of its kind, 3,000 for each step of distance, and a part of its draw.
+/// The amount of a way's fare, in hundredths: that of its kind, 3,000 for each step of distance, and a part of its
+/// draw.
 fn amount_of(way: Way, drawn: u32) -> u64
     ensures amount { result ≡ amount_of way drawn }
     ensures small { result < 100_000 }

@@ -2,7 +2,7 @@
 //! and the text that sums one up.
 //!
 //! - `draws`: the stream of draws of a seed;
-//! - `cities`: the codes of the cities, and their records;
+//! - `cities`, `days`: the codes of the cities and their records, and the days;
 //! - `way`, `ways`: the ways to fly between the cities, one for each fare;
 //! - `fares`: the fares, each with its draw;
 //! - `pair`, `pairs`: the unordered pairs of numbers;
@@ -14,6 +14,7 @@
 #![tactic(auto)]
 
 mod cities;
+mod days;
 mod draws;
 mod drill;
 mod edition;

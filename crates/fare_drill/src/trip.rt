@@ -6,20 +6,20 @@ ghost use Rattle.fare_drill.specs.declared.TheConstants.{MOST_SECTORS};
 ghost use Rattle.fare_drill.specs.Drill.{drill_point, drill_sector, drill_trip};
 
 use crate::cities::city;
+use crate::days::{sale_day, travel_day};
 use arrayvec::ArrayVec;
-use fare_codes::{Cabin, Carrier, City, Day, Over};
+use fare_codes::{Cabin, Carrier, City, Over};
 use fare_trip::{Sector, Trip};
 
 /// The trip of a drill.
-#[tactic(auto, using(crate::proofs::TripMade::drill_trip_is_made), unfolding(crate::specs::Drill::drill_trip, fare_codes::specs::Day::has_day_shape, fare_codes::specs::Day::is_civil))]
+#[tactic(auto, using(crate::proofs::TripMade::drill_trip_is_made))]
 pub(crate) fn drill_trip(sectors: u32) -> Trip
     requires some { 1 ≤ sectors }
     requires few { sectors ≤ MOST_SECTORS }
     ensures { result ≡ drill_trip sectors }
 {
-    let sale = Day::read(b"2025-01-01").unwrap();
     let flown = drill_sectors(sectors);
-    Trip::new(sale, drill_point(sectors, 0), flown.as_slice()).unwrap()
+    Trip::new(sale_day(), drill_point(sectors, 0), flown.as_slice()).unwrap()
 }
 
 /// The sectors of the trip.
@@ -35,14 +35,13 @@ fn drill_sectors(sectors: u32) -> ArrayVec<Sector, 16>
 }
 
 /// The sector that reaches a point of the trip.
-#[tactic(auto, unfolding(fare_codes::specs::Day::has_day_shape, fare_codes::specs::Day::is_civil))]
 fn drill_sector(sectors: u32, i: u32) -> Sector
     ensures { result ≡ drill_sector sectors i }
 {
     Sector {
         to: drill_point(sectors, i),
         carrier: Carrier::read(b"Q1").unwrap(),
-        day: Day::read(b"2025-02-01").unwrap(),
+        day: travel_day(),
         cabin: Cabin::Y,
         over: Over::Unmarked,
         stop: true,
