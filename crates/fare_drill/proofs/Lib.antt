@@ -1,0 +1,12 @@
+pub mod CityForms
+pub mod Growing
+pub mod TripMade
+pub mod RisingLists
+pub mod Ranks
+pub mod NoFault
+pub mod Known
+pub mod Sections
+pub mod PairSections
+pub mod Sizes
+pub mod Valid
+pub mod DrillExamples

@@ -1,0 +1,44 @@
+//! Drills: an edition and a trip that a seed and two sizes determine, for trying the search for the best construction,
+//! and the text that sums one up.
+//!
+//! - `draws`: the stream of draws of a seed;
+//! - `cities`, `days`: the codes of the cities and their records, and the days;
+//! - `way`, `ways`: the ways to fly between the cities, one for each fare;
+//! - `fares`: the fares, each with its draw;
+//! - `pair`, `pairs`: the unordered pairs of numbers;
+//! - `miles`: the permitted and the ticketed point miles;
+//! - `records`, `edition`: the records in their order, and the edition;
+//! - `trip`: the trip;
+//! - `drill`: both together;
+//! - `summary`: the text.
+#![tactic(auto)]
+
+mod cities;
+mod days;
+mod draws;
+mod drill;
+mod edition;
+mod fares;
+mod miles;
+mod pair;
+mod pairs;
+mod records;
+mod summary;
+mod trip;
+mod way;
+mod ways;
+
+pub use drill::drill_input;
+pub use summary::drill_text;
+
+/// The greatest seed of a drill.
+pub const LAST_SEED: u32 = 2_147_483_647;
+
+/// A drill has at most this many sectors, and at least one.
+pub const MOST_SECTORS: u32 = 16;
+
+/// A drill has at most this many extra records of miles.
+pub const MOST_EXTRA: u32 = 200_000;
+
+#[cfg(test)]
+mod tests;

@@ -1,0 +1,39 @@
+//! The unordered pairs of numbers, first by the lesser one and then by the greater one.
+
+ghost use Rattle.std.specs.Prelude.{◌≡◌, ◌<◌, ◌≤◌, ◌++◌, OnOk, IfOk, take};
+ghost use Rattle.fare_drill.specs.Miles.{pairs, pairs_from};
+
+use crate::pair::Pair;
+use fare_outside::NoMemory;
+use std::alloc::Global;
+
+/// The pairs of numbers below a count.
+pub(crate) fn pairs(alloc: Global, count: u32) -> Result<Vec<Pair>, NoMemory>
+    requires { count ≤ 676 }
+    ensures { IfOk result (λ all. all.items ≡ pairs count) }
+{
+    let mut pairs = Vec::new(alloc);
+    for first in 0..count {
+        push_from(&mut pairs, count, first)?;
+    }
+    Ok(pairs)
+}
+
+/// Appends the pairs of a number and each greater one.
+fn push_from(pairs: &mut Vec<Pair>, count: u32, first: u32) -> Result<(), NoMemory>
+    requires all { count ≤ 676 }
+    requires one { first < count }
+    ensures { OnOk result (pairs.new.items ≡ pairs.old.items ++ pairs_from count first) }
+{
+    for second in first + 1..count {
+        pairs.push(Pair { first, second })?;
+    }
+    Ok(())
+}
+
+/// The first so many of some pairs, or all of them.
+pub(crate) fn first_pairs(pairs: &[Pair], count: usize) -> &[Pair]
+    ensures { result.now ≡ take count pairs.now }
+{
+    &pairs[..count.min(pairs.len())]
+}
