@@ -5,11 +5,24 @@
 //! - `quoting`: the text of a quotation.
 #![tactic(auto)]
 
+mod batch;
+mod desk;
+mod editions;
+mod front;
+mod list;
+mod publishing;
 mod quote_fault;
+mod quotes;
 mod quoting;
+mod replies;
+mod routes;
 
+pub use desk::Desk;
+pub use front::DeskFront;
+pub use list::list_text;
 pub use quote_fault::QuoteFault;
 pub use quoting::quote_text;
+pub use routes::{Route, Routes};
 
 #[cfg(test)]
 mod tests;
