@@ -2,5 +2,9 @@ pub use Rattle.fare_trip.specs.Itinerary
 pub use Rattle.fare_tariff.specs.Tariff
 pub use Rattle.fare_book.specs.Book
 pub mod Quotation
-pub mod Answers
 pub mod List
+pub mod Answers
+pub mod Routes
+pub mod Replies
+pub mod Viewing
+pub mod Publishing

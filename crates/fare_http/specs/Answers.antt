@@ -9,6 +9,20 @@ use Rattle.fare_http.specs.declared.reply.Allow.{Allow}
 use Rattle.fare_http.specs.declared.reply.Allow.TheVariants.{Unsaid, Get, Post}
 use Rattle.fare_http.specs.declared.reply.Reply.{Reply}
 
+-- the number of a status
+abbrev pub status_number : Status → ℕ
+status_number Okay = 200
+status_number Created = 201
+status_number BadRequest = 400
+status_number NotFound = 404
+status_number MethodNotAllowed = 405
+status_number Conflict = 409
+status_number ContentTooLarge = 413
+status_number UnprocessableContent = 422
+status_number InternalServerError = 500
+status_number ServiceUnavailable = 503
+status_number InsufficientStorage = 507
+
 -- a status with its phrase
 abbrev pub status_text : Status → List ℕ
 status_text Okay = codes "200 OK"

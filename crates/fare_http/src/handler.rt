@@ -1,5 +1,6 @@
 ghost use Rattle.std.specs.Prelude.{IfOk, List, Option, ℕ};
 ghost use Rattle.std.specs.Result.{result_ok};
+ghost use Rattle.std.specs.Thread.{IsSync};
 
 use crate::Reply;
 use fare_outside::NoMemory;
@@ -24,6 +25,7 @@ pub trait Handler {
         path: &str,
         body: &[u8],
     ) -> Result<Reply, NoMemory>
+        requires { IsSync R.row }
         ensures { step self.old method.now path.now body.now (result_ok result) self.new };
 }
 
@@ -43,5 +45,6 @@ pub trait Front: Sync {
         path: &str,
         body: &[u8],
     ) -> Result<Reply, NoMemory>
+        requires { IsSync R.row }
         ensures { IfOk result (reply self.now method.now path.now body.now) };
 }

@@ -1,5 +1,5 @@
 ghost use Rattle.std.specs.Prelude.{◌≡◌};
-ghost use Rattle.fare_http.specs.Answers.{status_text, allow_line};
+ghost use Rattle.fare_http.specs.Answers.{allow_line, status_number, status_text};
 
 use fare_outside::Bytes;
 
@@ -42,6 +42,25 @@ pub enum Status {
 }
 
 impl Status {
+    /// Its number.
+    pub fn number(self) -> u16
+        ensures { result ≡ status_number self }
+    {
+        match self {
+            Status::Okay => 200,
+            Status::Created => 201,
+            Status::BadRequest => 400,
+            Status::NotFound => 404,
+            Status::MethodNotAllowed => 405,
+            Status::Conflict => 409,
+            Status::ContentTooLarge => 413,
+            Status::UnprocessableContent => 422,
+            Status::InternalServerError => 500,
+            Status::ServiceUnavailable => 503,
+            Status::InsufficientStorage => 507,
+        }
+    }
+
     /// The status, a space and its phrase.
     pub fn text(self) -> &'static [u8]
         ensures { result.now ≡ status_text self }

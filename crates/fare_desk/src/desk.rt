@@ -1,0 +1,122 @@
+//! The desk that answers requests over a book and its keeper.
+
+ghost use Rattle.std.specs.Prelude.{◌≡◌, IsTrue};
+
+use crate::front::DeskFront;
+use crate::publishing::{MOST_WORDS, publication_reply};
+use crate::replies::is_method;
+use crate::routes::{Route, Routes};
+use fare_book::Book;
+use fare_http::{Handler, Reply};
+use fare_outside::{Keeper, NoMemory};
+use fare_units::Quoter;
+use http::Method;
+use std::alloc::Global;
+use std::thread::Threads;
+
+/// A desk: it quotes over its book, and publishes in it and in the keeper of its bodies, which is ready.
+#[derive(Drop)]
+pub struct Desk<'k, P: Keeper, Q: Quoter> {
+    /// The published editions.
+    pub book: Book,
+    /// What keeps their bodies.
+    pub keeper: &'k mut P,
+    /// What finds the best constructions.
+    pub quoter: Q,
+    /// The routes of requests.
+    pub routes: Routes,
+    ghost ready: { IsTrue (P.ready keeper.now) },
+}
+
+impl<'k, P: Keeper, Q: Quoter + Drop> Desk<'k, P, Q> {
+    ghost use Rattle.std.specs.Prelude.{IfOk};
+    ghost use Rattle.std.specs.Result.{result_ok};
+    ghost use Rattle.fare_desk.specs.Publishing.{IsPublication, state};
+
+    /// A desk over a book and a keeper that is ready.
+    pub fn new<R: Threads + Sync>(
+        _rt: &R,
+        alloc: Global,
+        book: Book,
+        keeper: &'k mut P,
+        quoter: Q,
+    ) -> Result<Desk<'k, P, Q>, NoMemory>
+        requires { IsTrue (P.ready keeper.old) }
+        ensures book { IfOk result (λ desk. desk.book ≡ book) }
+        ensures keeper { IfOk result (λ desk. desk.keeper.now ≡ keeper.old) }
+        ensures same_reference { IfOk result (λ desk. desk.keeper.ghost_name ≡ keeper.entry.ghost_name) }
+    {
+        let routes = Routes::new(alloc)?;
+        Ok(Desk {
+            book,
+            keeper,
+            quoter,
+            routes,
+        })
+    }
+
+    /// Its book.
+    pub fn book(&self) -> &Book
+        ensures { result.now ≡ self.now.book }
+    {
+        &self.book
+    }
+
+    /// What it answers that changes nothing.
+    pub fn front(&self) -> DeskFront<'_, Q>
+        ensures { result.book.now ≡ self.now.book }
+    {
+        DeskFront {
+            book: &self.book,
+            quoter: &self.quoter,
+            routes: &self.routes,
+        }
+    }
+
+    /// Publishes a text. The room of the reply is taken before.
+    fn publish<R: Threads + Sync>(
+        &mut self,
+        rt: &R,
+        alloc: Global,
+        text: &[u8],
+    ) -> Result<Reply, NoMemory>
+        ensures same_reference { self.new.keeper.ghost_name ≡ self.old.keeper.ghost_name }
+        ensures publication { IsPublication
+            (state self.old.book (P.bodies self.old.keeper.now) (P.faults self.old.keeper.now))
+            (state self.new.book (P.bodies self.new.keeper.now) (P.faults self.new.keeper.now))
+            text.now (result_ok result) }
+    {
+        let Ok(room) = Vec::with_capacity(alloc, MOST_WORDS) else {
+            return Err(NoMemory);
+        };
+        let answer = self.book.publish(rt, alloc, self.keeper, text);
+        publication_reply(room, answer)
+    }
+}
+
+impl<'k, P: Keeper, Q: Quoter + Drop> Handler for Desk<'k, P, Q> {
+    ghost use Rattle.std.specs.Prelude.{◌≡◌};
+    ghost use Rattle.fare_desk.specs.Publishing.{IsDeskStep, state};
+
+    ghost step = { λ old method path body reply new.
+        (new.keeper.ghost_name ≡ old.keeper.ghost_name)
+        × IsDeskStep
+        (state old.book (P.bodies old.keeper.now) (P.faults old.keeper.now))
+        (state new.book (P.bodies new.keeper.now) (P.faults new.keeper.now))
+        method path body reply };
+
+    fn answer<R: Threads + Sync>(
+        &mut self,
+        rt: &R,
+        alloc: Global,
+        method: &Method,
+        path: &str,
+        body: &[u8],
+    ) -> Result<Reply, NoMemory> {
+        let route = self.routes.find(path);
+        if route == Some(Route::Editions) && is_method(method, "POST") {
+            return self.publish(rt, alloc, body);
+        }
+        self.front().reply(rt, alloc, route, method, path, body)
+    }
+}
