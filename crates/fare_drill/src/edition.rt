@@ -1,7 +1,7 @@
 //! The edition of a drill.
 
 ghost use Rattle.std.specs.Prelude.{◌≡◌, ◌≤◌, IfOk};
-ghost use Rattle.fare_drill.specs.declared.TheConstants.{MOST_SECTORS, MOST_EXTRA};
+ghost use Rattle.fare_drill.specs.declared.limits.TheConstants.{MOST_SECTORS, MOST_EXTRA};
 ghost use Rattle.fare_drill.specs.Drill.{drill_tariff};
 
 use crate::days::sale_day;
@@ -20,7 +20,6 @@ pub(crate) fn drill_edition<R: Threads + Sync>(
     sectors: u32,
     extra: u32,
 ) -> Result<Edition, NoMemory>
-    requires some { 1 ≤ sectors }
     requires few { sectors ≤ MOST_SECTORS }
     requires few_extra { extra ≤ MOST_EXTRA }
     ensures { IfOk result (λ edition. edition ≡ drill_tariff seed sectors extra) }

@@ -1,6 +1,7 @@
 //! Drills: an edition and a trip that a seed and two sizes determine, for trying the search for the best construction,
 //! and the text that sums one up.
 //!
+//! - `limits`: how great a drill may be;
 //! - `draws`: the stream of draws of a seed;
 //! - `cities`, `days`: the codes of the cities and their records, and the days;
 //! - `way`, `ways`: the ways to fly between the cities, one for each fare;
@@ -19,6 +20,7 @@ mod draws;
 mod drill;
 mod edition;
 mod fares;
+mod limits;
 mod miles;
 mod pair;
 mod pairs;
@@ -29,16 +31,8 @@ mod way;
 mod ways;
 
 pub use drill::drill_input;
+pub use limits::{LAST_SEED, MOST_EXTRA, MOST_SECTORS};
 pub use summary::drill_text;
-
-/// The greatest seed of a drill.
-pub const LAST_SEED: u32 = 2_147_483_647;
-
-/// A drill has at most this many sectors, and at least one.
-pub const MOST_SECTORS: u32 = 16;
-
-/// A drill has at most this many extra records of miles.
-pub const MOST_EXTRA: u32 = 200_000;
 
 #[cfg(test)]
 mod tests;

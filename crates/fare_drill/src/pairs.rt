@@ -1,6 +1,7 @@
 //! The unordered pairs of numbers, first by the lesser one and then by the greater one.
 
 ghost use Rattle.std.specs.Prelude.{◌≡◌, ◌<◌, ◌≤◌, ◌++◌, OnOk, IfOk, take};
+ghost use Rattle.fare_drill.specs.declared.limits.TheConstants.{EXTRA_CITIES};
 ghost use Rattle.fare_drill.specs.Miles.{pairs, pairs_from};
 
 use crate::pair::Pair;
@@ -9,7 +10,7 @@ use std::alloc::Global;
 
 /// The pairs of numbers below a count.
 pub(crate) fn pairs(alloc: Global, count: u32) -> Result<Vec<Pair>, NoMemory>
-    requires { count ≤ 676 }
+    requires { count ≤ EXTRA_CITIES }
     ensures { IfOk result (λ all. all.items ≡ pairs count) }
 {
     let mut pairs = Vec::new(alloc);
@@ -21,7 +22,7 @@ pub(crate) fn pairs(alloc: Global, count: u32) -> Result<Vec<Pair>, NoMemory>
 
 /// Appends the pairs of a number and each greater one.
 fn push_from(pairs: &mut Vec<Pair>, count: u32, first: u32) -> Result<(), NoMemory>
-    requires all { count ≤ 676 }
+    requires all { count ≤ EXTRA_CITIES }
     requires one { first < count }
     ensures { OnOk result (pairs.new.items ≡ pairs.old.items ++ pairs_from count first) }
 {

@@ -2,6 +2,7 @@
 
 ghost use Rattle.std.specs.Prelude.{◌≡◌, ◌≤◌, ◌++◌, [], ◌∷◌, OnOk, IfOk, map};
 ghost use Rattle.std.specs.List.{range_with_len};
+ghost use Rattle.fare_drill.specs.declared.limits.TheConstants.{EXTRA_CITIES, MOST_SECTORS};
 ghost use Rattle.fare_drill.specs.Cities.{city_count, city_record, extra_record};
 ghost use Rattle.fare_drill.specs.Fares.{fares};
 ghost use Rattle.fare_drill.specs.Drill.{currency_record, currencies, rule_record, extra_records, base_records};
@@ -9,6 +10,7 @@ ghost use Rattle.fare_drill.specs.Drill.{drill_records, extra_city_count};
 
 use crate::cities::{city_record, extra_record};
 use crate::fares::push_fares;
+use crate::limits::EXTRA_CITIES;
 use crate::miles::{push_extra_miles, push_permitted, push_ticketed};
 use crate::pairs::{first_pairs, pairs};
 use crate::ways::ways;
@@ -25,7 +27,7 @@ pub(crate) fn drill_records(
     sectors: u32,
     extra: u32,
 ) -> Result<Vec<Record>, NoMemory>
-    requires { sectors ≤ 16 }
+    requires { sectors ≤ MOST_SECTORS }
     ensures { IfOk result (λ records. records.items ≡ drill_records seed sectors extra) }
 {
     let mut records = Vec::new(alloc);
@@ -42,7 +44,7 @@ fn push_base(
     seed: u32,
     count: u32,
 ) -> Result<(), NoMemory>
-    requires { count ≤ 16 }
+    requires { count ≤ MOST_SECTORS }
     ensures { OnOk result (records.new.items ≡ records.old.items ++ base_records seed count) }
 {
     push_currencies(records)?;
@@ -111,9 +113,9 @@ fn rule_record() -> Record
 #[tactic(auto, unfolding(crate::specs::Drill::extra_city_count))]
 fn extra_city_count() -> u32
     ensures value { result ≡ extra_city_count }
-    ensures within { result ≤ 676 }
+    ensures within { result ≤ EXTRA_CITIES }
 {
-    26 * 26
+    EXTRA_CITIES
 }
 
 /// Appends the extra cities, and miles between the first so many pairs of them; neither where no miles are wanted.

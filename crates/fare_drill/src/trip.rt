@@ -2,7 +2,7 @@
 
 ghost use Rattle.std.specs.Prelude.{◌≡◌, ◌≤◌, map};
 ghost use Rattle.std.specs.List.{range_with_len};
-ghost use Rattle.fare_drill.specs.declared.TheConstants.{MOST_SECTORS};
+ghost use Rattle.fare_drill.specs.declared.limits.TheConstants.{MOST_SECTORS};
 ghost use Rattle.fare_drill.specs.Drill.{drill_point, drill_sector, drill_trip};
 
 use crate::cities::city;

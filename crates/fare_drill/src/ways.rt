@@ -2,6 +2,7 @@
 
 ghost use Rattle.std.specs.Prelude.{◌≡◌, ◌<◌, ◌≤◌, ◌++◌, OnOk, IfOk, map};
 ghost use Rattle.std.specs.List.{flat_map};
+ghost use Rattle.fare_drill.specs.declared.limits.TheConstants.{MOST_SECTORS};
 ghost use Rattle.fare_drill.specs.Fares.{carriers, rules, ways_between, ways_to, ways_from, ways};
 
 use crate::way::Way;
@@ -11,7 +12,7 @@ use std::alloc::Global;
 
 /// The ways from each of so many cities to each other one.
 pub(crate) fn ways(alloc: Global, count: u32) -> Result<Vec<Way>, NoMemory>
-    requires { count ≤ 16 }
+    requires { count ≤ MOST_SECTORS }
     ensures { IfOk result (λ all. all.items ≡ ways count) }
 {
     let mut ways = Vec::new(alloc);
@@ -23,7 +24,7 @@ pub(crate) fn ways(alloc: Global, count: u32) -> Result<Vec<Way>, NoMemory>
 
 /// Appends the ways from a city to each other one.
 fn push_from(ways: &mut Vec<Way>, count: u32, from: u32) -> Result<(), NoMemory>
-    requires all { count ≤ 16 }
+    requires all { count ≤ MOST_SECTORS }
     requires one { from < count }
     ensures { OnOk result (ways.new.items ≡ ways.old.items ++ ways_from count from) }
 {
@@ -35,8 +36,8 @@ fn push_from(ways: &mut Vec<Way>, count: u32, from: u32) -> Result<(), NoMemory>
 
 /// Appends the ways from a city to another, and none from a city to itself.
 fn push_to(ways: &mut Vec<Way>, from: u32, to: u32) -> Result<(), NoMemory>
-    requires one { from < 16 }
-    requires other { to < 16 }
+    requires one { from < MOST_SECTORS }
+    requires other { to < MOST_SECTORS }
     ensures { OnOk result (ways.new.items ≡ ways.old.items ++ ways_to from to) }
 {
     if from == to {
@@ -48,8 +49,8 @@ fn push_to(ways: &mut Vec<Way>, from: u32, to: u32) -> Result<(), NoMemory>
 
 /// Appends the ways of a kind from a city to another.
 fn push_kind(ways: &mut Vec<Way>, from: u32, to: u32, kind: Kind) -> Result<(), NoMemory>
-    requires one { from < 16 }
-    requires other { to < 16 }
+    requires one { from < MOST_SECTORS }
+    requires other { to < MOST_SECTORS }
     ensures { OnOk result (ways.new.items ≡ ways.old.items ++ flat_map (λ carrier. map (λ rule.
         record { from = from; to = to; kind = kind; carrier = carrier; rule = rule }) rules) carriers) }
 {
@@ -65,8 +66,8 @@ fn push_carrier(
     kind: Kind,
     carrier: Carrier,
 ) -> Result<(), NoMemory>
-    requires one { from < 16 }
-    requires other { to < 16 }
+    requires one { from < MOST_SECTORS }
+    requires other { to < MOST_SECTORS }
     ensures { OnOk result (ways.new.items ≡ ways.old.items ++ map (λ rule.
         record { from = from; to = to; kind = kind; carrier = carrier; rule = rule }) rules) }
 {
