@@ -32,7 +32,7 @@ fn hundredths_of(found: &Option<Amount>) -> Option<u64>
 
 /// What an entry costs at least: a one way fare its price as a unit of its own, and a half round trip the lesser of its
 /// amounts in the two directions.
-fn least_cost(entry: &Entry) -> Option<u64>
+pub fn least_cost(entry: &Entry) -> Option<u64>
     requires { IsInBounds entry.now }
     ensures value { result ≡ least_cost entry.now }
     ensures bound { IfSome result (λ cost. cost < COST_LIMIT) }

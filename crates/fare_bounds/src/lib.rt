@@ -10,6 +10,7 @@ mod costs;
 mod limits;
 mod rest;
 
+pub use costs::least_cost;
 pub use limits::{COST_LIMIT, LAST_POINT};
 pub use rest::Rest;
 

@@ -1,5 +1,5 @@
 -- The first-part choices, as the entries of the spans from the first point that may begin.
-use Rattle.std.proofs.Common.{◌≡◌, ℕ, zero, suc, ◌+◌, ◌-◌, ◌*◌, ◌<◌, ◌≤◌, Bool, true, false, ◌&&◌, ◌||◌, cond, List, [], ◌∷◌, ◌++◌, length, map, drop, get_or, Option, Some, None, refl, ap, subst, sym, ◌∙◌, inl, inr, arith}
+use Rattle.std.proofs.Common.{◌≡◌, ℕ, zero, suc, ◌+◌, ◌-◌, ◌<◌, ◌≤◌, Bool, true, false, List, [], ◌∷◌, ◌++◌, length, map, drop, get_or, Option, Some, refl, ap, subst, sym, ◌∙◌, inl, inr, arith}
 use Rattle.std.specs.Prelude.{is_some, filter, flat_map, slice_get, option_map}
 use Rattle.std.specs.List.{filter_map}
 use Rattle.std.proofs.Math.Seq.{drop-cons}
@@ -14,7 +14,7 @@ use Rattle.fare_rules.specs.Numbers.{numbers_down}
 use Rattle.fare_rules.specs.ComponentAmount.{component_amount}
 use Rattle.fare_rules.specs.Completion.{Choice, choice, choices_to, first_part_choices, may_begin, record_numbers}
 use Rattle.fare_component.specs.declared.table.entry.Entry.{Entry}
-use Rattle.fare_component.specs.Table.{entries_of, entry_of, entry_at, has_amount, is_span}
+use Rattle.fare_component.specs.Table.{entries_of, entry_at, is_span}
 use Rattle.fare_branch.specs.Beginnings.{begins, outward, fare_of_entry}
 
 -- the fares of entries that may begin

@@ -1,9 +1,9 @@
 -- The least price of a lawful construction is one.
-use Rattle.std.proofs.Common.{◌≡◌, ℕ, ◌<◌, ◌≤◌, List, Option, Some, None, refl, inl, inr, arith}
+use Rattle.std.proofs.Common.{ℕ, ◌<◌, ◌≤◌, List, Option, Some, None, refl, inl, inr, arith}
 use Rattle.fare_trip.specs.Itinerary.{Itinerary, count}
 use Rattle.fare_tariff.specs.Tariff.{Tariff}
 use Rattle.fare_rules.specs.declared.part.Part.{Part}
-use Rattle.fare_rules.specs.Best.{IsLawful, IsBestAnswer}
+use Rattle.fare_rules.specs.Best.{IsBestAnswer}
 use Rattle.fare_rules.specs.Valid.{HasFaresInForm}
 use Rattle.fare_rules.proofs.ExistenceLemmas.{best_answer}
 use Rattle.fare_rules.proofs.TotalLemmas.{lawful_price_up_to}

@@ -4,3 +4,7 @@ pub mod ChoiceLemmas
 pub mod PieceLemmas
 pub mod LeastLemmas
 pub mod SumLemmas
+pub mod CostLemmas
+pub mod EntryLemmas
+pub mod LegLemmas
+pub mod FloorLemmas

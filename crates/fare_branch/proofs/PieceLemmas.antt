@@ -1,21 +1,21 @@
 -- Walks over the constructions that begin in a piece, and what a search of it comes to.
-use Rattle.std.proofs.Common.{◌≡◌, ℕ, zero, suc, ◌+◌, ◌-◌, ◌<◌, ◌≤◌, ◌⊎◌, max, true, false, List, [], ◌∷◌, ◌++◌, length, Option, Some, None, refl, ap, subst, sym, ◌∙◌, inl, inr, arith}
+use Rattle.std.proofs.Common.{◌≡◌, ℕ, ◌+◌, ◌<◌, ◌≤◌, ◌⊎◌, max, true, false, List, [], length, Option, Some, None, ap, subst, sym, ◌∙◌, inl, inr, arith}
 use Rattle.std.specs.Prelude.{slice_get, nat_le}
 use Rattle.std.proofs.lemmas.Option.{slice_get_within}
-use Rattle.std.proofs.lemmas.Bool.{cases_Bool, cases_lt, leb-true, leb-false, lt-ltb}
-use Rattle.fare_trip.specs.Itinerary.{Itinerary, count}
+use Rattle.std.proofs.lemmas.Bool.{cases_Bool, cases_lt, leb-true, leb-false}
+use Rattle.fare_trip.specs.Itinerary.{Itinerary}
 use Rattle.fare_tariff.specs.Tariff.{Tariff}
 use Rattle.fare_rules.specs.declared.part.Part.{Part}
 use Rattle.fare_rules.specs.Best.{IsLawful}
 use Rattle.fare_rules.specs.Completion.{Choice, first_part_choices}
 use Rattle.fare_rules.specs.Construction.{greatest_unit, places}
 use Rattle.fare_rules.specs.Order.{is_before}
-use Rattle.fare_rules.proofs.OrderLemmas.{before_says, before_tells}
+use Rattle.fare_rules.proofs.OrderLemmas.{before_says}
 use Rattle.fare_units.specs.Walk.{GoesOn, IsPart}
 use Rattle.fare_units.proofs.NextLemmas.{next_numbered}
 use Rattle.fare_branch.specs.declared.pieces.Piece.{Piece}
-use Rattle.fare_branch.specs.Search.{BeginsBy, BeginsIn, IsSearched, AllCostMore, kept_at}
-use Rattle.fare_branch.specs.Walked.{IsWalk, IsPassed, IsAmong}
+use Rattle.fare_branch.specs.Search.{BeginsBy, BeginsIn, IsSearched, kept_at}
+use Rattle.fare_branch.specs.Walked.{IsWalk}
 use Rattle.fare_branch.proofs.WalkedLemmas.{walk_nothing, walk_then, walk_within, not_after}
 
 abbrev Found : Type 0

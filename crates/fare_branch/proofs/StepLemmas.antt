@@ -1,6 +1,5 @@
 -- The steps of a pruned walk: over ends, entries and units, and from some parts to those that follow.
-use Rattle.std.proofs.Common.{◌≡◌, ℕ, suc, ◌+◌, ◌-◌, ◌<◌, ◌≤◌, ◌⊎◌, Bool, true, false, ◌&&◌, ◌||◌, List, [], ◌∷◌, ◌++◌, length, map, take, get_or, cond, Option, Some, None, refl, ap, subst, sym, ◌∙◌, inl, inr, arith}
-use Rattle.std.specs.Prelude.{is_some, Contains, nat_lt, nat_le}
+use Rattle.std.proofs.Common.{◌≡◌, ℕ, ◌+◌, ◌<◌, ◌≤◌, ◌⊎◌, true, false, List, [], ◌∷◌, ◌++◌, length, map, take, get_or, cond, Option, Some, None, refl, ap, subst, sym, ◌∙◌, inl, inr, arith}
 use Rattle.std.specs.List.{filter_map, cons_option}
 use Rattle.std.proofs.lemmas.List.{append_assoc, append-nil, take_more, map-append}
 use Rattle.std.proofs.lemmas.Bool.{cases_lt, lt-ltb, le-leb, ltb-true, leb-true, and_parts}
@@ -8,13 +7,12 @@ use Rattle.fare_trip.specs.Itinerary.{Itinerary, count}
 use Rattle.fare_tariff.specs.Tariff.{Tariff}
 use Rattle.fare_rules.specs.declared.part.Part.{Part}
 use Rattle.fare_rules.specs.Construction.{end_of, greatest_unit, places}
-use Rattle.fare_rules.specs.ComponentAmount.{component_amount}
 use Rattle.fare_rules.specs.Completion.{IsCompletion, record_numbers}
 use Rattle.fare_rules.specs.Best.{IsLawful}
 use Rattle.fare_rules.proofs.CoverLemmas.{cover}
 use Rattle.fare_rules.proofs.LawfulLemmas.{kept}
 use Rattle.fare_rules.proofs.MemberLemmas.{Member, member_left, member_right, member_map, member_numbers}
-use Rattle.fare_units.specs.Walk.{Completes, GoesOn, AnyPart, EndsAt, HasFare, HasUnitBefore, IsPart, IsFront, IsList, next_start, may_serve}
+use Rattle.fare_units.specs.Walk.{Completes, GoesOn, AnyPart, EndsAt, HasFare, HasUnitBefore, IsPart, IsList, next_start, may_serve}
 use Rattle.fare_units.proofs.NextLemmas.{next_rises, next_within, next_numbered, next_filed, next_served}
 use Rattle.fare_units.proofs.StepLemmas.{end_before_next}
 use Rattle.fare_component.specs.declared.table.entry.Entry.{Entry}
@@ -53,7 +51,7 @@ goes_too : (front : List Part) (M P : Part → Type 0) → ((q : Part) → M q �
 goes_too front M P each parts g = record { next = g.next; rest = g.rest; whole = g.whole; meets = each g.next g.meets }
 
 -- a fare of some entries and one more is that of one of them or of the one
-member_snoc : (xs : List ℕ) (x y : ℕ) → Member y (xs ++ x ∷ []) → Member y xs ⊎ (y ≡ x)
+pub member_snoc : (xs : List ℕ) (x y : ℕ) → Member y (xs ++ x ∷ []) → Member y xs ⊎ (y ≡ x)
 member_snoc [] x y (inl e) = inr e
 member_snoc [] x y (inr h) = absurd h
 member_snoc (z ∷ xs) x y (inl e) = inl (inl e)

@@ -1,11 +1,13 @@
 -- Sums over ranges of numbers, and over those of their members that pass a test.
-use Rattle.std.proofs.Common.{◌≡◌, ℕ, zero, suc, ◌+◌, ◌-◌, ◌<◌, ◌≤◌, Bool, true, false, cond, eqb, max, List, [], ◌∷◌, ◌++◌, length, refl, ap, sym, subst, ◌∙◌, inl, inr, arith}
+use Rattle.std.proofs.Common.{◌≡◌, ℕ, zero, suc, ◌+◌, ◌<◌, ◌≤◌, Bool, true, false, cond, eqb, List, [], ◌∷◌, ◌++◌, refl, ap, sym, subst, ◌∙◌, inl, inr, arith}
 use Rattle.std.specs.Prelude.{filter, sum_by}
 use Rattle.std.specs.List.{range_with_len}
 use Rattle.std.proofs.lemmas.Bool.{cases_Bool, cases_eq, eq-eqb, ne_eqb}
 use Rattle.std.proofs.lemmas.List.Sums.{sum_by-cons}
 use Rattle.fare_rules.specs.declared.part.Part.{Part}
 use Rattle.fare_rules.specs.Construction.{is_own, unit_of, greatest_unit}
+use Rattle.fare_rules.specs.Numbers.{numbers}
+use Rattle.fare_rules.proofs.NumberLemmas.{numbers_next, numbers_none}
 use Rattle.fare_rules.proofs.MemberLemmas.{Member}
 
 -- a sum of lesser amounts is less
@@ -143,3 +145,26 @@ unit_up_to parts first (suc n) k low high =
       | inl e ↦ let same : unit_of parts k ≡ unit_of parts first = ap (unit_of parts) e in omega arith
       | inr other ↦ let more : unit_of parts k ≤ greatest_unit parts (range_with_len (first + 1) n) = unit_up_to parts (first + 1) n k (omega arith) (omega arith) in omega arith
     ]
+
+pub range_member : (first n k : ℕ) → Member k (range_with_len first n) → (first ≤ k) × (k < first + n)
+range_member first zero k m = absurd m
+range_member first (suc n) k (inl e) = (omega arith, omega arith)
+range_member first (suc n) k (inr m) =
+    let h = range_member (first + 1) n k m in
+    let low : first + 1 ≤ k = h.0 in
+    let high : k < first + 1 + n = h.1 in
+    (omega arith, omega arith)
+
+-- the parts of a unit among some places, by the first place and the rest
+pub own_sum_next : (parts : List Part) (f : ℕ → ℕ) (unit first past : ℕ) → first < past → unit_of parts first ≡ unit → sum_by f (filter (is_own parts unit) (numbers first past)) ≡ f first + sum_by f (filter (is_own parts unit) (numbers (first + 1) past))
+own_sum_next parts f unit first past h own =
+    let here : is_own parts unit first ≡ true = eq-eqb (unit_of parts first) unit own in
+    ap (λ xs. sum_by f (filter (is_own parts unit) xs)) (numbers_next first past h) ∙ (rw here (sum_by-cons f first (filter (is_own parts unit) (numbers (first + 1) past))))
+
+pub own_sum_over : (parts : List Part) (f : ℕ → ℕ) (unit first past : ℕ) → first < past → (unit_of parts first ≡ unit → ⊥) → sum_by f (filter (is_own parts unit) (numbers first past)) ≡ sum_by f (filter (is_own parts unit) (numbers (first + 1) past))
+own_sum_over parts f unit first past h other =
+    let here : is_own parts unit first ≡ false = ne_eqb (unit_of parts first) unit other in
+    ap (λ xs. sum_by f (filter (is_own parts unit) xs)) (numbers_next first past h) ∙ (rw here refl)
+
+pub own_sum_done : (parts : List Part) (f : ℕ → ℕ) (unit first past : ℕ) → past ≤ first → sum_by f (filter (is_own parts unit) (numbers first past)) ≡ 0
+own_sum_done parts f unit first past h = ap (λ xs. sum_by f (filter (is_own parts unit) xs)) (numbers_none first past h)

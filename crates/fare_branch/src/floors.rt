@@ -1,8 +1,10 @@
-//! What first parts cost at least.
+//! What first parts cost at least, with all that may follow.
 
+ghost use Rattle.std.specs.Prelude.{◌≡◌, option_map, ◌+◌};
 ghost use Rattle.fare_bounds.specs.Covers.{AreRests};
 ghost use Rattle.fare_branch.specs.Floors.{IsMadeWith, IsFloorAnswer};
 
+use crate::costs::units_least;
 use crate::partial::Partial;
 use fare_bounds::Rest;
 use fare_component::Table;
@@ -13,7 +15,11 @@ pub fn floor_of(table: &Table, rest: &Rest, partial: &Partial) -> Option<u64>
     requires made { IsMadeWith table.now partial.now }
     ensures { IsFloorAnswer table.now.edition table.now.trip partial.now result }
 {
-    let _trip = table.trip();
-    let _rest = rest.from_point(partial.end());
-    Some(0)
+    let trip = table.trip();
+    trip.law();
+    let spent = units_least(table, partial.parts(), partial.greatest_unit());
+    match rest.from_point(partial.end()) {
+        None => None,
+        Some(least) => Some(spent + least),
+    }
 }

@@ -5,7 +5,8 @@
 //! - `own_bound`: a bound that knows no more than it was told;
 //! - `pieces`: the first-part choices by their numbers, and ranges of them;
 //! - `partial`: first parts of constructions, part by part;
-//! - `floors`: what first parts cost at least;
+//! - `costs`: what parts cost at least;
+//! - `floors`: what first parts cost at least, with all that may follow;
 //! - `walking`: the walk over the constructions that begin with some parts;
 //! - `searching`: the search of a piece.
 //!
@@ -13,6 +14,7 @@
 #![tactic(auto)]
 
 mod bound;
+mod costs;
 mod floors;
 mod own_bound;
 mod partial;

@@ -1,9 +1,8 @@
-use Rattle.std.proofs.Common.{◌≡◌, ℕ, ◌+◌, ◌-◌, ◌≤◌, ◌<◌, None, Some, length, sym, ap, ◌∙◌, arith}
+use Rattle.std.proofs.Common.{◌≡◌, ◌+◌, ◌-◌, ◌≤◌, ◌<◌, None, Some, length, ap, ◌∙◌, arith}
 use Rattle.std.specs.Prelude.{slice_get, option_map}
 use Rattle.fare_trip.specs.Itinerary.{count}
 use Rattle.fare_rules.specs.Completion.{choice, first_part_choices}
 use Rattle.fare_branch.specs.Beginnings.{outward}
-use Rattle.fare_component.specs.Table.{entries_of}
 use Rattle.fare_branch.proofs.ChoiceLemmas.{fares, choices_to_all, choice_over, choice_here}
 use Rattle.fare_branch.proofs.pieces.choice.Goals as goal
 

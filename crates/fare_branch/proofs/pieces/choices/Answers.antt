@@ -1,4 +1,4 @@
-use Rattle.std.proofs.Common.{◌≡◌, ℕ, ◌+◌, ◌-◌, ◌*◌, ◌≤◌, length, ap, ◌∙◌, arith}
+use Rattle.std.proofs.Common.{◌≡◌, ◌≤◌, length, ap, ◌∙◌, arith}
 use Rattle.fare_trip.specs.Itinerary.{count}
 use Rattle.fare_branch.specs.Beginnings.{outward}
 use Rattle.fare_branch.proofs.ChoiceLemmas.{choices_to_all, count_more, few_outward}

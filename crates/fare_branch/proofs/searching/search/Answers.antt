@@ -1,6 +1,6 @@
-use Rattle.std.proofs.Common.{◌≡◌, ℕ, ◌≤◌, List, Option, sym, subst, arith}
+use Rattle.std.proofs.Common.{ℕ, List, Option, sym, subst, arith}
 use Rattle.fare_rules.specs.declared.part.Part.{Part}
-use Rattle.fare_branch.specs.Search.{IsSearched, kept_at}
+use Rattle.fare_branch.specs.Search.{IsSearched}
 use Rattle.fare_branch.proofs.PieceLemmas.{searched}
 use Rattle.fare_branch.proofs.searching.search.Goals as goal
 

@@ -1,4 +1,4 @@
-use Rattle.std.proofs.Common.{◌≡◌, List, [], refl, subst}
+use Rattle.std.proofs.Common.{List, refl, subst}
 use Rattle.fare_rules.specs.declared.part.Part.{Part}
 use Rattle.fare_units.specs.Walk.{GoesOn, IsPart}
 use Rattle.fare_branch.specs.Walked.{IsWalk}

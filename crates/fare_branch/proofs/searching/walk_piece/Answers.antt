@@ -1,6 +1,5 @@
-use Rattle.std.proofs.Common.{◌≡◌, ◌≤◌, length, arith, None, ◌∙◌}
-use Rattle.fare_rules.specs.Completion.{first_part_choices}
-use Rattle.fare_branch.proofs.PieceLemmas.{piece_none, piece_more, piece_all}
+use Rattle.std.proofs.Common.{arith, None, ◌∙◌}
+use Rattle.fare_branch.proofs.PieceLemmas.{piece_more, piece_all}
 use Rattle.fare_branch.proofs.searching.walk_piece.Goals as goal
 
 pub loop-number-preserved : goal.loop-number-preserved

@@ -1,4 +1,4 @@
-use Rattle.std.proofs.Common.{◌≡◌, ℕ, List, Ok, Err, sym, subst, ◌∙◌}
+use Rattle.std.proofs.Common.{◌≡◌, ℕ, Ok, sym, subst}
 use Rattle.fare_rules.specs.Lawful.{lawful_price}
 use Rattle.fare_units.specs.Walk.{IsList}
 use Rattle.fare_branch.specs.Walked.{IsWalk}

@@ -1,4 +1,4 @@
-use Rattle.std.proofs.Common.{◌≡◌, ◌<◌, ◌++◌, ◌∷◌, [], List, length, ap, sym, subst, ◌∙◌, Result, Ok, Err, true, false, arith}
+use Rattle.std.proofs.Common.{◌≡◌, ◌<◌, ◌++◌, ◌∷◌, [], length, ap, sym, subst, ◌∙◌, Result, Ok, Err, true, false, arith}
 use Rattle.std.specs.Result.{IsOk, OnOk}
 use Rattle.fare_trip.specs.Itinerary.{count}
 use Rattle.fare_units.specs.Walk.{IsFront}
