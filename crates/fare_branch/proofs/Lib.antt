@@ -4,3 +4,4 @@ pub mod ChoiceLemmas
 pub mod PieceLemmas
 pub mod LeastLemmas
 pub mod SumLemmas
+pub mod WholeLemmas
