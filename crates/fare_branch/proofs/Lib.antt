@@ -8,3 +8,4 @@ pub mod CostLemmas
 pub mod EntryLemmas
 pub mod LegLemmas
 pub mod FloorLemmas
+pub mod WholeLemmas

@@ -8,7 +8,8 @@
 //! - `costs`: what parts cost at least;
 //! - `floors`: what first parts cost at least, with all that may follow;
 //! - `walking`: the walk over the constructions that begin with some parts;
-//! - `searching`: the search of a piece.
+//! - `searching`: the search of a piece;
+//! - `quoter`: the quoter that searches all of them.
 //!
 //! Each of these stands on those above it.
 #![tactic(auto)]
@@ -19,6 +20,7 @@ mod floors;
 mod own_bound;
 mod partial;
 mod pieces;
+mod quoter;
 mod searching;
 mod walking;
 
@@ -27,4 +29,5 @@ pub use floors::floor_of;
 pub use own_bound::OwnBound;
 pub use partial::Partial;
 pub use pieces::{Piece, choices};
+pub use quoter::BranchQuoter;
 pub use searching::search;
