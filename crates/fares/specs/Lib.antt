@@ -1,7 +1,12 @@
 pub mod Exit
 pub mod FaultText
+pub mod Answer
 pub mod Request
+pub mod Limits
 pub mod Input
+pub mod StoreOutcome
 pub mod Outcome
+pub mod Ends
 pub mod Steps
+pub mod StoreSteps
 pub mod Run

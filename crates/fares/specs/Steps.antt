@@ -1,29 +1,77 @@
 -- What the functions below the run hand on to it.
-use Rattle.std.specs.Prelude.{◌≡◌, ◌≢◌, ◌⊎◌, ℕ, Vec, Result, Ok, Err, ⊤}
+use Rattle.std.specs.Prelude.{◌≡◌, ◌≢◌, ◌⊎◌, ◌≤◌, ◌+◌, ℕ, List, Option, Vec, Result, Ok, Err, IsErrOf, ⊤}
+use Rattle.std.specs.Prelude.{true, false, length, nat_lt}
+use Rattle.fare_outside.specs.Cause.{Rose}
+use Rattle.fare_outside.specs.Source.{TakesJust, TakesUpTo}
 use Rattle.fares.specs.declared.exit.Exit.{Exit}
 use Rattle.fares.specs.declared.exit.Exit.TheVariants as ended
-use Rattle.fares.specs.Outcome.{Answer}
-use Rattle.fares.specs.Run.{IsEndOfPrice}
+use Rattle.fares.specs.Answer.{Answer}
 
--- an end that the input asks for, and not a failed read or write or want of memory
+-- an end that the input or the store asks for, and not a failed call or want of memory
 abbrev pub IsRefusal : Exit → Type 0
 IsRefusal ended.Done = ⊥
 IsRefusal ended.ReadFault = ⊥
 IsRefusal ended.WriteFault = ⊥
+IsRefusal ended.KeeperFault = ⊥
 IsRefusal ended.Memory = ⊥
-IsRefusal _ = ⊤
+IsRefusal other = ⊤
 
--- an end that `price` can come to once its source is read, which then isn't too long
-abbrev pub IsEndOnceRead : Exit → Type 0
-IsEndOnceRead exit = IsEndOfPrice exit × (exit ≢ ended.Limit)
+-- memory was wanting, or a read or a call of the store failed
+abbrev pub IsCutOff : Exit → Type 0
+IsCutOff ended.ReadFault = ⊤
+IsCutOff ended.KeeperFault = ⊤
+IsCutOff ended.Memory = ⊤
+IsCutOff other = ⊥
 
--- a function answers an input, with its text or its refusal, or memory was wanting
+-- a function answers, with its text or its refusal, or was cut off
 abbrev pub Answers : {A : Type 0} → (Answer → Type 0) → Result (Vec ℕ A) Exit → Type 0
 Answers outcome (Ok text) = outcome (Ok text.items)
-Answers outcome (Err exit) = (exit ≡ ended.Memory) ⊎ (IsRefusal exit × outcome (Err exit))
+Answers outcome (Err exit) = IsCutOff exit ⊎ (IsRefusal exit × outcome (Err exit))
 
 -- a reading is handed on, with its fault as the end that refuses it, or memory was wanting
 abbrev pub HandsOn : {A F : Type 0} → (F → Exit) → Result A F → Result A Exit → Type 0
 HandsOn refused reading (Ok value) = reading ≡ Ok value
 HandsOn {F = F} refused reading (Err exit) =
     (exit ≡ ended.Memory) ⊎ ((fault : F) × (reading ≡ Err fault) × (exit ≡ refused fault))
+
+-- the bytes of a source, which are no more than a limit; `Limit` where they are more, unless the reading was cut off
+abbrev pub HoldsUpTo : {A : Type 0} → ℕ → List ℕ → Result (Vec ℕ A) Exit → Type 0
+HoldsUpTo limit source (Ok bytes) = (bytes.items ≡ source) × (nat_lt limit (length source) ≡ false)
+HoldsUpTo limit source (Err exit) = IsCutOff exit ⊎ ((exit ≡ ended.Limit) × (nat_lt limit (length source) ≡ true))
+
+-- an end of a reading
+abbrev pub IsEndOfReading : Exit → Type 0
+IsEndOfReading ended.Limit = ⊤
+IsEndOfReading ended.ReadFault = ⊤
+IsEndOfReading ended.Memory = ⊤
+IsEndOfReading other = ⊥
+
+-- an end of one of these kinds once the source is read, which then isn't too long
+abbrev pub IsEndOnceRead : (Exit → Type 0) → Exit → Type 0
+IsEndOnceRead ends exit = ends exit × (exit ≢ ended.Limit) × (exit ≢ ended.ReadFault)
+
+-- an end of a quotation
+abbrev pub IsEndOfQuoting : Exit → Type 0
+IsEndOfQuoting (ended.NoEdition day) = ⊤
+IsEndOfQuoting (ended.UnknownPlace city) = ⊤
+IsEndOfQuoting ended.Memory = ⊤
+IsEndOfQuoting other = ⊥
+
+-- an end of an export from a book
+abbrev pub IsEndOfExport : Exit → Type 0
+IsEndOfExport (ended.NoSuch number) = ⊤
+IsEndOfExport ended.Memory = ⊤
+IsEndOfExport other = ⊥
+
+-- no more than one byte above a limit is taken from a source, and just so many where that is the answer; a failed read is
+-- counted
+pub record IsReading {A : Type 0} (limit : ℕ) (answer : Result A Exit) (old new : Option (List ℕ)) (before after : ℕ) : Type 0 where
+  pub within : TakesUpTo (limit + 1) old new
+  pub too_long : IsErrOf answer ended.Limit → TakesJust (limit + 1) old new
+  pub never_falls : before ≤ after
+  pub cause : IsErrOf answer ended.ReadFault → Rose before after
+
+-- a failed call of the store is counted
+pub record IsKeeping {A : Type 0} (answer : Result A Exit) (before after : ℕ) : Type 0 where
+  pub never_falls : before ≤ after
+  pub cause : IsErrOf answer ended.KeeperFault → Rose before after

@@ -3,8 +3,6 @@ ghost use Rattle.std.specs.Prelude.{◌≡◌};
 use fare_book::Damage;
 use fare_codes::{City, Day};
 use fare_csv::TextFault;
-use fare_desk::QuoteFault;
-use fare_outside::NoMemory;
 use fare_trip::TripFault;
 
 /// What a run ended in.
@@ -71,33 +69,6 @@ impl Exit {
             Exit::NoSuch(_) => 15,
             Exit::Memory => 20,
             Exit::NotYet => 30,
-        }
-    }
-}
-
-impl From<NoMemory> for Exit {
-    ghost use Rattle.std.specs.Prelude.{◌≡◌};
-    ghost use Rattle.fares.specs.declared.exit.Exit.TheVariants.{Memory};
-
-    ghost from_gives = { λ _ exit. exit ≡ Memory };
-
-    fn from(_: NoMemory) -> Exit {
-        Exit::Memory
-    }
-}
-
-/// A trip that isn't quoted ends the run with the same reason.
-impl From<QuoteFault> for Exit {
-    ghost use Rattle.std.specs.Prelude.{◌≡◌};
-    ghost use Rattle.fares.specs.Outcome.{quote_end};
-
-    ghost from_gives = { λ fault exit. exit ≡ quote_end fault };
-
-    fn from(fault: QuoteFault) -> Exit {
-        match fault {
-            QuoteFault::Memory => Exit::Memory,
-            QuoteFault::NoEdition(day) => Exit::NoEdition(day),
-            QuoteFault::UnknownPlace(city) => Exit::UnknownPlace(city),
         }
     }
 }

@@ -1,4 +1,4 @@
-//! The source of `price`: an itinerary on its first line, and a tariff text behind it.
+//! What a source holds: an itinerary, a tariff text, or the one on the first line and the other behind it.
 
 ghost use Rattle.std.specs.Prelude.{◌≡◌, ◌+◌, ◌≤◌, length, drop};
 ghost use Rattle.std.specs.List.{position_or_len};
@@ -6,6 +6,8 @@ ghost use Rattle.fares.specs.declared.exit.Exit.TheVariants.{BadTariff, BadTrip}
 ghost use Rattle.fares.specs.Input.{is_line_feed, itinerary_text, tariff_text, itinerary_of};
 ghost use Rattle.fares.specs.Steps.{HandsOn};
 ghost use Rattle.fare_csv.specs.TariffText.{edition_of};
+ghost use Rattle.fare_trip.specs.ItineraryText.{read_trip};
+ghost use Rattle.fare_trip.specs.ShortLine.{read_short};
 
 use crate::exit::Exit;
 use fare_csv::{TextFault, read_edition};
@@ -62,15 +64,31 @@ pub fn edition_in<R: Threads + Sync>(rt: &R, alloc: Global, text: &[u8]) -> Resu
 
 /// The trip of an itinerary text, a short line or JSON.
 #[tactic(auto, unfolding(crate::specs::Input::itinerary_of))]
-pub fn trip_in(alloc: Global, text: &[u8]) -> Result<Trip, Exit>
+pub fn itinerary_in(alloc: Global, text: &[u8]) -> Result<Trip, Exit>
     ensures { HandsOn BadTrip (itinerary_of text.now) result }
 {
-    let reading = if text.starts_with(b"TRIP,") {
-        read_short(text)
-    } else {
-        read_trip(alloc, text)
-    };
-    match reading {
+    if text.starts_with(b"TRIP,") {
+        return short_trip_in(text);
+    }
+    trip_in(alloc, text)
+}
+
+/// The trip of a short line.
+fn short_trip_in(text: &[u8]) -> Result<Trip, Exit>
+    ensures { HandsOn BadTrip (read_short text.now) result }
+{
+    match read_short(text) {
+        Ok(trip) => Ok(trip),
+        Err(TripFault::Memory) => Err(Exit::Memory),
+        Err(fault) => Err(Exit::BadTrip(fault)),
+    }
+}
+
+/// The trip of a JSON text.
+pub fn trip_in(alloc: Global, text: &[u8]) -> Result<Trip, Exit>
+    ensures { HandsOn BadTrip (read_trip text.now) result }
+{
+    match read_trip(alloc, text) {
         Ok(trip) => Ok(trip),
         Err(TripFault::Memory) => Err(Exit::Memory),
         Err(fault) => Err(Exit::BadTrip(fault)),

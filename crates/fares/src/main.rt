@@ -2,17 +2,28 @@
 //! sink, store, door and gate; `main` calls it over the real ones. What it answers is defined in `specs/` (`Outcome`).
 //!
 //! - `words`: what the words of the command line ask for;
-//! - `input`, `price`, `quote`: the two texts of a source of `price`, and the answer to them;
-//! - `run`: the whole program, from its words to what it ends in;
-//! - `exit`, `fault_line`: what a run ends in, with its status and its line on standard error.
+//! - `source`, `input`: the bytes of the source, and the itinerary and the tariff in them;
+//! - `store`: the book of a store; `quote`: the quotation of a trip over a book;
+//! - `price`, `publish`, `list`, `export`, `stored_quote`: the commands, a file each;
+//! - `answer`, `run`: what a request is answered, and the whole program, from its words to what it ends in;
+//! - `exit`, `refused`, `fault_line`: what a run ends in, the ends for what the crates below refuse, and the status and
+//!   the line on standard error of each.
 #![tactic(auto)]
 
+mod answer;
 mod exit;
+mod export;
 mod fault_line;
 mod input;
+mod list;
 mod price;
+mod publish;
 mod quote;
+mod refused;
 mod run;
+mod source;
+mod store;
+mod stored_quote;
 #[cfg(test)]
 mod tests;
 mod words;
@@ -21,7 +32,8 @@ use crate::exit::Exit;
 use crate::fault_line::fault_text;
 use crate::run::run;
 use fare_devices::{StdSink, StdSource};
-use fare_outside::{Bodies, NoMemory, OpenGate, PlainDoor, PlainKeeper};
+use fare_outside::{NoMemory, OpenGate, PlainDoor};
+use fare_sqlite::FileKeeper;
 use std::io::{ErrorKind, Write};
 use std::process::ExitCode;
 use std::{env, io};
@@ -30,7 +42,7 @@ fn main(rt: HostRuntime) -> ExitCode {
     let alloc = rt.alloc();
     let mut source = StdSource::new(&rt);
     let mut sink = StdSink::new(&rt);
-    let mut store = PlainKeeper::new(Bodies::new(alloc));
+    let mut store = FileKeeper::new(&rt);
     let mut door = PlainDoor::new();
     let exit = match words_after_the_first(&rt) {
         Ok(words) => run(

@@ -1,24 +1,47 @@
-ghost use Rattle.std.specs.Prelude.{IfErr};
-ghost use Rattle.fares.specs.Outcome.{AnswersSource};
-ghost use Rattle.fares.specs.Steps.{Answers, IsEndOnceRead};
+//! The command `price`.
+
+ghost use Rattle.std.specs.Prelude.{IfErr, IfSome};
+ghost use Rattle.fares.specs.Ends.{IsRefusalOfPrice};
+ghost use Rattle.fares.specs.Limits.{price_limit};
+ghost use Rattle.fares.specs.Outcome.{AnswersPrice, AnswersSource};
+ghost use Rattle.fares.specs.Steps.{Answers, IsEndOnceRead, IsReading};
 
 use crate::exit::Exit;
-use crate::input::{edition_in, split_source, trip_in};
+use crate::input::{edition_in, itinerary_in, split_source};
 use crate::quote::quote;
+use crate::source::source_up_to;
+use fare_book::Book;
+use fare_outside::Source;
 use std::alloc::Global;
 use std::thread::Threads;
 
 /// The most bytes that the source of `price` may hold.
-pub const PRICE_LIMIT: usize = 16_842_752;
+const PRICE_LIMIT: usize = 16_842_752;
 
 /// Quotes the itinerary of the source's first line in the tariff behind it.
+pub fn price<R: Threads + Sync, S: Source>(
+    rt: &R,
+    alloc: Global,
+    src: &mut S,
+) -> Result<Vec<u8>, Exit>
+    ensures answer { IfSome (S.left src.old) (λ source. Answers (AnswersPrice source) result) }
+    ensures ends { IfErr result IsRefusalOfPrice }
+    ensures reading { IsReading price_limit result
+        (S.left src.old) (S.left src.new) (S.faults src.old) (S.faults src.new) }
+{
+    let source = source_up_to(alloc, src, PRICE_LIMIT)?;
+    price_of(rt, alloc, source.as_slice())
+}
+
+/// The answer to the bytes of a source.
 #[tactic(auto, unfolding(crate::specs::Outcome::AnswersSource))]
-pub fn price<R: Threads + Sync>(rt: &R, alloc: Global, source: &[u8]) -> Result<Vec<u8>, Exit>
+fn price_of<R: Threads + Sync>(rt: &R, alloc: Global, source: &[u8]) -> Result<Vec<u8>, Exit>
     ensures answer { Answers (AnswersSource source.now) result }
-    ensures ends { IfErr result IsEndOnceRead }
+    ensures ends { IfErr result (IsEndOnceRead IsRefusalOfPrice) }
 {
     let (itinerary, tariff) = split_source(source);
     let edition = edition_in(rt, alloc, tariff)?;
-    let trip = trip_in(alloc, itinerary)?;
-    quote(rt, alloc, edition, &trip)
+    let trip = itinerary_in(alloc, itinerary)?;
+    let book = Book::of(alloc, edition)?;
+    quote(rt, alloc, &book, &trip)
 }

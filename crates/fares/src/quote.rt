@@ -1,26 +1,24 @@
 ghost use Rattle.std.specs.Prelude.{IfErr};
-ghost use Rattle.fares.specs.Outcome.{AnswersTrip};
-ghost use Rattle.fares.specs.Steps.{Answers, IsEndOnceRead};
+ghost use Rattle.fares.specs.Steps.{Answers, IsEndOfQuoting};
+ghost use Rattle.fares.specs.StoreOutcome.{AnswersTrip};
 
 use crate::exit::Exit;
 use fare_book::Book;
 use fare_desk::quote_text;
-use fare_tariff::Edition;
 use fare_trip::Trip;
 use fare_units::PlainQuoter;
 use std::alloc::Global;
 use std::thread::Threads;
 
-/// Quotes a trip over the book of one edition.
+/// Quotes a trip over a book.
 pub fn quote<R: Threads + Sync>(
     rt: &R,
     alloc: Global,
-    edition: Edition,
+    book: &Book,
     trip: &Trip,
 ) -> Result<Vec<u8>, Exit>
-    ensures answer { Answers (AnswersTrip edition trip.now) result }
-    ensures ends { IfErr result IsEndOnceRead }
+    ensures answer { Answers (AnswersTrip trip.now book.now.editions) result }
+    ensures ends { IfErr result IsEndOfQuoting }
 {
-    let book = Book::of(alloc, edition)?;
-    Ok(quote_text(rt, alloc, &book, &PlainQuoter, trip)?)
+    Ok(quote_text(rt, alloc, book, &PlainQuoter, trip)?)
 }

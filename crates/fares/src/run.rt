@@ -1,26 +1,29 @@
-ghost use Rattle.std.specs.Prelude.{◌≡◌, ◌≢◌, ◌⊎◌, ◌+◌, ◌≤◌, map, string_bytes, IfSome};
+ghost use Rattle.std.specs.Prelude.{◌≡◌, ◌⊎◌, ◌+◌, ◌≤◌, map, string_bytes, IfSome};
 ghost use Rattle.std.specs.Io.KnownBytes.{Appends};
 ghost use Rattle.fare_outside.specs.Cause.{Rose};
+ghost use Rattle.fare_outside.specs.Keeper.{BodiesStay, WhereTold};
 ghost use Rattle.fare_outside.specs.Source.{TakesUpTo, TakesJust};
 ghost use Rattle.fare_outside.specs.Sink.{AppendsPrefix};
-ghost use Rattle.fares.specs.Request.{asked};
-ghost use Rattle.fares.specs.Outcome.{price_limit, IsOutcome};
-ghost use Rattle.fares.specs.Run.{EndsIn, IsSilent, IsEndOfPrice, IsSoOrMemory};
+ghost use Rattle.fares.specs.Ends.{IsEndOf};
+ghost use Rattle.fares.specs.Limits.{limit_of};
+ghost use Rattle.fares.specs.Outcome.{IsOutcome};
+ghost use Rattle.fares.specs.Request.{asked, LeavesSource, LeavesStore};
+ghost use Rattle.fares.specs.Run.{EndsIn, IsSilent, LeavesBodies, PublishesNothing};
 
+use crate::answer::answer;
 use crate::exit::Exit;
-use crate::price::{PRICE_LIMIT, price};
-use crate::words::{Request, asked};
-use fare_outside::{Door, Gate, Keeper, NoMemory, ReadEnd, Sink, Source, read_all, write_all};
+use crate::words::asked;
+use fare_outside::{Door, Gate, Keeper, NoMemory, Sink, Source, write_all};
 use std::alloc::Global;
 use std::thread::Threads;
 
 /// The whole program, over any source, sink, store, door and gate: does what the words ask, and says how it ended.
 ///
-/// Where the source tells its bytes, the run ends in the answer that the words and those bytes define, or in want of
-/// memory, `ReadFault` or `WriteFault`; the last two come only where the source's and the sink's count rose in this
-/// call. All text is built before the first write, so the sink is left alone on every end but `Done` and `WriteFault`.
-/// Words that aren't taken end in `Usage`, and those that ask for what the program doesn't have yet in `NotYet`, both
-/// with the source left alone too.
+/// Where the source tells its bytes, the run ends in the answer that the words, those bytes and the bodies of the store
+/// define, or in want of memory, `ReadFault`, `KeeperFault` or `WriteFault`; these three come only where the source's,
+/// the store's and the sink's count rose in this call. All text is built before the first write, so the sink is left
+/// alone on every end but `Done` and `WriteFault`, which leave the same store. Only `publish` changes the bodies of the
+/// store, by the text of one edition, and a run that ends in want of memory has stored nothing.
 pub fn run<R: Threads + Sync, S: Source, K: Sink, P: Keeper, D: Door, G: Gate>(
     rt: &R,
     alloc: Global,
@@ -32,40 +35,39 @@ pub fn run<R: Threads + Sync, S: Source, K: Sink, P: Keeper, D: Door, G: Gate>(
     gate: &G,
 ) -> Exit
     ensures answer { IfSome (S.left src.old) (λ source.
-        EndsIn (IsOutcome (map string_bytes words.now) source) result (K.taken out.old) (K.taken out.new)) }
+        EndsIn (IsOutcome (map string_bytes words.now) source (P.bodies store.old) (P.bodies store.new)) result
+        (K.taken out.old) (K.taken out.new)) }
 
-    // The ends, whether the source tells its bytes or not.
-    ensures usage { asked (map string_bytes words.now) ≡ Request.Nothing → IsSoOrMemory Exit.Usage result }
-    ensures not_yet { asked (map string_bytes words.now) ≡ Request.Missing → IsSoOrMemory Exit.NotYet result }
-    ensures taken { asked (map string_bytes words.now) ≡ Request.Price → IsEndOfPrice result }
+    // The ends, whether the source tells its bytes or not, and the store its bodies.
+    ensures ends { IsEndOf (asked (map string_bytes words.now)) result }
     ensures read_fault { result ≡ Exit.ReadFault → Rose (S.faults src.old) (S.faults src.new) }
     ensures write_fault { result ≡ Exit.WriteFault → Rose (K.faults out.old) (K.faults out.new) }
+    ensures keeper_fault { result ≡ Exit.KeeperFault → Rose (P.faults store.old) (P.faults store.new) }
 
     // What is left alone.
-    ensures untouched { asked (map string_bytes words.now) ≢ Request.Price → src.new ≡ src.old }
+    ensures untouched { LeavesSource (asked (map string_bytes words.now)) → src.new ≡ src.old }
     ensures silent { IsSilent result → out.new ≡ out.old }
-    ensures store { store.new ≡ store.old }
+    ensures store { LeavesStore (asked (map string_bytes words.now)) → store.new ≡ store.old }
     ensures door { door.new ≡ door.old }
 
+    // What the store is left with.
+    ensures bodies { WhereTold (P.bodies store.old) (P.bodies store.new)
+        (LeavesBodies (asked (map string_bytes words.now)) (S.left src.old)) }
+    ensures refused { PublishesNothing result → WhereTold (P.bodies store.old) (P.bodies store.new) BodiesStay }
+
     // The source never loses more than one byte above the limit, and no count falls.
-    ensures within { TakesUpTo (price_limit + 1) (S.left src.old) (S.left src.new) }
-    ensures limit { result ≡ Exit.Limit → TakesJust (price_limit + 1) (S.left src.old) (S.left src.new) }
+    ensures within { TakesUpTo (limit_of (asked (map string_bytes words.now)) + 1) (S.left src.old) (S.left src.new) }
+    ensures limit { result ≡ Exit.Limit →
+        TakesJust (limit_of (asked (map string_bytes words.now)) + 1) (S.left src.old) (S.left src.new) }
     ensures source_count { S.faults src.old ≤ S.faults src.new }
     ensures sink_count { K.faults out.old ≤ K.faults out.new }
+    ensures store_count { P.faults store.old ≤ P.faults store.new }
 {
-    match asked(alloc, words) {
-        Ok(Request::Price) => (),
-        Ok(Request::Missing) => return Exit::NotYet,
-        Ok(Request::Nothing) => return Exit::Usage,
+    let request = match asked(alloc, words) {
+        Ok(request) => request,
         Err(NoMemory) => return Exit::Memory,
-    }
-    let source = match read_all(alloc, src, PRICE_LIMIT) {
-        Ok(source) => source,
-        Err(ReadEnd::Memory) => return Exit::Memory,
-        Err(ReadEnd::ReadFault) => return Exit::ReadFault,
-        Err(ReadEnd::TooLong) => return Exit::Limit,
     };
-    match price(rt, alloc, source.as_slice()) {
+    match answer(rt, alloc, &request, src, store) {
         Ok(text) => written(out, text.as_slice()),
         Err(exit) => exit,
     }

@@ -185,7 +185,7 @@ fn other_words_are_not_taken(rt: HostRuntime) -> Result<(), Fail> {
 #[test]
 fn missing_commands_and_options_are_told(rt: HostRuntime) -> Result<(), Fail> {
     let alloc = rt.alloc();
-    assert!(rt; status_of(&rt, alloc, &["quote", "--store", "editions"])? == 30);
+    assert!(rt; status_of(&rt, alloc, &["migrate", "--store", "editions"])? == 30);
     assert!(rt; status_of(&rt, alloc, &["price", "--best=3"])? == 30);
     Ok(())
 }

@@ -4,35 +4,53 @@ ghost use Rattle.std.specs.Prelude.{◌≡◌, IfOk, map, string_bytes};
 ghost use Rattle.fares.specs.Request.{asked, request_of};
 
 use fare_outside::NoMemory;
-use fare_words::{Command, read_words};
+use fare_words::{Command, StoreName, read_words};
 use std::alloc::Global;
 
 /// What the words of a command line ask for.
-#[derive(Clone, Copy, Debug, PartialEq, Eq)]
-pub enum Request {
+#[derive(Debug, Drop)]
+pub enum Request<'a> {
     /// The command `price`, without `--best`.
     Price,
-    /// A command, or an option of `price`, that the program doesn't have yet.
+    /// The command `publish`.
+    Publish { store: StoreName<'a> },
+    /// The command `list`.
+    List { store: StoreName<'a> },
+    /// The command `export`, of the edition of a number.
+    Export { store: StoreName<'a>, edition: u32 },
+    /// The command `quote`, without `--best`.
+    Quote { store: StoreName<'a> },
+    /// A command, or an option, that the program doesn't have yet.
     Missing,
     /// Nothing: the words aren't taken.
     Nothing,
 }
 
 /// What words ask for.
-pub fn asked(alloc: Global, words: &[String]) -> Result<Request, NoMemory>
-    ensures { IfOk result (λ request. request ≡ asked (map string_bytes words.now)) }
+pub fn asked<'a>(alloc: Global, words: &'a [String]) -> Result<Request<'a>, NoMemory>
+    ensures { IfOk result (λ request. request ≡ asked (map string_bytes words.entry.now)) }
 {
     let taken = read_words(alloc, words)?;
-    Ok(request_of(&taken))
+    Ok(request_of(taken))
 }
 
 /// What the command that words give asks for, or their refusal.
-fn request_of(taken: &Option<Command>) -> Request
-    ensures { result ≡ request_of taken.now }
+fn request_of(taken: Option<Command<'_>>) -> Request<'_>
+    ensures { result ≡ request_of taken.entry }
 {
     match taken {
         None => Request::Nothing,
         Some(Command::Price { best: None, .. }) => Request::Price,
+        Some(Command::Publish { store }) => Request::Publish { store },
+        Some(Command::List { store }) => Request::List { store },
+        Some(Command::Export { store, edition }) => Request::Export { store, edition },
+        Some(
+            Command::Quote {
+                store,
+                best: None,
+                ..
+            },
+        ) => Request::Quote { store },
         Some(_) => Request::Missing,
     }
 }
