@@ -10,7 +10,7 @@ mod costs;
 mod limits;
 mod rest;
 
-pub use limits::{COST_LIMIT, LAST_POINT};
+pub use limits::COST_LIMIT;
 pub use rest::Rest;
 
 #[cfg(test)]
