@@ -7,21 +7,21 @@ use Rattle.fare_trip.specs.Itinerary.{Itinerary, count}
 use Rattle.fare_tariff.specs.Tariff.{Tariff}
 use Rattle.fare_rules.specs.Construction.{begin_after}
 use Rattle.fare_rules.specs.Span.{is_surface}
-use Rattle.fare_rules.specs.declared.limits.TheConstants.{PRICE_LIMIT}
-use Rattle.fare_bounds.specs.declared.limits.TheConstants.{COST_LIMIT, LAST_POINT}
+use Rattle.fare_rules.specs.declared.limits.TheConstants.{MOST_SECTORS, PRICE_LIMIT}
+use Rattle.fare_bounds.specs.declared.limits.TheConstants.{COST_LIMIT}
 use Rattle.fare_bounds.specs.Covers.{Leg, IsCover, IsLeast, rest_at}
 use Rattle.fare_bounds.specs.Search.{AreRestsFrom, AreInBounds, sum_of}
 use Rattle.fare_bounds.proofs.CoverLemmas.{EntriesAreOfFares}
 
 -- a rest with the cost of a leg before it
-pub sum_bound : (cost rest : Option ℕ) (i b : ℕ) → i < b → b ≤ LAST_POINT → IfSome cost (λ x. x < COST_LIMIT)
-    → IfSome rest (λ x. x ≤ (LAST_POINT - b) * COST_LIMIT) → IfSome (sum_of cost rest) (λ x. x ≤ (LAST_POINT - i) * COST_LIMIT)
+pub sum_bound : (cost rest : Option ℕ) (i b : ℕ) → i < b → b ≤ MOST_SECTORS → IfSome cost (λ x. x < COST_LIMIT)
+    → IfSome rest (λ x. x ≤ (MOST_SECTORS - b) * COST_LIMIT) → IfSome (sum_of cost rest) (λ x. x ≤ (MOST_SECTORS - i) * COST_LIMIT)
 sum_bound None rest i b rises within hc hr = tt
 sum_bound (Some cost) None i b rises within hc hr = tt
 sum_bound (Some cost) (Some rest) i b rises within hc hr = omega arith
 
 -- a rest is below every price's limit
-pub below_limit : (rest : Option ℕ) (i : ℕ) → IfSome rest (λ x. x ≤ (LAST_POINT - i) * COST_LIMIT)
+pub below_limit : (rest : Option ℕ) (i : ℕ) → IfSome rest (λ x. x ≤ (MOST_SECTORS - i) * COST_LIMIT)
     → IfSome rest (λ x. x < PRICE_LIMIT)
 below_limit None i h = tt
 below_limit (Some rest) i h = omega arith
@@ -40,14 +40,14 @@ put_rest tariff trip rests i rest within known here k low =
     ]
 
 pub put_bound : (rests : List (Option ℕ)) (i : ℕ) (rest : Option ℕ) → i < length rests → AreInBounds rests
-    → IfSome rest (λ x. x ≤ (LAST_POINT - i) * COST_LIMIT) → AreInBounds (set rests i rest)
+    → IfSome rest (λ x. x ≤ (MOST_SECTORS - i) * COST_LIMIT) → AreInBounds (set rests i rest)
 put_bound rests i rest within known here k =
     elim (cases_eq k i) [
       | inl same ↦
-          subst (λ j. IfSome (rest_at (set rests i rest) j) (λ x. x ≤ (LAST_POINT - j) * COST_LIMIT)) (sym same)
-          (subst (λ o. IfSome o (λ x. x ≤ (LAST_POINT - i) * COST_LIMIT)) (sym (get_or-set_same rests i rest None within)) here)
+          subst (λ j. IfSome (rest_at (set rests i rest) j) (λ x. x ≤ (MOST_SECTORS - j) * COST_LIMIT)) (sym same)
+          (subst (λ o. IfSome o (λ x. x ≤ (MOST_SECTORS - i) * COST_LIMIT)) (sym (get_or-set_same rests i rest None within)) here)
       | inr other ↦
-          subst (λ o. IfSome o (λ x. x ≤ (LAST_POINT - k) * COST_LIMIT)) (sym (get_or-set_other rests i k rest None other)) (known k)
+          subst (λ o. IfSome o (λ x. x ≤ (MOST_SECTORS - k) * COST_LIMIT)) (sym (get_or-set_other rests i k rest None other)) (known k)
     ]
 
 nothing_at : (n k : ℕ) → rest_at (replicate n None) k ≡ None
@@ -89,9 +89,9 @@ bounds_at_end last n within k =
     elim (cases_eq k last) [
       | inl same ↦
           let is = get_or-set_same (replicate n None) last (Some 0) None (omega (arith, length-replicate {A = Option ℕ} n None)) in
-          subst (λ j. IfSome (rest_at (set (replicate n None) last (Some 0)) j) (λ x. x ≤ (LAST_POINT - j) * COST_LIMIT)) (sym same)
-          (subst (λ o. IfSome o (λ x. x ≤ (LAST_POINT - last) * COST_LIMIT)) (sym is) (omega arith))
+          subst (λ j. IfSome (rest_at (set (replicate n None) last (Some 0)) j) (λ x. x ≤ (MOST_SECTORS - j) * COST_LIMIT)) (sym same)
+          (subst (λ o. IfSome o (λ x. x ≤ (MOST_SECTORS - last) * COST_LIMIT)) (sym is) (omega arith))
       | inr other ↦
           let is = get_or-set_other (replicate n None) last k (Some 0) None other ∙ nothing_at n k in
-          subst (λ o. IfSome o (λ x. x ≤ (LAST_POINT - k) * COST_LIMIT)) (sym is) tt
+          subst (λ o. IfSome o (λ x. x ≤ (MOST_SECTORS - k) * COST_LIMIT)) (sym is) tt
     ]

@@ -4,7 +4,8 @@ use Rattle.fare_trip.specs.Itinerary.{Itinerary}
 use Rattle.fare_tariff.specs.Tariff.{Tariff}
 use Rattle.fare_rules.specs.Construction.{begin_after}
 use Rattle.fare_component.specs.declared.table.entry.Entry.{Entry}
-use Rattle.fare_bounds.specs.declared.limits.TheConstants.{COST_LIMIT, LAST_POINT}
+use Rattle.fare_bounds.specs.declared.limits.TheConstants.{COST_LIMIT}
+use Rattle.fare_rules.specs.declared.limits.TheConstants.{MOST_SECTORS}
 use Rattle.fare_bounds.specs.Covers.{Leg, IsServed, IsCover, IsLeast, least_cost, lesser, rest_at}
 
 -- the least cost of some entries
@@ -37,4 +38,4 @@ AreRestsFrom tariff trip first rests = (i : ℕ) → first ≤ i → IsLeast (Is
 
 -- a rest from a point on is at most as many of the greatest costs as there can be sectors behind the point
 abbrev pub AreInBounds : List (Option ℕ) → Type 0
-AreInBounds rests = (i : ℕ) → IfSome (rest_at rests i) (λ rest. rest ≤ (LAST_POINT - i) * COST_LIMIT)
+AreInBounds rests = (i : ℕ) → IfSome (rest_at rests i) (λ rest. rest ≤ (MOST_SECTORS - i) * COST_LIMIT)

@@ -11,7 +11,7 @@ mod limits;
 mod rest;
 
 pub use costs::least_cost;
-pub use limits::{COST_LIMIT, LAST_POINT};
+pub use limits::COST_LIMIT;
 pub use rest::Rest;
 
 #[cfg(test)]

@@ -3,8 +3,5 @@
 /// What one entry costs at least is below this many hundredths: twice the greatest fare.
 pub const COST_LIMIT: u64 = 2_000_000_000;
 
-/// The last point that a trip can have.
-pub const LAST_POINT: usize = 16;
-
 /// How many points a trip can have.
 pub(crate) const MOST_POINTS: usize = 17;

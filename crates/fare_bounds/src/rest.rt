@@ -5,9 +5,9 @@ ghost use Rattle.fare_bounds.specs.Covers.{AreRests, IsCover, IsLeast, rest_at};
 ghost use Rattle.fare_bounds.specs.Search.{AreInBounds, AreRestsFrom, sum_of};
 
 use crate::costs::{cheapest, lesser};
-use crate::limits::{COST_LIMIT, LAST_POINT, MOST_POINTS};
+use crate::limits::{COST_LIMIT, MOST_POINTS};
 use fare_component::{Table, entries_are_of_fares};
-use fare_rules::PRICE_LIMIT;
+use fare_rules::{MOST_SECTORS, PRICE_LIMIT};
 use fare_trip::Trip;
 use std::marker::Model;
 
@@ -85,7 +85,7 @@ fn rest_from(table: &Table, rests: &[Option<u64>; MOST_POINTS], i: usize) -> Opt
     requires later { AreRestsFrom table.now.edition table.now.trip (i + 1) rests.now }
     requires bounds { AreInBounds rests.now }
     ensures least { IsLeast (IsCover table.now.edition table.now.trip i) result }
-    ensures bound { IfSome result (λ rest. rest ≤ (LAST_POINT - i) * COST_LIMIT) }
+    ensures bound { IfSome result (λ rest. rest ≤ (MOST_SECTORS - i) * COST_LIMIT) }
 {
     entries_are_of_fares();
     let trip = table.trip();

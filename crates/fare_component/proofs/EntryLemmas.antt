@@ -19,7 +19,7 @@ use Rattle.fare_tariff.specs.Lookup.{fare_at, fare_in, is_fare_between, number_a
 use Rattle.fare_rules.specs.Numbers.{numbers}
 use Rattle.fare_rules.specs.Span.{holds_surface}
 use Rattle.fare_rules.specs.Indicator.{indicator}
-use Rattle.fare_rules.specs.ComponentAmount.{component_amount, fare_amount, has_indicator, is_filed_between, repeats_city, runs_between}
+use Rattle.fare_rules.specs.ComponentAmount.{component_amount, fare_amount, has_indicator, is_filed_between, repeats_city, runs_between, span_surcharge}
 use Rattle.fare_rules.proofs.AmountLemmas.{MayBeUsed}
 use Rattle.fare_rules.proofs.NumberLemmas.{numbers_more}
 use Rattle.fare_rules.proofs.RuleLemmas.{usable_from_amount}
@@ -133,6 +133,22 @@ unfolding entries_of
 no_entries_there tariff trip a b plain =
     chosen (is_span trip a b) _ (nothing_kept (entry_at tariff trip a b) (λ k.
     no_entry tariff trip a b k (no_amount_there tariff trip a b k false plain) (no_amount_there tariff trip a b k true plain)) _)
+
+-- nor where the mileage of the span lets no fare be used
+no_amount_unmeasured : (tariff : Tariff) (trip : Itinerary) (a b number : ℕ) (back : Bool)
+    → span_surcharge tariff trip a b ≡ None → is_some (component_amount tariff trip a b number back) ≡ false
+no_amount_unmeasured tariff trip a b number back none =
+    false_from_ne_true (is_some (component_amount tariff trip a b number back)) (λ there.
+    let found = amount_of_fare tariff trip a b number back there in
+    let used = usable_from_amount tariff trip a b number back found.0 found.1 there in
+    false≢true (ap is_some (sym none) ∙ used.mileage))
+
+pub no_entries_unmeasured : (tariff : Tariff) (trip : Itinerary) (a b : ℕ) → span_surcharge tariff trip a b ≡ None
+    → entries_of tariff trip a b ≡ []
+unfolding entries_of
+no_entries_unmeasured tariff trip a b none =
+    chosen (is_span trip a b) _ (nothing_kept (entry_at tariff trip a b) (λ k.
+    no_entry tariff trip a b k (no_amount_unmeasured tariff trip a b k false none) (no_amount_unmeasured tariff trip a b k true none)) _)
 
 -- nor where two points make no span
 pub no_entries_beyond : (tariff : Tariff) (trip : Itinerary) (a b : ℕ) → is_span trip a b ≡ false

@@ -1,4 +1,5 @@
 pub mod AmountLemmas
+pub mod BaseLemmas
 pub mod CandidateLemmas
 pub mod Counts
 pub mod CursorLemmas

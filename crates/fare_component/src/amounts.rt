@@ -29,7 +29,7 @@ fn base(edition: &Edition, trip: &Trip, a: usize, b: usize, fare: &FareRec, back
 
 /// A base with a surcharge, rounded down.
 #[tactic(auto, unfolding(fare_codes::specs::Amounts::surcharged))]
-fn amount_from(base: Nuc, step: u32) -> Amount
+pub(crate) fn amount_from(base: Nuc, step: u32) -> Amount
     requires low { base < FARE_LIMIT }
     requires step { step ≤ MOST_SURCHARGE }
     ensures value { result ≡ amount_from base step }

@@ -1,5 +1,7 @@
 //! The table of a trip in an edition: what each fare costs for each span, computed once.
 //!
+//! - `indicators`: the indicators of all spans;
+//! - `bases`: the base of a fare by them;
 //! - `entry`: one fare of a span;
 //! - `cursor`, `candidates`: the fares between two cities, in record order;
 //! - `entries`, `row`: all entries of a span, and of all spans from a point.
@@ -7,12 +9,15 @@
 ghost use Rattle.std.specs.Prelude.{◌≡◌, ◌≤◌, length, map, All, IfOk};
 ghost use Rattle.fare_trip.specs.Itinerary.{count};
 ghost use Rattle.fare_rules.specs.Numbers.{numbers};
+ghost use Rattle.fare_component.specs.Shared.{AreIndicators};
 ghost use Rattle.fare_component.specs.Table.{IsInBounds, entries_of, row_of};
 
+mod bases;
 mod candidates;
 mod cursor;
 mod entries;
 mod entry;
+mod indicators;
 mod row;
 
 pub use entries::MOST_ENTRIES;
@@ -20,6 +25,7 @@ pub use entry::Entry;
 use fare_outside::NoMemory;
 use fare_tariff::Edition;
 use fare_trip::Trip;
+use indicators::{Indicators, all_indicators};
 use row::Row;
 use std::alloc::Global;
 use std::marker::Model;
@@ -54,7 +60,8 @@ impl<'a> Table<'a> {
     ) -> Result<Table<'a>, NoMemory>
         ensures { IfOk result (λ table. table ≡ record { edition = edition.now; trip = trip.now }) }
     {
-        let rows = rows_of(alloc, edition, trip)?;
+        let indicators = all_indicators(edition, trip);
+        let rows = rows_of(alloc, edition, trip, &indicators)?;
         Ok(Table {
             edition,
             trip,
@@ -93,12 +100,18 @@ impl<'a> Table<'a> {
 
 /// The rows of all points but the last.
 #[tactic(auto, using(crate::proofs::TableLemmas::made_push))]
-fn rows_of(alloc: Global, edition: &Edition, trip: &Trip) -> Result<Vec<Row>, NoMemory>
+fn rows_of(
+    alloc: Global,
+    edition: &Edition,
+    trip: &Trip,
+    indicators: &Indicators,
+) -> Result<Vec<Row>, NoMemory>
+    requires { AreIndicators edition.now trip.now indicators.now.rows }
     ensures { IfOk result (λ rows. rows.items ≡ map (row_of edition.now trip.now) (numbers 0 (count trip.now))) }
 {
     let mut rows = Vec::new(alloc);
     for a in 0..trip.count() {
-        rows.push(Row::of(alloc, edition, trip, a)?)?;
+        rows.push(Row::of(alloc, edition, trip, indicators, a)?)?;
     }
     Ok(rows)
 }

@@ -1,12 +1,16 @@
-ghost use Rattle.std.specs.Prelude.{◌≡◌, ◌<◌, ◌≤◌, [], ◌∷◌, ◌++◌, length, All, IfOk, OnOk, if◌then◌else◌};
+ghost use Rattle.std.specs.Prelude.{◌≡◌, ◌<◌, ◌≤◌, [], ◌∷◌, ◌++◌, length, All, IfOk, OnOk, Some, if◌then◌else◌};
 ghost use Rattle.fare_trip.specs.Itinerary.{count};
+ghost use Rattle.fare_rules.specs.ComponentAmount.{span_surcharge};
+ghost use Rattle.fare_component.specs.Shared.{AreIndicators};
 ghost use Rattle.fare_component.specs.Table.{IsInBounds, entries_of, has_amount};
 
+use crate::conditions::span_surcharge;
 use crate::table::candidates::{all_candidates, candidates_past, first_candidate};
 use crate::table::entry::{Entry, entry_of};
+use crate::table::indicators::{Indicators, indicator_of};
 use crate::usable::is_plain;
 use fare_outside::NoMemory;
-use fare_points::indicator;
+use fare_rules::MOST_SURCHARGE;
 use fare_tariff::Edition;
 use fare_trip::Trip;
 use std::alloc::Global;
@@ -67,27 +71,53 @@ impl Entries {
     }
 }
 
-/// The entries of a span that can be a component: each fare between its ends for its indicator is tried.
-fn plain_entries(
+/// The entries of a span whose mileage asks for a surcharge: each fare between its ends for its indicator is tried.
+fn measured_entries(
     alloc: Global,
     edition: &Edition,
     trip: &Trip,
+    indicators: &Indicators,
     a: usize,
     b: usize,
+    step: u32,
 ) -> Result<Entries, NoMemory>
+    requires known { AreIndicators edition.now trip.now indicators.now.rows }
     requires rises { a < b }
     requires within { b ≤ count trip.now }
+    requires measured { span_surcharge edition.now trip.now a b ≡ Some step }
+    requires step { step ≤ MOST_SURCHARGE }
     ensures { IfOk result (λ entries. entries ≡ entries_of edition.now trip.now a b) }
 {
     let (from, to) = (trip.point(a), trip.point(b));
-    let ind = indicator(edition, trip, a, b);
+    let ind = indicator_of(indicators, edition, trip, a, b);
     let mut entries = Entries::new(alloc);
     let mut candidates = all_candidates(edition, from, to, ind);
     while let Some(number) = first_candidate(candidates) {
         candidates = candidates_past(edition, from, to, ind, candidates, number);
-        entries.keep(entry_of(edition, trip, a, b, number))?;
+        entries.keep(entry_of(edition, trip, indicators, a, b, step, number))?;
     }
     Ok(entries)
+}
+
+/// The entries of a span that can be a component: none where its mileage lets no fare be used.
+#[tactic(auto, using(crate::proofs::EntryLemmas::no_entries_unmeasured))]
+fn plain_entries(
+    alloc: Global,
+    edition: &Edition,
+    trip: &Trip,
+    indicators: &Indicators,
+    a: usize,
+    b: usize,
+) -> Result<Entries, NoMemory>
+    requires known { AreIndicators edition.now trip.now indicators.now.rows }
+    requires rises { a < b }
+    requires within { b ≤ count trip.now }
+    ensures { IfOk result (λ entries. entries ≡ entries_of edition.now trip.now a b) }
+{
+    match span_surcharge(edition, trip, a, b) {
+        None => Ok(Entries::new(alloc)),
+        Some(step) => measured_entries(alloc, edition, trip, indicators, a, b, step),
+    }
 }
 
 /// The entries of two points of a trip: those of the span, and none where they make no span.
@@ -95,14 +125,16 @@ pub(crate) fn entries_of(
     alloc: Global,
     edition: &Edition,
     trip: &Trip,
+    indicators: &Indicators,
     a: usize,
     b: usize,
 ) -> Result<Entries, NoMemory>
+    requires known { AreIndicators edition.now trip.now indicators.now.rows }
     requires within { b ≤ count trip.now }
     ensures { IfOk result (λ entries. entries ≡ entries_of edition.now trip.now a b) }
 {
     if a < b && is_plain(trip, a, b) {
-        plain_entries(alloc, edition, trip, a, b)
+        plain_entries(alloc, edition, trip, indicators, a, b)
     } else {
         Ok(Entries::new(alloc))
     }

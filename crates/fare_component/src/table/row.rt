@@ -1,8 +1,10 @@
 ghost use Rattle.std.specs.Prelude.{◌≡◌, ◌≤◌, [], length, slice_index_or, All, IfOk};
+ghost use Rattle.fare_component.specs.Shared.{AreIndicators};
 ghost use Rattle.fare_component.specs.Table.{IsInBounds, row_of};
 
 use crate::table::entries::{Entries, MOST_ENTRIES, entries_of};
 use crate::table::entry::Entry;
+use crate::table::indicators::Indicators;
 use fare_outside::NoMemory;
 use fare_tariff::Edition;
 use fare_trip::Trip;
@@ -31,14 +33,16 @@ impl Row {
         alloc: Global,
         edition: &Edition,
         trip: &Trip,
+        indicators: &Indicators,
         a: usize,
     ) -> Result<Row, NoMemory>
+        requires { AreIndicators edition.now trip.now indicators.now.rows }
         ensures { IfOk result
             (λ row. row ≡ row_of edition.now trip.now a) }
     {
         let mut spans = Vec::new(alloc);
         for b in 0..trip.count() + 1 {
-            spans.push(entries_of(alloc, edition, trip, a, b)?)?;
+            spans.push(entries_of(alloc, edition, trip, indicators, a, b)?)?;
         }
         Ok(Row { spans })
     }

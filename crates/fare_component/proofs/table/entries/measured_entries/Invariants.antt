@@ -2,7 +2,7 @@
 use Rattle.std.proofs.Common.{◌-◌}
 use Rattle.fare_component.specs.Candidates.{passed}
 use Rattle.fare_component.proofs.WalkLemmas.{IsWalked}
-use Rattle.fare_component.proofs.table.entries.plain_entries.Given as goal
+use Rattle.fare_component.proofs.table.entries.measured_entries.Given as goal
 
 abbrev pub invariant-loop-number : goal.invariant-loop-number
 invariant-loop-number l = IsWalked l.edition l.trip l.a l.b l.candidates l.entries
