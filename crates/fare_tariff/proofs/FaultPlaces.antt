@@ -9,7 +9,7 @@ use Rattle.fare_tariff.specs.declared.records.record.Record.{Record}
 use Rattle.fare_tariff.specs.declared.check.check_kind.CheckKind.{CheckKind}
 use Rattle.fare_tariff.specs.declared.check.check_fault.CheckFault.TheVariants.{At}
 use Rattle.fare_tariff.specs.Lookup.{number_at}
-use Rattle.fare_tariff.specs.Check.{kind_of, fault_at, first_fault, first_fault_from, is_one_too_many, is_out_of_limit}
+use Rattle.fare_tariff.specs.Check.{kind_of, fault_at, first_fault, first_fault_from, is_out_of_limit}
 use Rattle.fare_tariff.proofs.Chain.{tail_left}
 use Rattle.fare_tariff.proofs.Validity.{no_kind-parts}
 use Rattle.fare_tariff.specs.Faulty.{has_kind_at, fault_of, first_faulty}
@@ -19,10 +19,7 @@ some_unless : {A : Type 0} (o : Option A) → (o ≡ None → ⊥) → is_some o
 some_unless None h = absurd (h refl)
 some_unless (Some v) h = refl
 
--- a record with as many fares before it as there may be has a kind, and so has one out of the limit
-many_has_kind : (all earlier : List Record) (one : Record) → is_one_too_many earlier one ≡ true → is_some (kind_of all earlier one) ≡ true
-many_has_kind all earlier one h = some_unless _ (λ none. false≢true (sym (no_kind-parts all earlier one none).not_too_many ∙ h))
-
+-- a record out of the limit has a kind
 out_has_kind : (all earlier : List Record) (one : Record) → is_out_of_limit earlier ≡ true → is_some (kind_of all earlier one) ≡ true
 out_has_kind all earlier one h = some_unless _ (λ none. false≢true (sym (no_kind-parts all earlier one none).in_limit ∙ h))
 
@@ -32,9 +29,6 @@ at_place all place one within read = slice_get-get_or all place one within ∙ a
 
 pub kind_at : (all : List Record) (place : ℕ) (one : Record) → place < length all → one ≡ get_or all place one → has_kind_at all place ≡ is_some (kind_of all (take place all) one)
 kind_at all place one within read = ap (λ o. is_some (option_and_then (kind_of all (take place all)) o)) (at_place all place one within read)
-
-pub many_at : (all : List Record) (place : ℕ) (one : Record) → place < length all → one ≡ get_or all place one → is_one_too_many (take place all) one ≡ true → has_kind_at all place ≡ true
-many_at all place one within read h = kind_at all place one within read ∙ many_has_kind all (take place all) one h
 
 -- a list with a place has a record there
 some_at : (all : List Record) (place : ℕ) → place < length all → (one : Record) × (slice_get all place ≡ Some one)

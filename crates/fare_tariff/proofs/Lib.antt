@@ -4,6 +4,8 @@ pub mod Places
 pub mod Looks
 pub mod SameKind
 pub mod FaultPlaces
+pub mod Clashes
+pub mod KindTests
 pub mod Faults
 pub mod Validity
 pub mod CheckExamples

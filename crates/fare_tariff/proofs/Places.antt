@@ -11,22 +11,22 @@ use Rattle.fare_tariff.proofs.Chain.{found_from}
 use Rattle.fare_tariff.proofs.FoundFares.{count_cons, counted, not_counted, nth_at}
 
 -- a place that stands before another, and one that doesn't
-stands_before : (place first : ℕ) → first < place → before place (Some first) ≡ Some first
+pub stands_before : (place first : ℕ) → first < place → before place (Some first) ≡ Some first
 stands_before place first h = ap (λ t. cond t (Some first) None) (lt-ltb first place h)
 
 stands_behind : (place first : ℕ) → place ≤ first → before place (Some first) ≡ None
 stands_behind place first h = ap (λ t. cond t (Some first) None) (le-ltb first place h)
 
 -- no place from a place on stands before it
-none_before : (test : Record → Bool) (from : ℕ) (xs : List Record) (o : Option ℕ) → position_from test from xs ≡ o → before (from + 0) o ≡ None
-none_before test from xs None h = refl
-none_before test from xs (Some place) h = stands_behind (from + 0) place (omega (arith, (found_from test from xs place h).behind))
+pub none_from : (test : Record → Bool) (place from : ℕ) (xs : List Record) (o : Option ℕ) → place ≤ from → position_from test from xs ≡ o → before place o ≡ None
+none_from test place from xs None low h = refl
+none_from test place from xs (Some first) low h = stands_behind place first (omega (arith, (found_from test from xs first h).behind, low))
 
 -- a place in the front of a list is one in the list that stands before the front's end
 from_before : (test : Record → Bool) (from place : ℕ) (xs : List Record) → position_from test from (take place xs) ≡ before (from + place) (position_from test from xs)
 from_before test from zero [] = refl
 from_before test from (suc place) [] = refl
-from_before test from zero (x ∷ xs) = sym (none_before test from (x ∷ xs) (position_from test from (x ∷ xs)) refl)
+from_before test from zero (x ∷ xs) = sym (none_from test (from + 0) from (x ∷ xs) (position_from test from (x ∷ xs)) (omega arith) refl)
 from_before test from (suc place) (x ∷ xs) = go (test x) (from_before test (from + 1) place xs)
   where
     go : (t : Bool) → position_from test (from + 1) (take place xs) ≡ before (from + 1 + place) (position_from test (from + 1) xs) → cond t (Some from) (position_from test (from + 1) (take place xs)) ≡ before (from + suc place) (cond t (Some from) (position_from test (from + 1) xs))

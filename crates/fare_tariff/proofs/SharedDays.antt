@@ -24,7 +24,7 @@ or_cases true q h = inl refl
 or_cases false q h = inr h
 
 -- a season holds its first day
-holds_first : (a : Season) → season_holds a a.first ≡ true
+pub holds_first : (a : Season) → season_holds a a.first ≡ true
 unfolding season_holds
 holds_first a = own_first (place_in_year a.first) (place_in_year a.last)
 

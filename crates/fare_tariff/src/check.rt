@@ -2,6 +2,7 @@
 
 mod check_fault;
 mod check_kind;
+mod clash;
 mod keys;
 mod kind;
 mod names;

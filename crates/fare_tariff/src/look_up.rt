@@ -9,4 +9,4 @@ mod seek;
 pub(crate) use fares::{has_key, nth_place, number_at};
 pub(crate) use places::{city_record, currency_record};
 pub(crate) use rules::rule_record;
-pub(crate) use seek::{Sought, first_fare};
+pub(crate) use seek::{Sought, first_fare, is_sought};

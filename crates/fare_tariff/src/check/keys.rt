@@ -10,7 +10,7 @@ use crate::look_up::{Sought, first_fare, number_at};
 use crate::records::{FareKey, FareRec, Record};
 
 /// The key of a filed fare without its season.
-fn key_of(fare: &FareRec) -> FareKey
+pub(crate) fn key_of(fare: &FareRec) -> FareKey
     ensures { result ≡ key_of fare.now }
 {
     FareKey {

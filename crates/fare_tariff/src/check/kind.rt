@@ -2,10 +2,13 @@
 
 ghost use Rattle.std.specs.Prelude.{◌≡◌, ◌<◌, ◌≤◌, length, take, IfNone};
 ghost use Rattle.fare_tariff.specs.Check.{kind_of, first_fault};
-ghost use Rattle.fare_tariff.specs.Faulty.{has_kind_at, fault_of, first_faulty};
+ghost use Rattle.fare_tariff.specs.Faulty.{is_faulty, has_kind_at, fault_of, first_faulty};
 
+use crate::check::clash::clash_at;
 use crate::check::keys::{duplicate_of, overlap_of};
-use crate::check::names::{names_unknown_city, names_unknown_currency, names_unknown_rule};
+use crate::check::names::{
+    names_unknown, names_unknown_city, names_unknown_currency, names_unknown_rule,
+};
 use crate::check::numbers::{has_same_points, is_one_too_many, is_zero_mileage};
 use crate::check::{CheckFault, CheckKind};
 use crate::filed::Filed;
@@ -50,7 +53,16 @@ fn kind_of(filed: &Filed, place: usize, one: &Record) -> Option<CheckKind>
     overlap_of(filed, place, one).map(|first| CheckKind::Overlap(first))
 }
 
-/// Whether a record has a kind.
+/// Whether a record at a place in the limit has a kind.
+fn is_faulty(filed: &Filed, place: usize, one: &Record) -> bool
+    requires { place ≤ MOST_RECORDS }
+    ensures { result ≡ is_faulty filed.now (take place filed.now) one.now }
+{
+    clash_at(filed, place, one)
+        || (names_unknown(filed, one) || (has_same_points(one) || is_zero_mileage(one)))
+}
+
+/// Whether the record at a place has a kind.
 fn has_kind(filed: &Filed, place: usize) -> bool
     requires { place < length filed.now }
     ensures { result ≡ has_kind_at filed.now place }
@@ -58,8 +70,7 @@ fn has_kind(filed: &Filed, place: usize) -> bool
     if place >= MOST_RECORDS {
         return true;
     }
-    let one = &filed.records()[place];
-    is_one_too_many(filed, place, one) || kind_of(filed, place, one).is_some()
+    is_faulty(filed, place, &filed.records()[place])
 }
 
 /// The least place of a record that has a kind, sought on all processors.

@@ -5,6 +5,7 @@ ghost use Rattle.std.specs.List.{list_any};
 ghost use Rattle.std.specs.Option.{option_to_list};
 ghost use Rattle.fare_tariff.specs.Check.{is_unknown_city, is_one_unknown, names_unknown_city, is_unknown_rule};
 ghost use Rattle.fare_tariff.specs.Check.{names_unknown_rule, names_unknown_currency};
+ghost use Rattle.fare_tariff.specs.Faulty.{names_unknown};
 
 use crate::filed::Filed;
 use crate::look_up::{city_record, currency_record, rule_record};
@@ -77,4 +78,12 @@ pub(crate) fn names_unknown_currency(filed: &Filed, one: &Record) -> bool
         Record::City(r) => currency_record(filed, r.country).is_none(),
         _ => false,
     }
+}
+
+/// Whether a record names a city, a rule or a country that isn't filed.
+pub(crate) fn names_unknown(filed: &Filed, one: &Record) -> bool
+    ensures { result ≡ names_unknown filed.now one.now }
+{
+    names_unknown_city(filed, one)
+        || (names_unknown_rule(filed, one) || names_unknown_currency(filed, one))
 }

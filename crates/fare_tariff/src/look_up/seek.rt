@@ -22,7 +22,7 @@ pub(crate) enum Sought {
 }
 
 /// Whether a record files a fare that has a key and is sought.
-fn is_sought(key: &FareKey, sought: &Sought, one: &Record) -> bool
+pub(crate) fn is_sought(key: &FareKey, sought: &Sought, one: &Record) -> bool
     ensures { result ≡ is_sought key.now sought.now one.now }
 {
     match one {
