@@ -1,0 +1,5 @@
+pub mod ArrivalLemmas
+pub mod GatherLemmas
+pub mod ViewLemmas
+pub mod AnswerLemmas
+pub mod RoundLemmas

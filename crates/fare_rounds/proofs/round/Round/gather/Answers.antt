@@ -1,0 +1,46 @@
+use Rattle.std.proofs.Common.{◌≡◌, ◌<◌, ◌⊎◌, Bool, true, false, length, List, ℕ, refl, sym, ◌∙◌, arith, append-nil, add-zero}
+use Rattle.std.specs.Bool.{OnFalse}
+use Rattle.fare_outside.specs.Cause.{Rose}
+use Rattle.fare_http.specs.Serving.{BringsTooLittle}
+use Rattle.fare_rounds.specs.Taking.{cut_off, held}
+use Rattle.fare_rounds.proofs.ArrivalLemmas.{entry-brought, no-entry}
+use Rattle.fare_rounds.proofs.round.Round.gather.Goals as goal
+
+-- a row that isn't full takes one connection more
+has-room : (answer : Bool) (places : List ℕ) → length places < 8 → OnFalse answer (length places ≡ 8) → answer ≡ true
+has-room true places few full = refl
+has-room false places few full = absurd (omega (arith, full, few))
+
+pub returns-in-Some-clause-taken : goal.returns-in-Some-clause-taken
+returns-in-Some-clause-taken g c =
+    let read = c.read_request.ensures in
+    let door = c.read_request.new.door in
+    let few : length (g.D.Door.held door) < 8 = rw read.held c.requires.held in
+    let answered = has-room c.hold.result (g.D.Door.held door) few c.hold.ensures.full in
+    let is = sym c.in-Some.is ∙ c.of.ensures in
+    let seen = c.self.view_is in
+    record {
+      arrival = held (g.D.Door.left c.args.door.now) c.in-Some.entry;
+      connection = refl;
+      held = rw (answered, read.held, read.current) at c.hold.ensures.held;
+      read = entry-brought c.read_request.result c.in-Some.entry _ _ read.whole read.fixed is;
+      entries = rw (sym seen) c.push.ensures.items;
+      cut = rw (sym seen, add-zero) refl;
+    }
+
+pub returns-in-None-clause-taken : goal.returns-in-None-clause-taken
+returns-in-None-clause-taken g c =
+    let read = c.read_request.ensures in
+    let closed = c.close.ensures in
+    let is = sym c.in-None.is ∙ c.of.ensures in
+    let seen = c.self.view_is in
+    let why : BringsTooLittle (g.D.Door.left c.args.door.now) ⊎ Rose (g.D.Door.cuts c.args.door.now) (g.D.Door.cuts c.close.new.self) =
+    rw closed.cuts (no-entry c.read_request.result _ _ _ read.cut is) in
+    record {
+      arrival = cut_off (g.D.Door.left c.args.door.now);
+      connection = refl;
+      held = closed.held ∙ read.held ∙ sym (append-nil (g.D.Door.held c.args.door.now));
+      read = why;
+      entries = rw (sym seen, append-nil) refl;
+      cut = rw (sym seen) refl;
+    }

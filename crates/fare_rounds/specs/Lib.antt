@@ -1,0 +1,4 @@
+pub mod Entries
+pub mod Taking
+pub mod Finishing
+pub mod Rounds
