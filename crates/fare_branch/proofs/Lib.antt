@@ -8,3 +8,5 @@ pub mod CostLemmas
 pub mod EntryLemmas
 pub mod LegLemmas
 pub mod FloorLemmas
+pub mod SameLemmas
+pub mod ShutLemmas
