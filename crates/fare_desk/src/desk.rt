@@ -33,7 +33,8 @@ impl<'k, P: Keeper, Q: Quoter + Drop> Desk<'k, P, Q> {
     ghost use Rattle.std.specs.Result.{result_ok};
     ghost use Rattle.fare_desk.specs.Publishing.{IsPublication, state};
 
-    /// A desk over a book and a keeper that is ready.
+    /// A desk over a book and a keeper that is ready. A caller that has to know what the keeper is after a refusal makes
+    /// the routes first, and then a desk by `over`.
     pub fn new<R: Threads + Sync>(
         _rt: &R,
         alloc: Global,
@@ -47,12 +48,36 @@ impl<'k, P: Keeper, Q: Quoter + Drop> Desk<'k, P, Q> {
         ensures same_reference { IfOk result (λ desk. desk.keeper.ghost_name ≡ keeper.entry.ghost_name) }
     {
         let routes = Routes::new(alloc)?;
-        Ok(Desk {
+        Ok(Desk::over(routes, book, keeper, quoter))
+    }
+
+    /// The same with routes that were made before. It takes no memory.
+    pub fn over(routes: Routes, book: Book, keeper: &'k mut P, quoter: Q) -> Desk<'k, P, Q>
+        requires { IsTrue (P.ready keeper.old) }
+        ensures book { result.book ≡ book }
+        ensures keeper { result.keeper.now ≡ keeper.old }
+        ensures same_reference { result.keeper.ghost_name ≡ keeper.entry.ghost_name }
+    {
+        Desk {
             book,
             keeper,
             quoter,
             routes,
-        })
+        }
+    }
+
+    /// The keeper, handed back: the one that was lent, as the desk leaves it.
+    pub fn into_keeper(self) -> &'k mut P
+        ensures value { result.now ≡ self.entry.keeper.now }
+        ensures same_reference { result.ghost_name ≡ self.entry.keeper.ghost_name }
+    {
+        let Desk {
+            book: _book,
+            keeper,
+            quoter: _quoter,
+            routes: _routes,
+        } = self;
+        keeper
     }
 
     /// Its book.

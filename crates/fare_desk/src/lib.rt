@@ -1,9 +1,14 @@
-//! The desk: what a book of published editions answers to a trip. The quotation of a trip is defined in `specs/`
-//! (`Quotation`): the answer text of the best construction in the edition that the sale day selects.
+//! The desk: what a book of published editions answers to a trip, and to the requests of clients. The quotation of a trip
+//! is defined in `specs/` (`Quotation`): the answer text of the best construction in the edition that the sale day selects.
+//! So are the routes of requests (`Routes`), what is answered without a change (`Viewing`), and what a desk does
+//! (`Publishing`).
 //!
-//! - `quote_fault`: why a trip isn't quoted;
-//! - `quoting`: the text of a quotation;
-//! - `list`: the text that lists the editions of a book, which is defined in `specs/` (`List`).
+//! - `quote_fault`, `quoting`: the text of a quotation, or why a trip isn't quoted;
+//! - `list`: the text that lists the editions of a book, which is defined in `specs/` (`List`);
+//! - `routes`: the routes of requests; `replies`: replies of one line;
+//! - `editions`, `quotes`, `batch`: the replies that show editions, to a trip, and to a batch of them;
+//! - `front`: what is answered without a change; `publishing`: the reply to a publication;
+//! - `desk`: the desk itself, over a book and the keeper of its bodies.
 #![tactic(auto)]
 
 mod batch;
@@ -25,5 +30,7 @@ pub use quote_fault::QuoteFault;
 pub use quoting::quote_text;
 pub use routes::{Route, Routes};
 
+#[cfg(test)]
+mod desk_tests;
 #[cfg(test)]
 mod tests;
