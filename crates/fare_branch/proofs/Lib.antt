@@ -9,3 +9,5 @@ pub mod EntryLemmas
 pub mod LegLemmas
 pub mod FloorLemmas
 pub mod WholeLemmas
+pub mod SameLemmas
+pub mod ShutLemmas

@@ -1,10 +1,12 @@
 -- What parts cost at least, part by part and unit by unit.
-use Rattle.std.specs.Prelude.{ℕ, List, Option, Some, None, sum_by}
+use Rattle.std.specs.Prelude.{ℕ, List, Option, Some, None, sum_by, if◌then◌else◌}
 use Rattle.fare_trip.specs.Itinerary.{Itinerary}
 use Rattle.fare_tariff.specs.Tariff.{Tariff}
 use Rattle.fare_rules.specs.declared.part.Part.{Part}
 use Rattle.fare_rules.specs.Construction.{start_of, end_of, part_at, own, units}
 use Rattle.fare_component.specs.Table.{entry_of}
+use Rattle.fare_rules.specs.UnitPrice.{unit_price}
+use Rattle.fare_units.specs.Shut.{is_shut}
 use Rattle.fare_bounds.specs.Covers.{least_cost}
 
 -- an amount, 0 where there is none
@@ -25,6 +27,12 @@ part_least tariff trip parts k =
 abbrev pub unit_least : Tariff → Itinerary → List Part → ℕ → ℕ
 unit_least tariff trip parts unit = sum_by (part_least tariff trip parts) (own parts unit)
 
+-- what a unit costs at least: its price where it is shut, and else what its parts cost at least
+abbrev pub unit_floor : Tariff → Itinerary → List Part → ℕ → ℕ
+unit_floor tariff trip parts unit =
+    if is_shut tariff trip parts (own parts unit) then unit_price tariff trip parts unit
+    else unit_least tariff trip parts unit
+
 -- what units cost at least
-abbrev pub units_least : Tariff → Itinerary → List Part → ℕ
-units_least tariff trip parts = sum_by (unit_least tariff trip parts) (units parts)
+abbrev pub units_floor : Tariff → Itinerary → List Part → ℕ
+units_floor tariff trip parts = sum_by (unit_floor tariff trip parts) (units parts)

@@ -1,10 +1,11 @@
 -- Floors: what a list of parts costs at least, over all its completions.
-use Rattle.std.specs.Prelude.{◌≡◌, ℕ, ◌+◌, ◌≤◌, Bool, nat_lt, nat_le, ◌&&◌, List, ◌∷◌, [], ◌++◌, Option, Some, None}
+use Rattle.std.specs.Prelude.{◌≡◌, ℕ, ◌+◌, ◌≤◌, Bool, true, nat_lt, nat_le, ◌&&◌, List, ◌∷◌, [], ◌++◌, Option, Some, None}
 use Rattle.fare_trip.specs.Itinerary.{Itinerary, count}
 use Rattle.fare_tariff.specs.Tariff.{Tariff}
 use Rattle.fare_rules.specs.declared.part.Part.{Part}
 use Rattle.fare_rules.specs.Completion.{IsCompletion}
-use Rattle.fare_rules.specs.Construction.{greatest_unit, places}
+use Rattle.fare_rules.specs.Construction.{greatest_unit, places, own}
+use Rattle.fare_units.specs.Shut.{is_shut}
 use Rattle.fare_units.specs.Walk.{IsFront, next_start}
 use Rattle.fare_component.specs.Table.{Pricing}
 
@@ -37,3 +38,9 @@ may_follow trip first part =
 abbrev pub IsNext : Pricing → List Part → Part → Option (List Part) → Type 0
 IsNext table first part None = HasNoCompletion table.edition table.trip (first ++ part ∷ [])
 IsNext table first part (Some longer) = (longer ≡ first ++ part ∷ []) × IsMadeWith table longer
+
+-- no unit of some parts is open: each is shut
+abbrev pub HasNoOpenUnit : Tariff → Itinerary → List Part → Type 0
+HasNoOpenUnit tariff trip parts =
+    (unit : ℕ) → 1 ≤ unit → unit ≤ greatest_unit parts (places parts)
+    → is_shut tariff trip parts (own parts unit) ≡ true

@@ -7,12 +7,12 @@ ghost use Rattle.fare_component.specs.Table.{IsInBounds};
 ghost use Rattle.fare_units.specs.Advance.{Advances};
 ghost use Rattle.fare_units.specs.Places.{IsPlace};
 ghost use Rattle.fare_bounds.specs.Covers.{least_cost};
-ghost use Rattle.fare_branch.specs.Costs.{or_nothing, fare_least, part_least, unit_least, units_least};
+ghost use Rattle.fare_branch.specs.Costs.{or_nothing, fare_least, part_least, unit_least, unit_floor, units_floor};
 
 use fare_bounds::{COST_LIMIT, least_cost};
 use fare_component::{Entry, Table};
 use fare_rules::Part;
-use fare_units::{MOST_PARTS, part_at, start_of};
+use fare_units::{MOST_PARTS, part_at, shut_price, start_of};
 
 /// What a unit costs at least is no more than this: as much as `MOST_PARTS` parts.
 pub(crate) const UNIT_LIMIT: u64 = 32_000_000_000;
@@ -78,19 +78,33 @@ fn unit_least(table: &Table, parts: &[Part], unit: usize) -> u64
     total
 }
 
+/// What a unit costs at least: its price where no part can come to it any more, and else what its parts cost at least.
+#[tactic(auto, using(crate::proofs::ShutLemmas::floor_of_shut, crate::proofs::ShutLemmas::floor_of_open))]
+fn unit_floor(table: &Table, parts: &[Part], unit: usize) -> u64
+    requires advances { Advances table.now.trip parts.now }
+    requires few { length parts.now ≤ MOST_PARTS }
+    ensures value { result ≡ unit_floor table.now.edition table.now.trip parts.now unit }
+    ensures bound { result ≤ UNIT_LIMIT }
+{
+    match shut_price(table.edition(), table.trip(), parts, unit) {
+        None => unit_least(table, parts, unit),
+        Some(price) => price,
+    }
+}
+
 /// What some parts cost at least, whose greatest unit is given.
 #[tactic(auto, using(fare_rules::proofs::NumberLemmas::sum_next, fare_rules::proofs::NumberLemmas::sum_done))]
-pub(crate) fn units_least(table: &Table, parts: &[Part], greatest: usize) -> u64
+pub(crate) fn units_floor(table: &Table, parts: &[Part], greatest: usize) -> u64
     requires advances { Advances table.now.trip parts.now }
     requires few { length parts.now ≤ MOST_PARTS }
     requires greatest { greatest ≡ greatest_unit parts.now (places parts.now) }
     requires few_units { greatest ≤ MOST_PARTS }
-    ensures value { result ≡ units_least table.now.edition table.now.trip parts.now }
+    ensures value { result ≡ units_floor table.now.edition table.now.trip parts.now }
     ensures bound { result ≤ 16 * UNIT_LIMIT }
 {
     let mut total = 0;
     for unit in 1..greatest + 1 {
-        total += unit_least(table, parts, unit);
+        total += unit_floor(table, parts, unit);
     }
     total
 }

@@ -1,10 +1,12 @@
 //! What first parts cost at least, with all that may follow.
 
-ghost use Rattle.std.specs.Prelude.{◌≡◌, option_map, ◌+◌};
-ghost use Rattle.fare_bounds.specs.Covers.{AreRests};
-ghost use Rattle.fare_branch.specs.Floors.{IsMadeWith, IsFloorAnswer};
+ghost use Rattle.std.specs.Prelude.{◌≡◌, ◌+◌, length, option_map};
+ghost use Rattle.fare_rules.specs.Construction.{end_of};
+ghost use Rattle.fare_rules.specs.UnitPrice.{price};
+ghost use Rattle.fare_bounds.specs.Covers.{AreRests, rest_at};
+ghost use Rattle.fare_branch.specs.Floors.{IsMadeWith, IsFloorAnswer, HasNoOpenUnit};
 
-use crate::costs::units_least;
+use crate::costs::units_floor;
 use crate::partial::Partial;
 use fare_bounds::Rest;
 use fare_component::Table;
@@ -13,11 +15,16 @@ use fare_component::Table;
 pub fn floor_of(table: &Table, rest: &Rest, partial: &Partial) -> Option<u64>
     requires rest { AreRests table.now.edition table.now.trip rest.now }
     requires made { IsMadeWith table.now partial.now }
-    ensures { IsFloorAnswer table.now.edition table.now.trip partial.now result }
+    ensures floor { IsFloorAnswer table.now.edition table.now.trip partial.now result }
+
+    // Where no unit is open it is the price of the units and the least rest behind them.
+    ensures shut { HasNoOpenUnit table.now.edition table.now.trip partial.now
+        → result ≡ option_map (λ least. price table.now.edition table.now.trip partial.now + least)
+        (rest_at rest.now (end_of partial.now (length partial.now))) }
 {
     let trip = table.trip();
     trip.law();
-    let spent = units_least(table, partial.parts(), partial.greatest_unit());
+    let spent = units_floor(table, partial.parts(), partial.greatest_unit());
     match rest.from_point(partial.end()) {
         None => None,
         Some(least) => Some(spent + least),

@@ -1,14 +1,17 @@
 -- What is kept of the numbers of a range, and how it stands in order.
 use Rattle.std.proofs.Common.{◌≡◌, refl, ℕ, zero, suc, ◌+◌, ◌-◌, ◌<◌, ◌≤◌, Bool, true, false, cond, ◌⊎◌, List, [], ◌∷◌, length, get_or, ap, sym, subst, ◌∙◌, arith, inl, inr}
-use Rattle.std.specs.Prelude.{Option, Some, None, AllPairs, Contains, option_and_then, filter_map, slice_get, nat_le}
-use Rattle.std.specs.List.{range_with_len}
-use Rattle.std.proofs.lemmas.Bool.{cases_Bool, cases_eq, and_parts, or_cases, ltb-true, leb-true}
+use Rattle.std.specs.Prelude.{Option, Some, None, AllPairs, Contains, option_and_then, filter_map, is_some, slice_get, nat_le}
+use Rattle.std.specs.List.{list_any, range_with_len}
+use Rattle.std.proofs.lemmas.Bool.{cases_Bool, cases_eq, and_parts, or_cases, or_left, or_right, false≢true, ltb-true, leb-true}
 use Rattle.std.proofs.lemmas.Option.{none-some, cond_some, slice_get_within, option_and_then_some}
-use Rattle.fare_trip.specs.Itinerary.{Itinerary, count}
+use Rattle.std.proofs.lemmas.Slice.Eq.{bytes_eq-Decides}
+use Rattle.fare_trip.specs.Itinerary.{Itinerary, count, point}
 use Rattle.fare_tariff.specs.Record.{FareRecord}
 use Rattle.fare_tariff.specs.Tariff.{Tariff}
 use Rattle.fare_tariff.specs.Lookup.{fare_at, fare_in, number_at}
 use Rattle.fare_rules.specs.Numbers.{numbers}
+use Rattle.fare_rules.specs.ComponentAmount.{component_amount, is_repeated, is_same_city, repeats_city, runs_between}
+use Rattle.fare_rules.proofs.RuleLemmas.{usable_from_amount}
 use Rattle.fare_component.specs.declared.table.entry.Entry.{Entry}
 use Rattle.fare_component.specs.Table.{ComesBefore, IsEntry, entries_of, entry_at, entry_of, has_amount, is_span}
 use Rattle.fare_component.proofs.EntryLemmas.{amount_of_fare, entries_of_span, no_entries_beyond, option_cases}
@@ -164,4 +167,56 @@ entries_in_order tariff trip a b =
           let e = entries_of_span tariff trip a b (ltb-true a b ends.0) (leb-true b (count trip) ends.1) in
           rw e (λ i j other less h. kept_rise (entry_at tariff trip a b) (of_its_number tariff trip a b) 2 (number_at (length tariff.records) - 2) i j other less h)
       | inr none ↦ rw (no_entries_beyond tariff trip a b none) (λ i j other less h. absurd (omega arith))
+    ]
+
+-- a test that a number of a range passes is passed in the range
+any_at : (test : ℕ → Bool) (first n k : ℕ) → first ≤ k → k < first + n → test k ≡ true
+    → list_any test (range_with_len first n) ≡ true
+any_at test first zero k low high e = absurd (omega arith)
+any_at test first (suc n) k low high e =
+    elim (cases_eq k first) [
+      | inl same ↦ or_left (test first) (list_any test (range_with_len (first + 1) n)) (subst (λ i. test i ≡ true) same e)
+      | inr other ↦ or_right (test first) (list_any test (range_with_len (first + 1) n)) (any_at test (first + 1) n k (omega arith) (omega arith) e)
+    ]
+
+-- a span whose ends are one city repeats it
+repeats_end : (trip : Itinerary) (a b : ℕ) → a < b → is_same_city trip b a ≡ true → repeats_city trip a b ≡ true
+unfolding repeats_city
+repeats_end trip a b rises same =
+    any_at (is_repeated trip a) a ((b + 1) - a) b (omega arith) (omega arith)
+    (any_at (is_same_city trip b) a (b - a) a (omega arith) (omega arith) same)
+
+-- a fare that may be used in both directions runs from both ends of its span
+from_one_end : (trip : Itinerary) (a b : ℕ) (fare : FareRecord) → runs_between trip a b false fare ≡ true
+    → runs_between trip a b true fare ≡ true → point trip b ≡ point trip a
+unfolding runs_between
+from_one_end trip a b fare out back =
+    sym ((bytes_eq-Decides fare.from (point trip b)).0 (and_parts _ _ back).0)
+    ∙ (bytes_eq-Decides fare.from (point trip a)).0 (and_parts _ _ out).0
+
+-- so no fare has an amount in both directions
+not_both : (tariff : Tariff) (trip : Itinerary) (a b number : ℕ) → a < b
+    → is_some (component_amount tariff trip a b number false) ≡ true
+    → is_some (component_amount tariff trip a b number true) ≡ true → ⊥
+not_both tariff trip a b number rises out back =
+    let found = amount_of_fare tariff trip a b number false out in
+    let there = usable_from_amount tariff trip a b number false found.0 found.1 out in
+    let home = usable_from_amount tariff trip a b number true found.0 found.1 back in
+    let one = from_one_end trip a b found.0 there.pair home.pair in
+    let same = (bytes_eq-Decides (point trip b) (point trip a)).1 one in
+    false≢true (sym there.distinct ∙ repeats_end trip a b rises same)
+
+-- an entry has an amount in one direction alone
+pub entry_has_one_direction : (tariff : Tariff) (trip : Itinerary) (a b : ℕ) (entry : Entry)
+    → Contains (entries_of tariff trip a b) entry → (entry.out ≡ None) ⊎ (entry.back ≡ None)
+entry_has_one_direction tariff trip a b entry there =
+    let of = entry_is_of_fare tariff trip a b entry there in
+    let out = ap (λ (x : Entry). x.out) of.whole in
+    let back = ap (λ (x : Entry). x.back) of.whole in
+    elim (option_cases (component_amount tariff trip a b entry.fare false)) [
+      | inl none ↦ inl (out ∙ none)
+      | inr found ↦ elim (option_cases (component_amount tariff trip a b entry.fare true)) [
+        | inl none ↦ inr (back ∙ none)
+        | inr other ↦ absurd (not_both tariff trip a b entry.fare of.rises (ap is_some found.1) (ap is_some other.1))
+      ]
     ]

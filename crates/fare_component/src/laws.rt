@@ -1,6 +1,6 @@
 //! What follows of the entries of a table, with nothing to run.
 
-ghost use Rattle.std.specs.Prelude.{◌≡◌, ◌<◌, ◌≤◌, ℕ, true, AllPairs, Contains};
+ghost use Rattle.std.specs.Prelude.{◌≡◌, ◌<◌, ◌≤◌, ◌⊎◌, ℕ, true, None, AllPairs, Contains};
 ghost use Rattle.fare_trip.specs.Itinerary.{Itinerary, count};
 ghost use Rattle.fare_tariff.specs.Tariff.{Tariff};
 ghost use Rattle.fare_component.specs.declared.table.entry.Entry.{Entry};
@@ -17,6 +17,13 @@ pub fn fares_with_amounts_are_entries()
 pub fn entries_are_of_fares()
     ensures { (tariff : Tariff) (trip : Itinerary) (a b : ℕ) (entry : Entry) → Contains (entries_of tariff trip a b) entry
         → IsEntry tariff trip a b entry }
+{}
+
+/// An entry has an amount in one direction alone, since its fare runs from one end of the span and no city stands twice
+/// in it.
+pub fn entries_have_one_direction()
+    ensures { (tariff : Tariff) (trip : Itinerary) (a b : ℕ) (entry : Entry) → Contains (entries_of tariff trip a b) entry
+        → (entry.out ≡ None) ⊎ (entry.back ≡ None) }
 {}
 
 /// The entries of a span stand in record order, so no fare is one of them twice.

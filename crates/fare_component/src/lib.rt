@@ -16,5 +16,7 @@ mod usable;
 
 pub use amounts::applicable;
 pub use fare_rules::Amount;
-pub use laws::{entries_are_of_fares, entries_rise, fares_with_amounts_are_entries};
+pub use laws::{
+    entries_are_of_fares, entries_have_one_direction, entries_rise, fares_with_amounts_are_entries,
+};
 pub use table::{Entry, MOST_ENTRIES, Table};

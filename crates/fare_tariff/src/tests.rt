@@ -287,7 +287,7 @@ fn town(rt: &impl Abort, at: u64) -> City {
 }
 
 /// The permitted miles of one of 62,500 pairs of the cities, by five indicators in turn.
-fn miles_of(rt: &impl Abort, at: u64, miles: u32) -> Record {
+fn miles_of(rt: &impl Abort, at: u64, miles: u16) -> Record {
     Record::Mpm(MileRec {
         from: town(rt, at / 5 % 250),
         to: town(rt, 250 + at / 1_250 % 250),
@@ -298,14 +298,14 @@ fn miles_of(rt: &impl Abort, at: u64, miles: u32) -> Record {
             3 => Indicator::PA,
             _ => Indicator::AP,
         },
-        miles,
+        miles: u32::from(miles),
     })
 }
 
 /// A long list whose first and last records state these miles.
 fn long_list(rt: &impl Abort, alloc: Global, first: u16, last: u16) -> Result<Vec<Record>, Fail> {
     let mut records = Vec::with_capacity(alloc, LONG)?;
-    records.push(miles_of(rt, 0, u32::from(first)))?;
+    records.push(miles_of(rt, 0, first))?;
     records.push(currency(rt, *b"GB"))?;
     for at in 0..500u64 {
         records.push(Record::City(CityRec {
@@ -317,7 +317,7 @@ fn long_list(rt: &impl Abort, alloc: Global, first: u16, last: u16) -> Result<Ve
     for at in 1..200_197u64 {
         records.push(miles_of(rt, at, 1))?;
     }
-    records.push(miles_of(rt, 200_197, u32::from(last)))?;
+    records.push(miles_of(rt, 200_197, last))?;
     Ok(records)
 }
 

@@ -11,4 +11,5 @@ pub mod CircleSteps
 pub mod PriceSteps
 pub mod UnitLemmas
 pub mod PricedLemmas
+pub mod ShutLemmas
 pub mod FirstParts

@@ -7,6 +7,7 @@ use Rattle.fare_tariff.specs.Tariff.{Tariff}
 use Rattle.fare_rules.specs.declared.part.Part.{Part}
 use Rattle.fare_rules.specs.Construction.{but_last}
 use Rattle.fare_rules.specs.Shape.{is_chained, follows, is_jaw}
+use Rattle.fare_units.specs.Shut.{has_gap_before}
 
 -- what is left of a list begins with the element at the place
 one_left : (own : List ℕ) (i : ℕ) → i < length own → drop i own ≡ get_or own i 0 ∷ drop (i + 1) own
@@ -50,6 +51,18 @@ jaw_of_two tariff trip parts [] h = absurd (omega arith)
 jaw_of_two tariff trip parts (k ∷ []) h = absurd (omega arith)
 jaw_of_two tariff trip parts (k ∷ next ∷ []) h = refl
 jaw_of_two tariff trip parts (k ∷ next ∷ third ∷ rest) h = absurd (omega arith)
+
+pub gap_before_two : (tariff : Tariff) (trip : Itinerary) (parts : List Part) (own : List ℕ) → length own ≡ 2 → has_gap_before tariff trip parts own ≡ has_gap_before tariff trip parts (slice_index own 0 ∷ slice_index own 1 ∷ [])
+gap_before_two tariff trip parts [] h = absurd (omega arith)
+gap_before_two tariff trip parts (k ∷ []) h = absurd (omega arith)
+gap_before_two tariff trip parts (k ∷ next ∷ []) h = refl
+gap_before_two tariff trip parts (k ∷ next ∷ third ∷ rest) h = absurd (omega arith)
+
+pub gap_before_others : (tariff : Tariff) (trip : Itinerary) (parts : List Part) (own : List ℕ) → (length own ≡ 2 → ⊥) → has_gap_before tariff trip parts own ≡ false
+gap_before_others tariff trip parts [] h = refl
+gap_before_others tariff trip parts (k ∷ []) h = refl
+gap_before_others tariff trip parts (k ∷ next ∷ []) h = absurd (h refl)
+gap_before_others tariff trip parts (k ∷ next ∷ third ∷ rest) h = refl
 
 -- and no other one is an open jaw
 pub jaw_of_others : (tariff : Tariff) (trip : Itinerary) (parts : List Part) (own : List ℕ) → (length own ≡ 2 → ⊥) → is_jaw tariff trip parts own ≡ false

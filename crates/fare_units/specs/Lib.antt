@@ -10,4 +10,5 @@ pub mod Places
 pub mod Tests
 pub mod Breaks
 pub mod Turning
+pub mod Shut
 pub mod Walk

@@ -27,6 +27,7 @@ pub use prices::circle::circle_minimum;
 pub use prices::price::MOST_UNIT_PRICE;
 pub use prices::priced::{first_parts_advance, lawful_price, price_is_of_unbroken};
 pub use prices::sheet::{unit_count, unit_sheet};
+pub use prices::shut::shut_price;
 
 #[cfg(test)]
 mod tests;

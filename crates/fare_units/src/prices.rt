@@ -4,3 +4,4 @@ pub(crate) mod circle;
 pub(crate) mod price;
 pub(crate) mod priced;
 pub(crate) mod sheet;
+pub(crate) mod shut;

@@ -2,4 +2,5 @@ mod answers;
 mod calls;
 mod parts;
 mod spans;
+mod tables;
 mod texts;

@@ -1,6 +1,7 @@
 //! The program over objects in memory: what it writes and ends in for sources known from outside.
 
 mod cases;
+mod stores;
 mod tariffs;
 
 use crate::exit::Exit;
@@ -14,8 +15,8 @@ use cases::refusals::REFUSALS;
 use cases::units::UNITS;
 use cases::{Quotation, Refusal};
 use fare_outside::{
-    Bodies, MemSink, MemSource, OpenGate, PlainDoor, PlainKeeper, PlainSink, PlainSource, Sink,
-    Source,
+    Bodies, Keeper, MemSink, MemSource, OpenGate, PlainDoor, PlainKeeper, PlainSink, PlainSource,
+    Sink, Source,
 };
 use std::alloc::Global;
 use std::process::Abort;
@@ -31,11 +32,23 @@ fn ended<R: Threads + Sync, S: Source, K: Sink>(
     source: &mut S,
     sink: &mut K,
 ) -> Result<Exit, Fail> {
+    let mut store = PlainKeeper::new(Bodies::new(alloc));
+    ended_over(rt, alloc, words, source, sink, &mut store)
+}
+
+/// Runs words over a source, a sink and a store, with a door that holds nothing.
+fn ended_over<R: Threads + Sync, S: Source, K: Sink, P: Keeper>(
+    rt: &R,
+    alloc: Global,
+    words: &[&str],
+    source: &mut S,
+    sink: &mut K,
+    store: &mut P,
+) -> Result<Exit, Fail> {
     let mut owned = Vec::new(alloc);
     for word in words {
         owned.push(String::from_str(alloc, word)?)?;
     }
-    let mut store = PlainKeeper::new(Bodies::new(alloc));
     let mut door = PlainDoor::new();
     Ok(run(
         rt,
@@ -43,7 +56,7 @@ fn ended<R: Threads + Sync, S: Source, K: Sink>(
         owned.as_slice(),
         source,
         sink,
-        &mut store,
+        store,
         &mut door,
         &OpenGate,
     ))
@@ -186,6 +199,7 @@ fn other_words_are_not_taken(rt: HostRuntime) -> Result<(), Fail> {
 fn missing_commands_and_options_are_told(rt: HostRuntime) -> Result<(), Fail> {
     let alloc = rt.alloc();
     assert!(rt; status_of(&rt, alloc, &["migrate", "--store", "editions"])? == 30);
+    assert!(rt; status_of(&rt, alloc, &["quote", "--store", "editions", "--best", "2"])? == 30);
     assert!(rt; status_of(&rt, alloc, &["price", "--best=3"])? == 30);
     Ok(())
 }

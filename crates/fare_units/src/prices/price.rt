@@ -198,7 +198,7 @@ pub(crate) fn sheet_of(edition: &Edition, trip: &Trip, parts: &[Part], own: &[us
 }
 
 /// The price of a unit.
-fn unit_price(edition: &Edition, trip: &Trip, parts: &[Part], unit: usize) -> u64
+pub(crate) fn unit_price(edition: &Edition, trip: &Trip, parts: &[Part], unit: usize) -> u64
     requires few { length parts.now ≤ MOST_PARTS }
     requires advances { Advances trip.now parts.now }
     requires some { 1 ≤ length (own parts.now unit) }

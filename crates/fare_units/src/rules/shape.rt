@@ -5,6 +5,7 @@ ghost use Rattle.fare_rules.specs.Construction.{origin};
 ghost use Rattle.fare_rules.specs.Shape.{follows, is_chained, ends_in, comes_home, comes_home_early, ends_at_home};
 ghost use Rattle.fare_rules.specs.Shape.{closes, is_only_gap, is_jaw, is_open_jaw, must_close, holds_ow};
 ghost use Rattle.fare_units.specs.Advance.{EndsWithin};
+ghost use Rattle.fare_units.specs.Shut.{has_gap_before};
 
 use crate::parts::countries::lie_together;
 use crate::parts::fares::{holds_ow, is_hr};
@@ -123,6 +124,30 @@ pub(crate) fn is_open_jaw(edition: &Edition, trip: &Trip, parts: &[Part], own: &
         return false;
     }
     is_jaw(edition, trip, parts, own[0], own[1])
+}
+
+/// Whether a unit of just these two parts is an open jaw whose gap lies between them.
+fn is_gap_before(edition: &Edition, trip: &Trip, parts: &[Part], k: usize, next: usize) -> bool
+    requires ends { EndsWithin trip.now parts.now }
+    ensures { result ≡ has_gap_before edition.now trip.now parts.now (k ∷ next ∷ []) }
+{
+    let away = start_city(trip, parts, k);
+    let reached = end_city(trip, parts, k);
+    let left = start_city(trip, parts, next);
+    let home = end_city(trip, parts, next);
+    is_only_gap(edition, reached, left, home, away)
+}
+
+/// Whether a unit is an open jaw whose gap lies before its second part.
+#[tactic(auto, using(crate::proofs::ShapeLemmas::gap_before_two, crate::proofs::ShapeLemmas::gap_before_others))]
+pub(crate) fn has_gap_before(edition: &Edition, trip: &Trip, parts: &[Part], own: &[usize]) -> bool
+    requires ends { EndsWithin trip.now parts.now }
+    ensures { result ≡ has_gap_before edition.now trip.now parts.now own.now }
+{
+    if own.len() != 2 {
+        return false;
+    }
+    is_gap_before(edition, trip, parts, own[0], own[1])
 }
 
 /// Whether a unit must close: it is one of half round trips, and no open jaw.

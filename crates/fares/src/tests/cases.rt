@@ -1,10 +1,12 @@
 //! Sources of `price`, with what comes of them.
 
 pub mod allowances;
+pub mod keepers;
 pub mod mileage;
 pub mod one_sector;
 pub mod points;
 pub mod refusals;
+pub mod steps;
 pub mod units;
 
 /// A source in pieces, with the answer to it.
@@ -20,4 +22,40 @@ pub struct Refusal {
     pub source: &'static [&'static str],
     pub status: u8,
     pub fault: &'static str,
+}
+
+/// A command with a store, over a source in pieces: the status of the run, and what it writes or, on another status than
+/// 0, its line on standard error.
+#[derive(Clone, Copy)]
+pub struct Step {
+    pub words: &'static [&'static str],
+    pub source: &'static [&'static str],
+    pub status: u8,
+    pub text: &'static str,
+}
+
+/// A command with a store whose calls, or those of the source or the sink, fail: the calls by their numbers, and whether
+/// a failed append keeps its body; the status, what is written, and how many bodies there are in the end.
+#[derive(Clone, Copy)]
+pub struct Failure {
+    pub words: &'static [&'static str],
+    pub read: &'static [u32],
+    pub write: &'static [u32],
+    pub room: usize,
+    pub store: &'static [(u32, bool)],
+    pub status: u8,
+    pub text: &'static str,
+    pub bodies: usize,
+}
+
+/// A command with a store of these bodies whose calls fail: the status, what is written, and the bodies in the end.
+#[derive(Clone, Copy)]
+pub struct Kept {
+    pub words: &'static [&'static str],
+    pub source: &'static str,
+    pub bodies: &'static [&'static str],
+    pub store: &'static [(u32, bool)],
+    pub status: u8,
+    pub text: &'static str,
+    pub left: &'static [&'static str],
 }

@@ -83,3 +83,23 @@ pub const SEVENTEEN_SECTORS: &str =
 /// Two hundred opened arrays.
 pub const OPENED_ARRAYS: &str =
     "[[[[[[[[[[[[[[[[[[[[[[[[[[[[[[[[[[[[[[[[[[[[[[[[[[[[[[[[[[[[[[[[[[[[[[[[[[[[[[[[[[[[[[[[[[[[[[[[[[[[[[[[[[[[[[[[[[[[[[[[[[[[[[[[[[[[[[[[[[[[[[[[[[[[[[[[[[[[[[[[[[[[[[[[[[[[[[[[[[[[[[[[[[[[[[[[[[[[[[[[\n";
+
+pub const DEARER: &str = "FARE,LON,ROM,EH,YY,Y,OW,,401.00\n";
+
+/// London, Paris and Rome with their fare and miles, as one text whose lines end with CR and LF.
+pub const ENDED_BY_CR: &str =
+    "HEAD,1,1,2025-01-01\r\nCUR,GB,GBP,0.750000,0,1,U\r\nCUR,FR,EUR,0.900000,2,1,N\r\nCUR,IT,EUR,0.900000,2,1,N\r\nCITY,LON,GB,2\r\nCITY,PAR,FR,2\r\nCITY,ROM,IT,2\r\nFARE,LON,ROM,EH,YY,Y,OW,,400.00\r\nTPM,LON,PAR,300\r\nTPM,PAR,ROM,700\r\nMPM,LON,ROM,EH,1000\r\nEND\r\n";
+
+/// The canonical text of the same edition.
+pub const CANONICAL: &str =
+    "HEAD,2,1,2025-01-01\nCUR,GB,GBP,0.750000,0,1,U\nCUR,FR,EUR,0.900000,2,1,N\nCUR,IT,EUR,0.900000,2,1,N\nCITY,LON,GB,2\nCITY,PAR,FR,2\nCITY,ROM,IT,2\nFARE,LON,ROM,EH,YY,Y,OW,,01-01,12-31,400.00\nTPM,LON,PAR,300\nTPM,PAR,ROM,700\nMPM,LON,ROM,EH,1000\nEND\n";
+
+/// London to Rome in one sector, sold on three days.
+pub const SOLD_LATER: &str =
+    r#"{"sale":"2025-02-15","from":"LON","sectors":[{"to":"ROM","carrier":"Q1","day":"2025-04-10","cabin":"Y"}]}"#;
+
+pub const SOLD_SOONER: &str =
+    r#"{"sale":"2025-01-31","from":"LON","sectors":[{"to":"ROM","carrier":"Q1","day":"2025-04-10","cabin":"Y"}]}"#;
+
+pub const SOLD_BEFORE: &str =
+    r#"{"sale":"2024-12-31","from":"LON","sectors":[{"to":"ROM","carrier":"Q1","day":"2025-04-10","cabin":"Y"}]}"#;

@@ -1,11 +1,14 @@
 use Rattle.std.proofs.Common.{◌≡◌, ℕ, ◌+◌, false, List, Option, Some, None, length, ap, sym, subst, ◌∙◌}
+use Rattle.std.specs.Prelude.{option_map}
 use Rattle.fare_trip.specs.Itinerary.{Itinerary, sector}
 use Rattle.fare_rules.specs.declared.part.Part.{Part}
 use Rattle.fare_rules.specs.Construction.{end_of}
+use Rattle.fare_rules.specs.UnitPrice.{price}
 use Rattle.fare_bounds.specs.Covers.{IsCover, IsLeast, rest_at}
-use Rattle.fare_branch.specs.Costs.{units_least}
+use Rattle.fare_branch.specs.Costs.{units_floor}
 use Rattle.fare_branch.specs.Floors.{IsFloorAnswer}
-use Rattle.fare_branch.proofs.FloorLemmas.{sum_is_floor, least_is_below}
+use Rattle.fare_branch.proofs.FloorLemmas.{sum_is_floor}
+use Rattle.fare_branch.proofs.ShutLemmas.{floor_is_below, shut_floor}
 use Rattle.fare_branch.proofs.floors.floor_of.Goals as goal
 
 pub returns-in-None : goal.returns-in-None
@@ -14,9 +17,12 @@ returns-in-None c =
     let flown : (sector c.args.table.now.trip 1).surface ≡ false = subst P c.trip-trip.ensures c.law.ensures.ordered.first_flown in
     let same : rest_at c.args.rest.now (end_of c.args.partial.now (length c.args.partial.now)) ≡ None = sym (ap (rest_at c.args.rest.now) c.end.ensures.value) ∙ sym c.in-None.ensures.value in
     let Q : Option ℕ → Type 0 = λ behind. IsLeast (IsCover c.args.table.now.edition c.args.table.now.trip (end_of c.args.partial.now (length c.args.partial.now))) behind in
-    sum_is_floor c.args.table.now.edition c.args.table.now.trip c.args.partial.now (units_least c.args.table.now.edition c.args.table.now.trip c.args.partial.now) None flown
-    (least_is_below c.args.table.now.edition c.args.table.now.trip c.args.partial.now)
-    (subst Q same (c.requires.rest (end_of c.args.partial.now (length c.args.partial.now))))
+    record {
+      floor = sum_is_floor c.args.table.now.edition c.args.table.now.trip c.args.partial.now (units_floor c.args.table.now.edition c.args.table.now.trip c.args.partial.now) None flown
+          (floor_is_below c.args.table.now.edition c.args.table.now.trip c.args.partial.now)
+          (subst Q same (c.requires.rest (end_of c.args.partial.now (length c.args.partial.now))));
+      shut = λ shut. sym (ap (option_map (λ least. price c.args.table.now.edition c.args.table.now.trip c.args.partial.now + least)) same);
+    }
 
 pub returns-in-Some : goal.returns-in-Some
 returns-in-Some c =
@@ -25,9 +31,14 @@ returns-in-Some c =
     let same : rest_at c.args.rest.now (end_of c.args.partial.now (length c.args.partial.now)) ≡ Some c.in-Some.least = sym (ap (rest_at c.args.rest.now) c.end.ensures.value) ∙ sym c.in-Some.ensures.value in
     let Q : Option ℕ → Type 0 = λ behind. IsLeast (IsCover c.args.table.now.edition c.args.table.now.trip (end_of c.args.partial.now (length c.args.partial.now))) behind in
     let R : ℕ → Type 0 = λ spent. IsFloorAnswer c.args.table.now.edition c.args.table.now.trip c.args.partial.now (Some (spent + c.in-Some.least)) in
-    let parts : List Part → Type 0 = λ xs. c.units_least-spent.result ≡ units_least c.args.table.now.edition c.args.table.now.trip xs in
-    let value : c.units_least-spent.result ≡ units_least c.args.table.now.edition c.args.table.now.trip c.args.partial.now = subst parts c.parts.ensures.parts c.units_least-spent.ensures.value in
-    subst R (sym value)
-    (sum_is_floor c.args.table.now.edition c.args.table.now.trip c.args.partial.now (units_least c.args.table.now.edition c.args.table.now.trip c.args.partial.now) (Some c.in-Some.least) flown
-    (least_is_below c.args.table.now.edition c.args.table.now.trip c.args.partial.now)
-    (subst Q same (c.requires.rest (end_of c.args.partial.now (length c.args.partial.now)))))
+    let parts : List Part → Type 0 = λ xs. c.units_floor-spent.result ≡ units_floor c.args.table.now.edition c.args.table.now.trip xs in
+    let value : c.units_floor-spent.result ≡ units_floor c.args.table.now.edition c.args.table.now.trip c.args.partial.now = subst parts c.parts.ensures.parts c.units_floor-spent.ensures.value in
+    record {
+      floor = subst R (sym value)
+          (sum_is_floor c.args.table.now.edition c.args.table.now.trip c.args.partial.now (units_floor c.args.table.now.edition c.args.table.now.trip c.args.partial.now) (Some c.in-Some.least) flown
+          (floor_is_below c.args.table.now.edition c.args.table.now.trip c.args.partial.now)
+          (subst Q same (c.requires.rest (end_of c.args.partial.now (length c.args.partial.now)))));
+      shut = λ shut.
+          ap (λ spent. Some (spent + c.in-Some.least)) (value ∙ shut_floor c.args.table.now.edition c.args.table.now.trip c.args.partial.now shut)
+          ∙ sym (ap (option_map (λ least. price c.args.table.now.edition c.args.table.now.trip c.args.partial.now + least)) same);
+    }

@@ -20,7 +20,7 @@ enter-returns-in_default-clause-walk g t c =
 pub enter-returns-in_default-floor_of-clause-walk : goal.enter-returns-in_default-floor_of-clause-walk
 enter-returns-in_default-floor_of-clause-walk g t c =
     part_none c.args.table.now.edition c.args.table.now.trip c.args.front.now c.args.part (g.B.Bound.least c.args.bound.now) c.args.best
-    (subst (HasNoCompletion c.args.table.now.edition c.args.table.now.trip) c.in-Some.ensures.0 c.in_default-floor_of.ensures)
+    (subst (HasNoCompletion c.args.table.now.edition c.args.table.now.trip) c.in-Some.ensures.0 c.in_default-floor_of.ensures.floor)
 
 pub enter-returns-then-is_beaten-clause-walk : goal.enter-returns-then-is_beaten-clause-walk
 enter-returns-then-is_beaten-clause-walk g t c =
@@ -28,13 +28,13 @@ enter-returns-then-is_beaten-clause-walk g t c =
     let Q : List Part → Type 0 = λ xs. is_beaten c.args.best xs c.in-Some-floor_of.floor ≡ true in
     part_beaten c.args.table.now.edition c.args.table.now.trip c.args.front.now c.args.part c.in-Some-floor_of.floor (g.B.Bound.least c.args.bound.now) c.args.best
     (subst Q c.in-Some.ensures.0 (sym c.is_beaten.ensures ∙ c.if-is_beaten.true))
-    (subst P c.in-Some.ensures.0 c.in-Some-floor_of.ensures)
+    (subst P c.in-Some.ensures.0 c.in-Some-floor_of.ensures.floor)
 
 pub enter-returns-then-seen-floor-clause-walk : goal.enter-returns-then-seen-floor-clause-walk
 enter-returns-then-seen-floor-clause-walk g t c =
     let P : List Part → Type 0 = λ xs. IsFloor c.args.table.now.edition c.args.table.now.trip xs c.in-Some-floor_of.floor in
     part_dear c.args.table.now.edition c.args.table.now.trip c.args.front.now c.args.part (g.B.Bound.least c.args.bound.now) (g.B.Bound.least c.seen.new.self) c.in-Some-floor_of.floor c.args.best
-    (omega arith) (omega arith) (subst P c.in-Some.ensures.0 c.in-Some-floor_of.ensures)
+    (omega arith) (omega arith) (subst P c.in-Some.ensures.0 c.in-Some-floor_of.ensures.floor)
 
 pub enter-walk-requires : goal.enter-walk-requires
 enter-walk-requires g t c κs within =

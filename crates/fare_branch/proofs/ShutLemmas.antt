@@ -1,0 +1,266 @@
+-- No part comes to a unit of the first parts that is shut, so it costs in a lawful construction what it costs there.
+use Rattle.std.proofs.Common.{◌≡◌, ℕ, zero, suc, ◌+◌, ◌-◌, ◌<◌, ◌≤◌, Bool, true, false, ◌&&◌, ◌||◌, not, cond, ltb, leb, List, [], ◌∷◌, ◌++◌, length, refl, ap, sym, subst, ◌∙◌, inl, inr, arith}
+use Rattle.std.specs.Prelude.{Some, None, filter, sum_by, bytes_eq}
+use Rattle.std.specs.List.{range_with_len, list_any}
+use Rattle.std.proofs.Math.ListN.{length-append}
+use Rattle.std.proofs.lemmas.Bool.{cases_Bool, or_cases, and_parts, lt-ltb, not-true}
+use Rattle.std.proofs.lemmas.Option.{same_Some}
+use Rattle.std.proofs.lemmas.List.{append-nil}
+use Rattle.std.proofs.lemmas.List.Elements.{filter-append}
+use Rattle.std.proofs.lemmas.Slice.Eq.{bytes_eq-Decides}
+use Rattle.fare_codes.specs.declared.city.City.{City}
+use Rattle.fare_trip.specs.Itinerary.{Itinerary}
+use Rattle.fare_tariff.specs.Tariff.{Tariff}
+use Rattle.fare_rules.specs.declared.part.Part.{Part}
+use Rattle.fare_rules.specs.Construction.{places, own, is_own, origin, last_of, but_last, greatest_unit, start_city, end_city}
+use Rattle.fare_rules.specs.Shape.{is_ow, holds_ow, is_hr, is_mixed, mixed, follows, is_chained, ends_in, comes_home, comes_home_early, ends_at_home, closes, is_jaw, is_open_jaw, must_close, is_unchained, unchained, is_unclosed, unclosed}
+use Rattle.fare_rules.specs.UnitPrice.{price, unit_price, unit_sheet}
+use Rattle.fare_bounds.specs.Covers.{total}
+use Rattle.fare_rules.specs.Best.{IsLawful}
+use Rattle.fare_rules.proofs.LawfulLemmas.{kept}
+use Rattle.fare_rules.proofs.MemberLemmas.{Member}
+use Rattle.fare_rules.proofs.NumberLemmas.{find_none}
+use Rattle.fare_units.specs.Shut.{is_shut, has_gap_before}
+use Rattle.fare_units.proofs.NextLemmas.{front_unit}
+use Rattle.fare_units.proofs.ShutLemmas.{shut_has_parts}
+use Rattle.fare_branch.specs.Costs.{part_least, unit_least, unit_floor, units_floor}
+use Rattle.fare_branch.specs.Floors.{HasNoOpenUnit}
+use Rattle.fare_branch.proofs.CostLemmas.{unit_costs_least}
+use Rattle.fare_branch.proofs.FloorLemmas.{behind_least, unit_in_two, weights_are_below}
+use Rattle.fare_branch.proofs.LegLemmas.{legs_of}
+use Rattle.fare_branch.proofs.SameLemmas.{AreFirst, holds_same, chained_same, origin_same, ends_in_same, price_same}
+use Rattle.fare_branch.proofs.SumLemmas.{range_in_two, kept_member, sum_up}
+
+true_false : true ≡ false → ⊥
+true_false e = cc
+
+any_front : (f : ℕ → Bool) (xs ys : List ℕ) → list_any f xs ≡ true → list_any f (xs ++ ys) ≡ true
+any_front f [] ys e = absurd (true_false (sym e))
+any_front f (x ∷ xs) ys e =
+    elim (cases_Bool (f x)) [
+      | inl t ↦ rw t refl
+      | inr n ↦ let more : list_any f xs ≡ true = rw n at e in rw n (any_front f xs ys more)
+    ]
+
+any_some : (f : ℕ → Bool) (xs : List ℕ) → list_any f xs ≡ true → 1 ≤ length xs
+any_some f [] e = absurd (true_false (sym e))
+any_some f (x ∷ xs) e = omega arith
+
+any_at : (f : ℕ → Bool) (k : ℕ) (xs : List ℕ) → Member k xs → f k ≡ true → list_any f xs ≡ true
+any_at f k [] m t = absurd m
+any_at f k (x ∷ xs) (inl e) t = let here : f x ≡ true = subst (λ j. f j ≡ true) e t in rw here refl
+any_at f k (x ∷ xs) (inr m) t =
+    elim (cases_Bool (f x)) [ inl y ↦ rw y refl | inr n ↦ rw n (any_at f k xs m t) ]
+
+-- the last of some places is an earlier one where others come behind
+last_is_earlier : (x : ℕ) (xs : List ℕ) (k : ℕ) (more : List ℕ) → Member (last_of (x ∷ xs)) (but_last ((x ∷ xs) ++ k ∷ more))
+last_is_earlier x [] k more = inl refl
+last_is_earlier x (y ∷ ys) k more = inr (last_is_earlier y ys k more)
+
+filter_like : (p q : ℕ → Bool) (first n : ℕ) → ((k : ℕ) → first ≤ k → k < first + n → p k ≡ q k) → filter p (range_with_len first n) ≡ filter q (range_with_len first n)
+filter_like p q first zero h = refl
+filter_like p q first (suc n) h =
+    rw (h first (omega arith) (omega arith), filter_like p q (first + 1) n (λ k low high. h k (omega arith) (omega arith))) refl
+
+other_way : (a b : City) → bytes_eq a b ≡ false → bytes_eq b a ≡ false
+other_way a b e =
+    elim (cases_Bool (bytes_eq b a)) [
+      | inl t ↦ absurd (true_false (sym ((bytes_eq-Decides a b).1 (sym ((bytes_eq-Decides b a).0 t))) ∙ e))
+      | inr f ↦ f
+    ]
+
+both_true : (a b : Bool) → a ≡ true → b ≡ true → (a && b) ≡ true
+both_true a b x y = rw (x, y) refl
+
+not_alone : (holds many : Bool) → (holds && many) ≡ false → many ≡ true → holds ≡ false
+not_alone true many e t = absurd (true_false (sym t ∙ e))
+not_alone false many e t = refl
+
+some_none : (x : ℕ) → Some x ≡ None → ⊥
+some_none x e = cc
+
+-- what closes comes home
+closed_at_home : (trip : Itinerary) (parts : List Part) (xs : List ℕ) → closes trip parts xs ≡ true → comes_home trip parts xs ≡ true
+unfolding closes
+closed_at_home trip parts xs h =
+    let both = and_parts (is_chained trip parts xs) (ends_at_home trip parts xs) h in
+    let most = and_parts (leb 2 (length xs) && comes_home trip parts xs) (not (comes_home_early trip parts xs)) both.1 in
+    (and_parts (leb 2 (length xs)) (comes_home trip parts xs) most.0).1
+
+one_never_closes : (trip : Itinerary) (parts : List Part) (x : ℕ) → closes trip parts (x ∷ []) ≡ false
+unfolding closes
+one_never_closes trip parts x = refl
+
+module _ (tariff : Tariff) (trip : Itinerary) (parts : List Part) where
+  jaw_is_short : (xs : List ℕ) → 3 ≤ length xs → is_jaw tariff trip parts xs ≡ false
+  jaw_is_short [] h = refl
+  jaw_is_short (a ∷ []) h = refl
+  jaw_is_short (a ∷ b ∷ []) h = absurd (omega arith)
+  jaw_is_short (a ∷ b ∷ c ∷ more) h = refl
+
+  -- in a lawful construction a unit of three parts or more closes and is chained
+  must_close_long : (price unit : ℕ) → IsLawful tariff trip parts price → 1 ≤ unit → unit ≤ greatest_unit parts (places parts) → 3 ≤ length (own parts unit) → must_close tariff trip parts (own parts unit) ≡ true
+  unfolding mixed is_hr is_open_jaw
+  must_close_long price unit l low high long =
+      let fails = find_none (is_mixed tariff parts) 1 (greatest_unit parts (places parts) + 1) (kept tariff trip parts price l).alone unit low (omega arith) in
+      let none : holds_ow tariff parts (own parts unit) ≡ false = not_alone (holds_ow tariff parts (own parts unit)) (ltb 1 (length (own parts unit))) fails (lt-ltb 1 (length (own parts unit)) (omega arith)) in
+      rw (none, jaw_is_short (own parts unit) long) refl
+
+  pub long_is_chained : (price unit : ℕ) → IsLawful tariff trip parts price → 1 ≤ unit → unit ≤ greatest_unit parts (places parts) → 3 ≤ length (own parts unit) → is_chained trip parts (own parts unit) ≡ true
+  unfolding unchained
+  long_is_chained price unit l low high long =
+      let fails = find_none (is_unchained tariff trip parts) 1 (greatest_unit parts (places parts) + 1) (kept tariff trip parts price l).chain unit low (omega arith) in
+      let must = must_close_long price unit l low high long in
+      not_false (is_chained trip parts (own parts unit)) (rw must at fails)
+    where
+      not_false : (b : Bool) → not b ≡ false → b ≡ true
+      not_false true e = refl
+      not_false false e = absurd (true_false e)
+
+  pub long_ends_at_home : (price unit : ℕ) → IsLawful tariff trip parts price → 1 ≤ unit → unit ≤ greatest_unit parts (places parts) → 3 ≤ length (own parts unit) → comes_home_early trip parts (own parts unit) ≡ false
+  unfolding unclosed
+  long_ends_at_home price unit l low high long =
+      let fails = find_none (is_unclosed tariff trip parts) 1 (greatest_unit parts (places parts) + 1) (kept tariff trip parts price l).close unit low (omega arith) in
+      let must = must_close_long price unit l low high long in
+      early (leb 2 (length (own parts unit)) && comes_home trip parts (own parts unit)) (comes_home_early trip parts (own parts unit)) (rw must at fails)
+    where
+      early : (a b : Bool) → not (a && not b) ≡ false → b ≡ false
+      early true true e = absurd (true_false e)
+      early true false e = refl
+      early false b e = absurd (true_false e)
+
+module _ (tariff : Tariff) (trip : Itinerary) (front rest : List Part) where
+  -- the places of a unit among the first parts, and behind
+  abbrev pub own_behind : ℕ → List ℕ
+  own_behind unit = filter (is_own (front ++ rest) unit) (range_with_len (length front + 1) (length rest))
+
+  own_in_two : (unit : ℕ) → own (front ++ rest) unit ≡ own front unit ++ own_behind unit
+  unfolding own
+  own_in_two unit =
+      let n : length (front ++ rest) ≡ length front + length rest = length-append front rest in
+      let m : length (front ++ rest) + 1 - 1 ≡ length front + length rest = omega arith in
+      let f : length front + 1 - 1 ≡ length front = omega arith in
+      let j : 1 + length front ≡ length front + 1 = omega arith in
+      let split : range_with_len 1 (length front + length rest) ≡ range_with_len 1 (length front) ++ range_with_len (length front + 1) (length rest) = range_in_two 1 (length front) (length rest) ∙ ap (λ a. range_with_len 1 (length front) ++ range_with_len a (length rest)) j in
+      let first : filter (is_own (front ++ rest) unit) (range_with_len 1 (length front)) ≡ filter (is_own front unit) (range_with_len 1 (length front)) =
+      filter_like (is_own (front ++ rest) unit) (is_own front unit) 1 (length front) (λ k low high. same_own unit k low (omega arith)) in
+      rw (m, f) (ap (filter (is_own (front ++ rest) unit)) split ∙ filter-append (is_own (front ++ rest) unit) (range_with_len 1 (length front)) (range_with_len (length front + 1) (length rest)) ∙ ap (λ xs. xs ++ own_behind unit) first)
+    where
+      same_own : (unit k : ℕ) → 1 ≤ k → k ≤ length front → is_own (front ++ rest) unit k ≡ is_own front unit k
+      same_own unit k low high = rw (front_unit front rest k low high) refl
+
+  own_are_first : (unit : ℕ) → AreFirst tariff trip front rest (own front unit)
+  unfolding own
+  own_are_first unit k m =
+      let h = kept_member (is_own front unit) 1 (length front + 1 - 1) k m in
+      let high : k < 1 + (length front + 1 - 1) = h.1 in
+      (h.0, omega arith)
+
+  module _ (price : ℕ) (lawful : IsLawful tariff trip (front ++ rest) price) (unit : ℕ) (low : 1 ≤ unit) (high : unit ≤ greatest_unit (front ++ rest) (places (front ++ rest))) where
+    one_way_behind : (xs : List ℕ) (k : ℕ) (more : List ℕ) → AreFirst tariff trip front rest xs → own (front ++ rest) unit ≡ xs ++ k ∷ more → holds_ow tariff front xs ≡ true → ⊥
+    unfolding mixed
+    one_way_behind xs k more first e holds =
+        let fails = find_none (is_mixed tariff (front ++ rest)) 1 (greatest_unit (front ++ rest) (places (front ++ rest)) + 1) (kept tariff trip (front ++ rest) price lawful).alone unit low (omega arith) in
+        let there : holds_ow tariff (front ++ rest) xs ≡ true = holds_same tariff trip front rest xs first ∙ holds in
+        let some : 1 ≤ length xs = any_some (is_ow tariff front) xs holds in
+        let n : length (xs ++ k ∷ more) ≡ length xs + suc (length more) = length-append xs (k ∷ more) in
+        let mix : is_mixed tariff (front ++ rest) unit ≡ true = rw e (both_true (holds_ow tariff (front ++ rest) (xs ++ k ∷ more)) (ltb 1 (length (xs ++ k ∷ more))) (any_front (is_ow tariff (front ++ rest)) xs (k ∷ more) there) (lt-ltb 1 (length (xs ++ k ∷ more)) (omega arith))) in
+        true_false (sym mix ∙ fails)
+
+    closed_behind : (x y : ℕ) (xs : List ℕ) (k : ℕ) (more : List ℕ) → AreFirst tariff trip front rest (x ∷ y ∷ xs) → own (front ++ rest) unit ≡ (x ∷ y ∷ xs) ++ k ∷ more → comes_home trip front (x ∷ y ∷ xs) ≡ true → ⊥
+    closed_behind x y xs k more first e home =
+        let n : length ((x ∷ y ∷ xs) ++ k ∷ more) ≡ length (x ∷ y ∷ xs) + suc (length more) = length-append (x ∷ y ∷ xs) (k ∷ more) in
+        let long : 3 ≤ length (own (front ++ rest) unit) = rw e (omega arith) in
+        let never : comes_home_early trip (front ++ rest) (own (front ++ rest) unit) ≡ false = long_ends_at_home tariff trip (front ++ rest) price unit lawful low high long in
+        let last = first (last_of (x ∷ y ∷ xs)) (last_one x (y ∷ xs)) in
+        let there : ends_in trip (front ++ rest) (origin trip (front ++ rest) (x ∷ y ∷ xs)) (last_of (x ∷ y ∷ xs)) ≡ true =
+        ap (λ (city : City). ends_in trip (front ++ rest) city (last_of (x ∷ y ∷ xs))) (origin_same tariff trip front rest x (y ∷ xs) first) ∙ ends_in_same tariff trip front rest (origin trip front (x ∷ y ∷ xs)) (last_of (x ∷ y ∷ xs)) last.0 last.1 ∙ home in
+        let early : comes_home_early trip (front ++ rest) ((x ∷ y ∷ xs) ++ k ∷ more) ≡ true = any_at (ends_in trip (front ++ rest) (origin trip (front ++ rest) (x ∷ y ∷ xs))) (last_of (x ∷ y ∷ xs)) (but_last ((x ∷ y ∷ xs) ++ k ∷ more)) (last_is_earlier x (y ∷ xs) k more) there in
+        true_false (sym early ∙ sym (ap (comes_home_early trip (front ++ rest)) e) ∙ never)
+      where
+        last_one : (x : ℕ) (xs : List ℕ) → Member (last_of (x ∷ xs)) (x ∷ xs)
+        last_one x [] = inl refl
+        last_one x (y ∷ ys) = inr (last_one y ys)
+
+    gap_behind : (x y k : ℕ) (more : List ℕ) → AreFirst tariff trip front rest (x ∷ y ∷ []) → own (front ++ rest) unit ≡ (x ∷ y ∷ []) ++ k ∷ more → bytes_eq (end_city trip front x) (start_city trip front y) ≡ false → ⊥
+    gap_behind x y k more first e gap =
+        let long : 3 ≤ length (own (front ++ rest) unit) = rw e (omega arith) in
+        let chained : is_chained trip (front ++ rest) (own (front ++ rest) unit) ≡ true = long_is_chained tariff trip (front ++ rest) price unit lawful low high long in
+        let two : (follows trip (front ++ rest) x y && is_chained trip (front ++ rest) (y ∷ k ∷ more)) ≡ true = sym (ap (is_chained trip (front ++ rest)) e) ∙ chained in
+        let one : follows trip (front ++ rest) x y ≡ true = (and_parts _ _ two).0 in
+        let here : (follows trip (front ++ rest) x y && true) ≡ (follows trip front x y && true) = chained_same tariff trip front rest (x ∷ y ∷ []) first in
+        let yes : (follows trip front x y && true) ≡ true = sym here ∙ (rw one refl) in
+        true_false (sym (and_parts _ _ yes).0 ∙ other_way (end_city trip front x) (start_city trip front y) gap)
+
+    shut_alone : (xs : List ℕ) (behind : List ℕ) → AreFirst tariff trip front rest xs → own (front ++ rest) unit ≡ xs ++ behind → is_shut tariff trip front xs ≡ true → behind ≡ []
+    unfolding is_shut
+    shut_alone xs [] first e shut = refl
+    shut_alone [] (k ∷ more) first e shut = let some : 1 ≤ length {A = ℕ} [] = shut_has_parts tariff trip front [] shut in absurd (omega arith)
+    shut_alone (x ∷ []) (k ∷ more) first e shut =
+        elim (or_cases (holds_ow tariff front (x ∷ []) || closes trip front (x ∷ [])) false shut) [
+          | inl either ↦ elim (or_cases (holds_ow tariff front (x ∷ [])) (closes trip front (x ∷ [])) either) [
+            | inl t ↦ absurd (one_way_behind (x ∷ []) k more first e t)
+            | inr c ↦ absurd (true_false (sym c ∙ one_never_closes trip front x))
+          ]
+          | inr g ↦ absurd (true_false (sym g))
+        ]
+    shut_alone (x ∷ y ∷ xs) (k ∷ more) first e shut =
+        elim (or_cases (holds_ow tariff front (x ∷ y ∷ xs) || closes trip front (x ∷ y ∷ xs)) (has_gap_before tariff trip front (x ∷ y ∷ xs)) shut) [
+          | inl either ↦ elim (or_cases (holds_ow tariff front (x ∷ y ∷ xs)) (closes trip front (x ∷ y ∷ xs)) either) [
+            | inl t ↦ absurd (one_way_behind (x ∷ y ∷ xs) k more first e t)
+            | inr c ↦ absurd (closed_behind x y xs k more first e (closed_at_home trip front (x ∷ y ∷ xs) c))
+          ]
+          | inr g ↦ absurd (gap_of xs first e g)
+        ]
+      where
+        gap_of : (zs : List ℕ) → AreFirst tariff trip front rest (x ∷ y ∷ zs) → own (front ++ rest) unit ≡ (x ∷ y ∷ zs) ++ k ∷ more → has_gap_before tariff trip front (x ∷ y ∷ zs) ≡ true → ⊥
+        gap_of [] first e g = gap_behind x y k more first e (not-true (bytes_eq (end_city trip front x) (start_city trip front y)) (and_parts _ _ (and_parts _ _ g).0).0)
+        gap_of (z ∷ zs) first e g = true_false (sym g)
+
+    -- so nothing is behind it, and it costs the same
+    pub shut_costs : is_shut tariff trip front (own front unit) ≡ true → unit_price tariff trip front unit + behind_least tariff trip front rest unit ≤ unit_price tariff trip (front ++ rest) unit
+    shut_costs shut =
+        let behind : own_behind unit ≡ [] = shut_alone (own front unit) (own_behind unit) (own_are_first unit) (own_in_two unit) shut in
+        let nothing : behind_least tariff trip front rest unit ≡ 0 = ap (sum_by (part_least tariff trip (front ++ rest))) behind in
+        let same : own (front ++ rest) unit ≡ own front unit = own_in_two unit ∙ ap (λ xs. own front unit ++ xs) behind ∙ append-nil (own front unit) in
+        let price_of : unit_price tariff trip (front ++ rest) unit ≡ (unit_sheet tariff trip (front ++ rest) (own front unit)).price = ap (λ xs. (unit_sheet tariff trip (front ++ rest) xs).price) same in
+        let equal : (unit_sheet tariff trip (front ++ rest) (own front unit)).price ≡ unit_price tariff trip front unit = price_here (own front unit) (own_are_first unit) shut in
+        omega arith
+      where
+        price_here : (xs : List ℕ) → AreFirst tariff trip front rest xs → is_shut tariff trip front xs ≡ true → (unit_sheet tariff trip (front ++ rest) xs).price ≡ (unit_sheet tariff trip front xs).price
+        price_here [] first shut = let some : 1 ≤ length {A = ℕ} [] = shut_has_parts tariff trip front [] shut in absurd (omega arith)
+        price_here (x ∷ xs) first shut = price_same tariff trip front rest x xs first
+
+    pub floor_costs : unit_floor tariff trip front unit + behind_least tariff trip front rest unit ≤ unit_price tariff trip (front ++ rest) unit
+    floor_costs =
+        elim (cases_Bool (is_shut tariff trip front (own front unit))) [
+          | inl t ↦ rw t (shut_costs t)
+          | inr f ↦
+              let two : unit_least tariff trip (front ++ rest) unit ≡ unit_least tariff trip front unit + behind_least tariff trip front rest unit = unit_in_two tariff trip front rest unit in
+              let one : unit_least tariff trip (front ++ rest) unit ≤ unit_price tariff trip (front ++ rest) unit = unit_costs_least tariff trip (front ++ rest) price lawful unit low high in
+              rw f (omega arith)
+        ]
+
+-- what units cost at least with the legs behind is no more than the price
+pub floor_is_below : (tariff : Tariff) (trip : Itinerary) (front rest : List Part) (cost : ℕ) → IsLawful tariff trip (front ++ rest) cost → units_floor tariff trip front + total (legs_of tariff trip front rest) ≤ cost
+floor_is_below tariff trip front rest cost lawful =
+    weights_are_below tariff trip front rest cost lawful (unit_floor tariff trip front) (λ unit low high. floor_costs tariff trip front rest cost lawful unit low high)
+
+-- and where no unit is open it is their price
+pub shut_floor : (tariff : Tariff) (trip : Itinerary) (parts : List Part) → HasNoOpenUnit tariff trip parts → units_floor tariff trip parts ≡ price tariff trip parts
+unfolding price
+shut_floor tariff trip parts shut =
+    let each : (unit : ℕ) → 1 ≤ unit → unit < 1 + (greatest_unit parts (places parts) + 1 - 1) → unit_floor tariff trip parts unit ≡ unit_price tariff trip parts unit = λ unit low high. rw (shut unit low (omega arith)) refl in
+    let up : sum_by (unit_floor tariff trip parts) (range_with_len 1 (greatest_unit parts (places parts) + 1 - 1)) ≤ sum_by (unit_price tariff trip parts) (range_with_len 1 (greatest_unit parts (places parts) + 1 - 1)) =
+    sum_up (unit_floor tariff trip parts) (unit_price tariff trip parts) 1 (greatest_unit parts (places parts) + 1 - 1) (λ unit low high. omega (arith, each unit low high)) in
+    let down : sum_by (unit_price tariff trip parts) (range_with_len 1 (greatest_unit parts (places parts) + 1 - 1)) ≤ sum_by (unit_floor tariff trip parts) (range_with_len 1 (greatest_unit parts (places parts) + 1 - 1)) =
+    sum_up (unit_price tariff trip parts) (unit_floor tariff trip parts) 1 (greatest_unit parts (places parts) + 1 - 1) (λ unit low high. omega (arith, each unit low high)) in
+    omega arith
+
+pub floor_of_shut : (shut : Bool) (price least found : ℕ) → Some found ≡ cond shut (Some price) None → found ≡ cond shut price least
+floor_of_shut true price least found e = same_Some found price e
+floor_of_shut false price least found e = absurd (some_none found e)
+
+pub floor_of_open : (shut : Bool) (price least : ℕ) → None ≡ cond shut (Some price) None → least ≡ cond shut price least
+floor_of_open true price least e = absurd (some_none price (sym e))
+floor_of_open false price least e = refl

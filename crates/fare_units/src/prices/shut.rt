@@ -1,0 +1,41 @@
+//! Units to which no part can come any more, among the first parts of a construction, and what they cost.
+
+ghost use Rattle.std.specs.Prelude.{◌≡◌, ◌≤◌, IfSome, length};
+ghost use Rattle.fare_units.specs.Advance.{Advances, EndsWithin};
+ghost use Rattle.fare_units.specs.Shut.{is_shut, shut_price};
+
+use crate::construction::MOST_PARTS;
+use crate::parts::fares::holds_ow;
+use crate::parts::own::own;
+use crate::prices::price::{MOST_UNIT_PRICE, unit_price};
+use crate::rules::shape::{closes, has_gap_before};
+use fare_rules::Part;
+use fare_tariff::Edition;
+use fare_trip::Trip;
+
+/// Whether a unit is shut: it holds a one way fare, or closes, or is an open jaw whose gap lies before its second part.
+#[tactic(auto, unfolding(crate::specs::Shut::is_shut))]
+fn is_shut(edition: &Edition, trip: &Trip, parts: &[Part], own: &[usize]) -> bool
+    requires ends { EndsWithin trip.now parts.now }
+    ensures { result ≡ is_shut edition.now trip.now parts.now own.now }
+{
+    holds_ow(edition, parts, own)
+        || closes(trip, parts, own)
+        || has_gap_before(edition, trip, parts, own)
+}
+
+/// The price of a unit of the first parts of a construction, where it is shut: it holds a one way fare, or closes, or is
+/// an open jaw whose gap lies before its second part; nothing exactly where it isn't.
+#[tactic(auto, using(crate::proofs::ShutLemmas::shut_has_parts))]
+pub fn shut_price(edition: &Edition, trip: &Trip, parts: &[Part], unit: usize) -> Option<u64>
+    requires few { length parts.now ≤ MOST_PARTS }
+    requires advances { Advances trip.now parts.now }
+    ensures value { result ≡ shut_price edition.now trip.now parts.now unit }
+    ensures bound { IfSome result (λ price. price ≤ MOST_UNIT_PRICE) }
+{
+    let own = own(parts, unit);
+    if !is_shut(edition, trip, parts, own.as_slice()) {
+        return None;
+    }
+    Some(unit_price(edition, trip, parts, unit))
+}
