@@ -56,6 +56,11 @@ IsRefusalOfQuote (ended.Damaged place damage) = ⊤
 IsRefusalOfQuote ended.Memory = ⊤
 IsRefusalOfQuote other = ⊥
 
+-- an end of `drill` without its text
+abbrev pub IsRefusalOfDrill : Exit → Type 0
+IsRefusalOfDrill ended.Memory = ⊤
+IsRefusalOfDrill other = ⊥
+
 -- an end of a command that is missing
 abbrev pub IsRefusalOfMissing : Exit → Type 0
 IsRefusalOfMissing ended.NotYet = ⊤
@@ -75,6 +80,7 @@ IsRefusalOf (request.Publish store) exit = IsRefusalOfPublish exit
 IsRefusalOf (request.List store) exit = IsRefusalOfList exit
 IsRefusalOf (request.Export store number) exit = IsRefusalOfExport exit
 IsRefusalOf (request.Quote store) exit = IsRefusalOfQuote exit
+IsRefusalOf (request.Drill seed sectors extra) exit = IsRefusalOfDrill exit
 IsRefusalOf request.Missing exit = IsRefusalOfMissing exit
 IsRefusalOf request.Nothing exit = IsRefusalOfNothing exit
 

@@ -5,6 +5,7 @@ pub mod Request
 pub mod Limits
 pub mod Input
 pub mod StoreOutcome
+pub mod DrillOutcome
 pub mod Outcome
 pub mod Ends
 pub mod Steps

@@ -11,6 +11,7 @@ use Rattle.fares.specs.declared.words.Request.{Request}
 use Rattle.fares.specs.declared.words.Request.TheVariants as request
 use Rattle.fares.specs.Answer.{Answer}
 use Rattle.fares.specs.Request.{asked}
+use Rattle.fares.specs.DrillOutcome.{Drills}
 use Rattle.fares.specs.Input.{itinerary_text, tariff_text, itinerary_of}
 use Rattle.fares.specs.Limits.{price_limit}
 use Rattle.fares.specs.StoreOutcome.{AnswersOver, AnswersPublish, AnswersQuote, AnswersTrip, Exports, Lists, OverStore}
@@ -45,6 +46,7 @@ AnswersRequest (request.Export store number) source before after answer =
     ReadsStore before after (λ bodies. AnswersOver (Exports number) bodies answer)
 AnswersRequest (request.Quote store) source before after answer =
     ReadsStore before after (λ bodies. AnswersQuote source bodies answer)
+AnswersRequest (request.Drill seed sectors extra) source before after answer = Drills seed sectors extra answer
 AnswersRequest request.Missing source before after answer = answer ≡ Err ended.NotYet
 AnswersRequest request.Nothing source before after answer = answer ≡ Err ended.Usage
 

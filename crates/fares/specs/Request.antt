@@ -3,11 +3,12 @@ use Rattle.std.specs.Prelude.{ℕ, List, Option, Some, None, ⊤}
 use Rattle.fare_words.specs.Words.{command_of}
 use Rattle.fare_words.specs.declared.command.Command.{Command}
 use Rattle.fare_words.specs.declared.command.Command.TheVariants as command
+use Rattle.fares.specs.DrillOutcome.{IsDrill}
 use Rattle.fares.specs.declared.words.Request.{Request}
 use Rattle.fares.specs.declared.words.Request.TheVariants as request
 
--- what a command asks for: `price`, `publish`, `list`, `export` and `quote` are there, for any number of workers and
--- without `--best`, and every other one is missing
+-- what a command asks for: `price`, `publish`, `list`, `export`, `quote` and `drill` are there, for any number of workers
+-- and without `--best`, and every other one is missing
 abbrev pub request_of : Option Command → Request
 request_of None = request.Nothing
 request_of (Some (command.Price workers None)) = request.Price
@@ -15,6 +16,7 @@ request_of (Some (command.Publish store)) = request.Publish store
 request_of (Some (command.List store)) = request.List store
 request_of (Some (command.Export store edition)) = request.Export store edition
 request_of (Some (command.Quote store workers None)) = request.Quote store
+request_of (Some (command.Drill seed sectors extra workers)) = request.Drill seed sectors extra
 request_of (Some other) = request.Missing
 
 -- what words ask for: the command that they give, or nothing where they aren't taken
@@ -35,6 +37,11 @@ LeavesStore (request.List store) = ⊥
 LeavesStore (request.Export store edition) = ⊥
 LeavesStore (request.Quote store) = ⊥
 LeavesStore other = ⊤
+
+-- the numbers of a request are within their limits, where it calls for that
+abbrev pub IsWithin : Request → Type 0
+IsWithin (request.Drill seed sectors extra) = IsDrill seed sectors extra
+IsWithin other = ⊤
 
 -- a request has a text for an answer: the words are taken, and the command is there
 abbrev pub HasText : Request → Type 0

@@ -5,10 +5,11 @@ ghost use Rattle.fare_outside.specs.Keeper.{BodiesStay, WhereTold};
 ghost use Rattle.fares.specs.Ends.{IsRefusalOf};
 ghost use Rattle.fares.specs.Limits.{limit_of};
 ghost use Rattle.fares.specs.Outcome.{AnswersRequest};
-ghost use Rattle.fares.specs.Request.{HasText, LeavesSource, LeavesStore};
+ghost use Rattle.fares.specs.Request.{HasText, IsWithin, LeavesSource, LeavesStore};
 ghost use Rattle.fares.specs.Run.{LeavesBodies, PublishesNothing};
 ghost use Rattle.fares.specs.Steps.{Answers, IsKeeping, IsReading};
 
+use crate::drill::drill;
 use crate::exit::Exit;
 use crate::export::export;
 use crate::list::list;
@@ -28,6 +29,7 @@ pub fn answer<R: Threads + Sync, S: Source, P: Keeper>(
     src: &mut S,
     store: &mut P,
 ) -> Result<Vec<u8>, Exit>
+    requires { IsWithin request.now }
     ensures answer { IfSome (S.left src.old) (λ source.
         Answers (AnswersRequest request.now source (P.bodies store.old) (P.bodies store.new)) result) }
     ensures text { OnOk result (HasText request.now) }
@@ -53,6 +55,11 @@ pub fn answer<R: Threads + Sync, S: Source, P: Keeper>(
             edition,
         } => export(rt, alloc, store, name.as_str(), *edition),
         Request::Quote { store: name } => stored_quote(rt, alloc, src, store, name.as_str()),
+        Request::Drill {
+            seed,
+            sectors,
+            extra,
+        } => drill(rt, alloc, *seed, *sectors, *extra),
         Request::Missing => Err(Exit::NotYet),
         Request::Nothing => Err(Exit::Usage),
     }

@@ -4,9 +4,9 @@ ghost use Rattle.fares.specs.StoreOutcome.{AnswersTrip};
 
 use crate::exit::Exit;
 use fare_book::Book;
+use fare_branch::BranchQuoter;
 use fare_desk::quote_text;
 use fare_trip::Trip;
-use fare_units::PlainQuoter;
 use std::alloc::Global;
 use std::thread::Threads;
 
@@ -20,5 +20,5 @@ pub fn quote<R: Threads + Sync>(
     ensures answer { Answers (AnswersTrip trip.now book.now.editions) result }
     ensures ends { IfErr result IsEndOfQuoting }
 {
-    Ok(quote_text(rt, alloc, book, &PlainQuoter, trip)?)
+    Ok(quote_text(rt, alloc, book, &BranchQuoter, trip)?)
 }

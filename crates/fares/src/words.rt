@@ -1,7 +1,8 @@
 //! What the words of a command line ask for.
 
-ghost use Rattle.std.specs.Prelude.{◌≡◌, IfOk, map, string_bytes};
-ghost use Rattle.fares.specs.Request.{asked, request_of};
+ghost use Rattle.std.specs.Prelude.{◌≡◌, IfOk, IfSome, map, string_bytes};
+ghost use Rattle.fare_words.specs.WithinLimits.{IsWithinLimits};
+ghost use Rattle.fares.specs.Request.{asked, request_of, IsWithin};
 
 use fare_outside::NoMemory;
 use fare_words::{Command, StoreName, read_words};
@@ -20,6 +21,8 @@ pub enum Request<'a> {
     Export { store: StoreName<'a>, edition: u32 },
     /// The command `quote`, without `--best`.
     Quote { store: StoreName<'a> },
+    /// The command `drill`.
+    Drill { seed: u32, sectors: u32, extra: u32 },
     /// A command, or an option, that the program doesn't have yet.
     Missing,
     /// Nothing: the words aren't taken.
@@ -28,15 +31,19 @@ pub enum Request<'a> {
 
 /// What words ask for.
 pub fn asked<'a>(alloc: Global, words: &'a [String]) -> Result<Request<'a>, NoMemory>
-    ensures { IfOk result (λ request. request ≡ asked (map string_bytes words.entry.now)) }
+    ensures asked { IfOk result (λ request. request ≡ asked (map string_bytes words.entry.now)) }
+    ensures within { IfOk result IsWithin }
 {
     let taken = read_words(alloc, words)?;
     Ok(request_of(taken))
 }
 
 /// What the command that words give asks for, or their refusal.
+#[tactic(auto, unfolding(fare_words::specs::WithinLimits::IsWithinLimits))]
 fn request_of(taken: Option<Command<'_>>) -> Request<'_>
-    ensures { result ≡ request_of taken.entry }
+    requires { IfSome taken IsWithinLimits }
+    ensures request { result ≡ request_of taken.entry }
+    ensures within { IsWithin result }
 {
     match taken {
         None => Request::Nothing,
@@ -51,6 +58,18 @@ fn request_of(taken: Option<Command<'_>>) -> Request<'_>
                 ..
             },
         ) => Request::Quote { store },
+        Some(
+            Command::Drill {
+                seed,
+                sectors,
+                extra,
+                ..
+            },
+        ) => Request::Drill {
+            seed,
+            sectors,
+            extra,
+        },
         Some(_) => Request::Missing,
     }
 }
