@@ -86,8 +86,8 @@ pub record CannotOpen (old new : BookState) (before after : Told) : Type 0 where
   pub bodies : Stay before after
 
 -- what each answer to an edition says: what is wrong with the bodies of a book that isn't settled, and then nothing
--- changed; a failure of the keeper, while the book was opened or at the append; want of memory, in a book that is opened
--- or not; and every other answer is that to the edition in the open book
+-- changed; a failure of the keeper, while the book was opened or at the append; want of memory, in a book that is
+-- opened or not; and every other answer is that to the edition in the open book
 abbrev pub PublishesEdition : BookState → BookState → Tariff → Answer → Told → Told → Type 0
 PublishesEdition old new edition (Err (Malformed fault)) before after = ⊥
 PublishesEdition old new edition (Err (Damaged place damage)) before after =

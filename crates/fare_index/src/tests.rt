@@ -19,8 +19,17 @@ fn finds_places(rt: HostRuntime) -> Result<(), Fail> {
     keys.push(Key::ticketed(rome, london))?;
     let index = Index::of(rt.alloc(), keys)?;
     assert_eq!(rt; index.first(&Key::ticketed(london, rome)), Some(0));
-    assert_eq!(rt; index.first(&Key::permitted(rome, london, Indicator::EH)), Some(1));
-    assert_eq!(rt; index.first(&Key::extra(rome, london, Indicator::EH, None)), Some(2));
-    assert_eq!(rt; index.first(&Key::extra(rome, london, Indicator::EH, Some(rome))), None);
+    assert_eq!(rt;
+        index.first(&Key::permitted(rome, london, Indicator::EH)),
+        Some(1)
+    );
+    assert_eq!(rt;
+        index.first(&Key::extra(rome, london, Indicator::EH, None)),
+        Some(2)
+    );
+    assert_eq!(rt;
+        index.first(&Key::extra(rome, london, Indicator::EH, Some(rome))),
+        None
+    );
     Ok(())
 }

@@ -1,6 +1,6 @@
--- What a run answers to its words, the bytes of its source and the bodies of its store. Each definition looks at one thing,
--- in the order in which the refusals come: the words, the length of the source, its tariff, its itinerary, and its
--- quotation.
+-- What a run answers to its words, the bytes of its source and the bodies of its store. Each definition looks at one
+-- thing, in the order in which the refusals come: the words, the length of the source, its tariff, its itinerary, and
+-- its quotation.
 use Rattle.std.specs.Prelude.{◌≡◌, ℕ, List, [], ◌∷◌, Result, Ok, Err, MatchResult, MatchBool, nat_lt, length}
 use Rattle.fare_trip.specs.Itinerary.{Itinerary}
 use Rattle.fare_trip.specs.declared.fault.TripFault.{TripFault}

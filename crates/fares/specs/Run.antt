@@ -18,8 +18,8 @@ abbrev pub WritesNothing : Option (List ℕ) → Option (List ℕ) → Type 0
 WritesNothing old new = Appends old new []
 
 -- a run ended in its answer: it wrote the text of the answer whole, or wrote nothing and ended as the answer says.
--- Where memory was wanting, or a read or a call of the store failed, it wrote nothing, and where a write failed a prefix
--- of the text, and not all
+-- Where memory was wanting, or a read or a call of the store failed, it wrote nothing, and where a write failed a
+-- prefix of the text, and not all
 abbrev pub EndsIn : (Answer → Type 0) → Exit → Option (List ℕ) → Option (List ℕ) → Type 0
 EndsIn outcome ended.Done old new = (text : List ℕ) × outcome (Ok text) × Appends old new text
 EndsIn outcome ended.WriteFault old new = (text : List ℕ) × outcome (Ok text) × AppendsPrefix old new text

@@ -63,9 +63,10 @@ IsEndOfExport (ended.NoSuch number) = ⊤
 IsEndOfExport ended.Memory = ⊤
 IsEndOfExport other = ⊥
 
--- no more than one byte above a limit is taken from a source, and just so many where that is the answer; a failed read is
--- counted
-pub record IsReading {A : Type 0} (limit : ℕ) (answer : Result A Exit) (old new : Option (List ℕ)) (before after : ℕ) : Type 0 where
+-- no more than one byte above a limit is taken from a source, and just so many where that is the answer; a failed read
+-- is counted
+pub record IsReading {A : Type 0} (limit : ℕ) (answer : Result A Exit) (old new : Option (List ℕ))
+    (before after : ℕ) : Type 0 where
   pub within : TakesUpTo (limit + 1) old new
   pub too_long : IsErrOf answer ended.Limit → TakesJust (limit + 1) old new
   pub never_falls : before ≤ after

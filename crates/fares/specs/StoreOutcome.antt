@@ -1,7 +1,7 @@
--- What a command with a store answers, and the bodies that it leaves. Each definition looks at one thing, in the order in
--- which the refusals come: the length of the source, what it holds, the bodies of the store, and their editions.
-use Rattle.std.specs.Prelude.{◌≡◌, ℕ, List, Option, Some, None, Result, Ok, Err, MatchResult, MatchOption, MatchBool, nat_lt, length}
-use Rattle.std.specs.Prelude.{IfSome, ⊤}
+-- What a command with a store answers, and the bodies that it leaves. Each definition looks at one thing, in the order
+-- in which the refusals come: the length of the source, what it holds, the bodies of the store, and their editions.
+use Rattle.std.specs.Prelude.{◌≡◌, ℕ, List, Option, Some, None, Result, Ok, Err, MatchResult, MatchOption, MatchBool}
+use Rattle.std.specs.Prelude.{IfSome, nat_lt, length, ⊤}
 use Rattle.fare_trip.specs.Itinerary.{Itinerary}
 use Rattle.fare_trip.specs.ItineraryText.{read_trip}
 use Rattle.fare_tariff.specs.Tariff.{Tariff}
@@ -38,7 +38,8 @@ Lists editions answer = answer ≡ Ok (list_text editions)
 -- the answer to `export`: the canonical text of the edition of this number, and `NoSuch` where there is none
 abbrev pub Exports : ℕ → List Tariff → Answer → Type 0
 Exports number editions answer =
-    MatchOption (numbered number editions) (answer ≡ Err (ended.NoSuch number)) (λ tariff. answer ≡ Ok (canonical_text tariff))
+    MatchOption (numbered number editions) (answer ≡ Err (ended.NoSuch number))
+    (λ tariff. answer ≡ Ok (canonical_text tariff))
 
 -- the answer to an itinerary text: `BadTrip` of its first fault, if it has one, and else the quotation of its trip
 abbrev pub AnswersItineraryOver : List ℕ → Bodies → Answer → Type 0
@@ -49,7 +50,8 @@ AnswersItineraryOver text bodies answer =
 -- the answer to `quote`: `Limit` where the source is too long, and else that to its itinerary
 abbrev pub AnswersQuote : List ℕ → Bodies → Answer → Type 0
 AnswersQuote source bodies answer =
-    MatchBool (nat_lt quote_limit (length source)) (answer ≡ Err ended.Limit) (AnswersItineraryOver source bodies answer)
+    MatchBool (nat_lt quote_limit (length source)) (answer ≡ Err ended.Limit)
+    (AnswersItineraryOver source bodies answer)
 
 -- the answer to an edition over the editions that the bodies stand for, and what is left of the bodies: as that edition
 -- is published in the settled book of these
@@ -79,8 +81,8 @@ RefusalLeaves (Err exit) bodies left = left ≡ bodies
 abbrev pub Told : Type 0
 Told = Option Bodies
 
--- where a store tells the bodies that are left, this holds of those with which it was opened, which are the ones that it
--- told before, if it did, and of those that are left
+-- where a store tells the bodies that are left, this holds of those with which it was opened, which are the ones that
+-- it told before, if it did, and of those that are left
 abbrev pub OverStore : Told → Told → (Bodies → Bodies → Type 0) → Type 0
 OverStore before after relation =
     IfSome after (λ left. (opened : Bodies) × IfSome before (λ bodies. bodies ≡ opened) × relation opened left)

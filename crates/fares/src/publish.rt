@@ -72,8 +72,8 @@ fn publish_of<R: Threads + Sync, P: Keeper>(
     publish_in(rt, alloc, book, store, edition)
 }
 
-/// Publishes an edition in the book of an open store. Both texts that may be the answer are made before, so that no want
-/// of memory hides an edition that was stored.
+/// Publishes an edition in the book of an open store. Both texts that may be the answer are made before, so that no
+/// want of memory hides an edition that was stored.
 fn publish_in<R: Threads + Sync, P: Keeper>(
     rt: &R,
     alloc: Global,
