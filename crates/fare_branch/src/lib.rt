@@ -28,3 +28,6 @@ pub use own_bound::OwnBound;
 pub use partial::Partial;
 pub use pieces::{Piece, choices};
 pub use searching::search;
+
+#[cfg(test)]
+mod tests;
