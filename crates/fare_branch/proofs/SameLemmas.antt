@@ -130,12 +130,15 @@ module _ (tariff : Tariff) (trip : Itinerary) (front rest : List Part) where
     unfolding is_back_in
     back_same k m = rw (hr_same (x ∷ others) first, end_same k (low k m) (high k m), start_same k (low k m) (high k m), origin_same x others first) refl
 
-    cost_same : (k : ℕ) → Member k (x ∷ others) → part_cost tariff trip (front ++ rest) (x ∷ others) k ≡ part_cost tariff trip front (x ∷ others) k
+    pub amount_same : (k : ℕ) → Member k (x ∷ others) → part_amount tariff trip (front ++ rest) (x ∷ others) k ≡ part_amount tariff trip front (x ∷ others) k
     unfolding part_amount
-    cost_same k m =
-        ap (λ b. hundredths_of (component_amount tariff trip (start_of trip (front ++ rest) k) (end_of (front ++ rest) k) (part_at (front ++ rest) k).fare b)) (back_same k m)
-        ∙ ap (λ a. hundredths_of (component_amount tariff trip a (end_of (front ++ rest) k) (part_at (front ++ rest) k).fare (is_back_in tariff trip front (x ∷ others) k))) (front_start trip front rest k (low k m) (high k m))
-        ∙ ap (λ (p : Part). hundredths_of (component_amount tariff trip (start_of trip front k) p.end p.fare (is_back_in tariff trip front (x ∷ others) k))) (front_part front rest k (low k m) (high k m))
+    amount_same k m =
+        ap (λ b. component_amount tariff trip (start_of trip (front ++ rest) k) (end_of (front ++ rest) k) (part_at (front ++ rest) k).fare b) (back_same k m)
+        ∙ ap (λ a. component_amount tariff trip a (end_of (front ++ rest) k) (part_at (front ++ rest) k).fare (is_back_in tariff trip front (x ∷ others) k)) (front_start trip front rest k (low k m) (high k m))
+        ∙ ap (λ (p : Part). component_amount tariff trip (start_of trip front k) p.end p.fare (is_back_in tariff trip front (x ∷ others) k)) (front_part front rest k (low k m) (high k m))
+
+    cost_same : (k : ℕ) → Member k (x ∷ others) → part_cost tariff trip (front ++ rest) (x ∷ others) k ≡ part_cost tariff trip front (x ∷ others) k
+    cost_same k m = ap hundredths_of (amount_same k m)
 
     sum_same_unit : unit_sum tariff trip (front ++ rest) (x ∷ others) ≡ unit_sum tariff trip front (x ∷ others)
     unfolding unit_sum

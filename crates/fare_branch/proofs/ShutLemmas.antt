@@ -1,35 +1,37 @@
 -- No part comes to a unit of the first parts that is shut, so it costs in a lawful construction what it costs there.
 use Rattle.std.proofs.Common.{◌≡◌, ℕ, zero, suc, ◌+◌, ◌-◌, ◌<◌, ◌≤◌, Bool, true, false, ◌&&◌, ◌||◌, not, cond, ltb, leb, List, [], ◌∷◌, ◌++◌, length, refl, ap, sym, subst, ◌∙◌, inl, inr, arith}
-use Rattle.std.specs.Prelude.{Some, None, filter, sum_by, bytes_eq}
+use Rattle.std.specs.Prelude.{Some, None, filter, sum_by, bytes_eq, is_some, is_none, Option}
 use Rattle.std.specs.List.{range_with_len, list_any}
 use Rattle.std.proofs.Math.ListN.{length-append}
-use Rattle.std.proofs.lemmas.Bool.{cases_Bool, or_cases, and_parts, lt-ltb, not-true}
+use Rattle.std.proofs.lemmas.Bool.{cases_Bool, or_cases, and_parts, lt-ltb, not-true, eqb-true}
 use Rattle.std.proofs.lemmas.Option.{same_Some}
-use Rattle.std.proofs.lemmas.List.{append-nil}
+use Rattle.std.proofs.lemmas.List.{append-nil, append_assoc}
 use Rattle.std.proofs.lemmas.List.Elements.{filter-append}
 use Rattle.std.proofs.lemmas.Slice.Eq.{bytes_eq-Decides}
 use Rattle.fare_codes.specs.declared.city.City.{City}
 use Rattle.fare_trip.specs.Itinerary.{Itinerary}
 use Rattle.fare_tariff.specs.Tariff.{Tariff}
 use Rattle.fare_rules.specs.declared.part.Part.{Part}
-use Rattle.fare_rules.specs.Construction.{places, own, is_own, origin, last_of, but_last, greatest_unit, start_city, end_city}
+use Rattle.fare_rules.specs.Construction.{places, own, is_own, origin, last_of, but_last, greatest_unit, start_city, end_city, unit_of}
 use Rattle.fare_rules.specs.Shape.{is_ow, holds_ow, is_hr, is_mixed, mixed, follows, is_chained, ends_in, comes_home, comes_home_early, ends_at_home, closes, is_jaw, is_open_jaw, must_close, is_unchained, unchained, is_unclosed, unclosed}
-use Rattle.fare_rules.specs.UnitPrice.{price, unit_price, unit_sheet}
+use Rattle.fare_rules.specs.UnitPrice.{price, unit_price, unit_sheet, part_amount}
 use Rattle.fare_bounds.specs.Covers.{total}
 use Rattle.fare_rules.specs.Best.{IsLawful}
+use Rattle.fare_rules.proofs.AmountLemmas.{amount_of_part}
 use Rattle.fare_rules.proofs.LawfulLemmas.{kept}
 use Rattle.fare_rules.proofs.MemberLemmas.{Member}
 use Rattle.fare_rules.proofs.NumberLemmas.{find_none}
-use Rattle.fare_units.specs.Shut.{is_shut, has_gap_before}
-use Rattle.fare_units.proofs.NextLemmas.{front_unit}
+use Rattle.fare_units.specs.Shut.{is_shut, has_gap_before, has_no_amount, lacks_amount, is_priceless}
+use Rattle.fare_units.specs.Walk.{is_fruitless}
+use Rattle.fare_units.proofs.NextLemmas.{front_unit, next_part, next_numbered, next_fruitful}
 use Rattle.fare_units.proofs.ShutLemmas.{shut_has_parts}
 use Rattle.fare_branch.specs.Costs.{part_least, unit_least, unit_floor, units_floor}
-use Rattle.fare_branch.specs.Floors.{HasNoOpenUnit}
+use Rattle.fare_branch.specs.Floors.{HasNoOpenUnit, HasNoCompletion}
 use Rattle.fare_branch.proofs.CostLemmas.{unit_costs_least}
 use Rattle.fare_branch.proofs.FloorLemmas.{behind_least, unit_in_two, weights_are_below}
 use Rattle.fare_branch.proofs.LegLemmas.{legs_of}
-use Rattle.fare_branch.proofs.SameLemmas.{AreFirst, holds_same, chained_same, origin_same, ends_in_same, price_same}
-use Rattle.fare_branch.proofs.SumLemmas.{range_in_two, kept_member, sum_up}
+use Rattle.fare_branch.proofs.SameLemmas.{AreFirst, amount_same, holds_same, chained_same, origin_same, ends_in_same, price_same}
+use Rattle.fare_branch.proofs.SumLemmas.{range_in_two, kept_member, sum_up, unit_up_to}
 
 true_false : true ≡ false → ⊥
 true_false e = cc
@@ -129,6 +131,14 @@ module _ (tariff : Tariff) (trip : Itinerary) (parts : List Part) where
       early true false e = refl
       early false b e = absurd (true_false e)
 
+not_none : {A : Type 0} (o : Option A) → is_some o ≡ true → is_none o ≡ false
+not_none None e = absurd (true_false (sym e))
+not_none (Some x) e = refl
+
+any_not : (f : ℕ → Bool) (xs : List ℕ) → ((k : ℕ) → Member k xs → f k ≡ false) → list_any f xs ≡ false
+any_not f [] h = refl
+any_not f (x ∷ xs) h = rw (h x (inl refl), any_not f xs (λ k m. h k (inr m))) refl
+
 module _ (tariff : Tariff) (trip : Itinerary) (front rest : List Part) where
   -- the places of a unit among the first parts, and behind
   abbrev pub own_behind : ℕ → List ℕ
@@ -217,7 +227,39 @@ module _ (tariff : Tariff) (trip : Itinerary) (front rest : List Part) where
         gap_of [] first e g = gap_behind x y k more first e (not-true (bytes_eq (end_city trip front x) (start_city trip front y)) (and_parts _ _ (and_parts _ _ g).0).0)
         gap_of (z ∷ zs) first e g = true_false (sym g)
 
-    -- so nothing is behind it, and it costs the same
+    -- so nothing is behind it
+    shut_own : is_shut tariff trip front (own front unit) ≡ true → own (front ++ rest) unit ≡ own front unit
+    shut_own shut =
+        let behind : own_behind unit ≡ [] = shut_alone (own front unit) (own_behind unit) (own_are_first unit) (own_in_two unit) shut in
+        own_in_two unit ∙ ap (λ xs. own front unit ++ xs) behind ∙ append-nil (own front unit)
+
+    -- each of its parts has an amount
+    own_member : (k : ℕ) → Member k (own front unit) → (1 ≤ k) × (k ≤ length front) × (unit_of front k ≡ unit)
+    unfolding own
+    own_member k m =
+        let h = kept_member (is_own front unit) 1 (length front + 1 - 1) k m in
+        let past : k < 1 + (length front + 1 - 1) = h.1 in
+        (h.0, omega arith, eqb-true (unit_of front k) unit h.2)
+
+    amount_here : (xs : List ℕ) → AreFirst tariff trip front rest xs → own (front ++ rest) unit ≡ xs → (k : ℕ) → Member k xs → (1 ≤ k) × (k ≤ length front) × (unit_of front k ≡ unit) → is_none (part_amount tariff trip front xs k) ≡ false
+    amount_here [] first e k m place = absurd m
+    amount_here (x ∷ xs) first e k m place =
+        let n : length (front ++ rest) ≡ length front + length rest = length-append front rest in
+        let high : k ≤ length front = place.1 in
+        let there = amount_of_part tariff trip (front ++ rest) (kept tariff trip (front ++ rest) price lawful) k place.0 (omega arith) in
+        let here : unit_of (front ++ rest) k ≡ unit = front_unit front rest k place.0 place.1 ∙ place.2 in
+        let P : ℕ → Type 0 = λ u. is_some (part_amount tariff trip (front ++ rest) (own (front ++ rest) u) k) ≡ true in
+        let Q : List ℕ → Type 0 = λ ys. is_some (part_amount tariff trip (front ++ rest) ys k) ≡ true in
+        let some : is_some (part_amount tariff trip (front ++ rest) (x ∷ xs) k) ≡ true = subst Q e (subst P here there) in
+        not_none (part_amount tariff trip front (x ∷ xs) k) (sym (ap is_some (amount_same tariff trip front rest x xs first k m)) ∙ some)
+
+    pub priced : is_priceless tariff trip front unit ≡ true → ⊥
+    priced h =
+        let both = and_parts (is_shut tariff trip front (own front unit)) (lacks_amount tariff trip front (own front unit)) h in
+        let none : lacks_amount tariff trip front (own front unit) ≡ false = any_not (has_no_amount tariff trip front (own front unit)) (own front unit) (λ k m. amount_here (own front unit) (own_are_first unit) (shut_own both.0) k m (own_member k m)) in
+        true_false (sym both.1 ∙ none)
+
+    -- and it costs the same
     pub shut_costs : is_shut tariff trip front (own front unit) ≡ true → unit_price tariff trip front unit + behind_least tariff trip front rest unit ≤ unit_price tariff trip (front ++ rest) unit
     shut_costs shut =
         let behind : own_behind unit ≡ [] = shut_alone (own front unit) (own_behind unit) (own_are_first unit) (own_in_two unit) shut in
@@ -264,3 +306,23 @@ floor_of_shut false price least found e = absurd (some_none found e)
 pub floor_of_open : (shut : Bool) (price least : ℕ) → None ≡ cond shut (Some price) None → least ≡ cond shut price least
 floor_of_open true price least e = absurd (some_none price (sym e))
 floor_of_open false price least e = refl
+
+-- a list whose last part shuts its unit, which yet has no price, has no completion
+pub priceless_is_none : (tariff : Tariff) (trip : Itinerary) (front : List Part) (part : Part) → is_priceless tariff trip (front ++ part ∷ []) part.unit ≡ true → HasNoCompletion tariff trip (front ++ part ∷ [])
+priceless_is_none tariff trip front part h parts cost c =
+    let P : List Part → Type 0 = λ xs. IsLawful tariff trip xs cost in
+    let l : IsLawful tariff trip ((front ++ part ∷ []) ++ c.begins.0) cost = subst P c.begins.1 c.lawful in
+    let next : IsLawful tariff trip (front ++ part ∷ c.begins.0) cost = subst P (append_assoc front (part ∷ []) c.begins.0) l in
+    let numbered : (1 ≤ part.unit) × (part.unit ≤ greatest_unit front (places front) + 1) = next_numbered tariff trip front part c.begins.0 cost next in
+    let n : length (front ++ part ∷ []) ≡ length front + 1 = length-append front (part ∷ []) ∙ omega arith in
+    let m : length ((front ++ part ∷ []) ++ c.begins.0) ≡ length (front ++ part ∷ []) + length c.begins.0 = length-append (front ++ part ∷ []) c.begins.0 in
+    let unit : unit_of ((front ++ part ∷ []) ++ c.begins.0) (length front + 1) ≡ part.unit = front_unit (front ++ part ∷ []) c.begins.0 (length front + 1) (omega arith) (omega arith) ∙ ap (λ (p : Part). p.unit) (next_part front part []) in
+    let high : unit_of ((front ++ part ∷ []) ++ c.begins.0) (length front + 1) ≤ greatest_unit ((front ++ part ∷ []) ++ c.begins.0) (places ((front ++ part ∷ []) ++ c.begins.0)) = unit_up_to ((front ++ part ∷ []) ++ c.begins.0) 1 (length ((front ++ part ∷ []) ++ c.begins.0) + 1 - 1) (length front + 1) (omega arith) (omega arith) in
+    priced tariff trip (front ++ part ∷ []) c.begins.0 cost l part.unit numbered.0 (omega arith) h
+
+-- nor has one whose last part is fruitless
+pub fruitless_is_none : (tariff : Tariff) (trip : Itinerary) (front : List Part) (part : Part) → is_fruitless tariff (front ++ part ∷ []) ≡ true → HasNoCompletion tariff trip (front ++ part ∷ [])
+fruitless_is_none tariff trip front part h parts cost c =
+    let P : List Part → Type 0 = λ xs. IsLawful tariff trip xs cost in
+    let next : IsLawful tariff trip (front ++ part ∷ c.begins.0) cost = subst P (c.begins.1 ∙ append_assoc front (part ∷ []) c.begins.0) c.lawful in
+    true_false (sym h ∙ next_fruitful tariff trip front part c.begins.0 cost next)

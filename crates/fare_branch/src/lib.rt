@@ -31,3 +31,6 @@ pub use partial::Partial;
 pub use pieces::{Piece, choices};
 pub use quoter::BranchQuoter;
 pub use searching::search;
+
+#[cfg(test)]
+mod tests;

@@ -1,11 +1,12 @@
 -- Units to which no part can come any more, whatever follows.
-use Rattle.std.specs.Prelude.{ℕ, Bool, true, false, List, [], ◌∷◌, Option, Some, None, ◌||◌, if◌then◌else◌}
+use Rattle.std.specs.Prelude.{ℕ, Bool, true, false, List, [], ◌∷◌, Option, Some, None, is_none, ◌&&◌, ◌||◌, if◌then◌else◌}
+use Rattle.std.specs.List.{list_any}
 use Rattle.fare_trip.specs.Itinerary.{Itinerary}
 use Rattle.fare_tariff.specs.Tariff.{Tariff}
 use Rattle.fare_rules.specs.declared.part.Part.{Part}
 use Rattle.fare_rules.specs.Construction.{own, start_city, end_city}
 use Rattle.fare_rules.specs.Shape.{holds_ow, closes, is_only_gap}
-use Rattle.fare_rules.specs.UnitPrice.{unit_price}
+use Rattle.fare_rules.specs.UnitPrice.{unit_price, part_amount}
 
 -- a unit is an open jaw whose gap lies before its second part
 abbrev pub has_gap_before : Tariff → Itinerary → List Part → List ℕ → Bool
@@ -25,3 +26,16 @@ is_shut tariff trip parts own =
 abbrev pub shut_price : Tariff → Itinerary → List Part → ℕ → Option ℕ
 shut_price tariff trip parts unit =
     if is_shut tariff trip parts (own parts unit) then Some (unit_price tariff trip parts unit) else None
+
+-- a part of a unit has no amount in its direction
+abbrev pub has_no_amount : Tariff → Itinerary → List Part → List ℕ → ℕ → Bool
+has_no_amount tariff trip parts own k = is_none (part_amount tariff trip parts own k)
+
+-- some part of a unit has no amount in its direction
+abbrev pub lacks_amount : Tariff → Itinerary → List Part → List ℕ → Bool
+lacks_amount tariff trip parts own = list_any (has_no_amount tariff trip parts own) own
+
+-- a unit is shut, and yet has no price
+abbrev pub is_priceless : Tariff → Itinerary → List Part → ℕ → Bool
+is_priceless tariff trip parts unit =
+    is_shut tariff trip parts (own parts unit) && lacks_amount tariff trip parts (own parts unit)

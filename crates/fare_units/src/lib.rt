@@ -17,7 +17,7 @@ mod prices;
 mod rules;
 
 pub use best::order::earlier;
-pub use best::plain::plain_best;
+pub use best::plain::{is_fruitless, plain_best};
 pub use best::quoter::{PlainQuoter, Quoter};
 pub use construction::{Construction, MOST_PARTS};
 pub use fare_rules::{Broken, Part, UnitKind, UnitSheet};
@@ -27,7 +27,7 @@ pub use prices::circle::circle_minimum;
 pub use prices::price::MOST_UNIT_PRICE;
 pub use prices::priced::{first_parts_advance, lawful_price, price_is_of_unbroken};
 pub use prices::sheet::{unit_count, unit_sheet};
-pub use prices::shut::shut_price;
+pub use prices::shut::{is_priceless, shut_price};
 
 #[cfg(test)]
 mod tests;

@@ -78,9 +78,10 @@ fn next_start(trip: &Trip, front: &Construction) -> usize
     start_of(trip, parts, parts.len() + 1)
 }
 
-/// Whether the last of some parts has no place in any lawful construction that begins with them.
+/// Whether the last of some parts has no place in any lawful construction that begins with them: it crosses a unit, or
+/// shares one with another part where one of the two has a one way fare.
 #[tactic(auto, unfolding(crate::specs::Walk::is_fruitless))]
-fn is_fruitless(edition: &Edition, parts: &[Part]) -> bool
+pub fn is_fruitless(edition: &Edition, parts: &[Part]) -> bool
     ensures { result ≡ is_fruitless edition.now parts.now }
 {
     is_crossed(parts, parts.len()) || mixes(edition, parts, parts.len())

@@ -10,6 +10,7 @@ ghost use Rattle.fare_rules.specs.UnitPrice.{sheet_of_kind, unit_sheet, unit_pri
 ghost use Rattle.fare_component.specs.Usable.{IsAmount};
 ghost use Rattle.fare_units.specs.Advance.{Advances};
 ghost use Rattle.fare_units.specs.Places.{IsPlace, ArePlaces};
+ghost use Rattle.fare_units.specs.Shut.{lacks_amount};
 
 use crate::construction::MOST_PARTS;
 use crate::parts::direction::is_back_in;
@@ -59,6 +60,21 @@ fn part_cost(edition: &Edition, trip: &Trip, parts: &[Part], own: &[usize], k: u
         None => 0,
         Some(found) => found.amount.hundredths(),
     }
+}
+
+/// Whether some part of a unit has no amount in its direction.
+#[tactic(auto, using(crate::proofs::PriceSteps::lacks_next, crate::proofs::PriceSteps::lacks_past, crate::proofs::PriceSteps::lacks_done, crate::proofs::OwnLemmas::place_at))]
+pub(crate) fn lacks_amount(edition: &Edition, trip: &Trip, parts: &[Part], own: &[usize]) -> bool
+    requires advances { Advances trip.now parts.now }
+    requires places { ArePlaces parts.now own.now }
+    ensures { result ≡ lacks_amount edition.now trip.now parts.now own.now }
+{
+    for i in 0..own.len() {
+        if part_amount(edition, trip, parts, own, own[i]).is_none() {
+            return true;
+        }
+    }
+    false
 }
 
 /// The sum of the amounts of a unit.

@@ -2,12 +2,12 @@
 
 ghost use Rattle.std.specs.Prelude.{◌≡◌, ◌≤◌, IfSome, length};
 ghost use Rattle.fare_units.specs.Advance.{Advances, EndsWithin};
-ghost use Rattle.fare_units.specs.Shut.{is_shut, shut_price};
+ghost use Rattle.fare_units.specs.Shut.{is_shut, shut_price, is_priceless};
 
 use crate::construction::MOST_PARTS;
 use crate::parts::fares::holds_ow;
 use crate::parts::own::own;
-use crate::prices::price::{MOST_UNIT_PRICE, unit_price};
+use crate::prices::price::{MOST_UNIT_PRICE, lacks_amount, unit_price};
 use crate::rules::shape::{closes, has_gap_before};
 use fare_rules::Part;
 use fare_tariff::Edition;
@@ -38,4 +38,16 @@ pub fn shut_price(edition: &Edition, trip: &Trip, parts: &[Part], unit: usize) -
         return None;
     }
     Some(unit_price(edition, trip, parts, unit))
+}
+
+/// Whether a unit of the first parts of a construction is shut, and yet has no price: some part of it has no amount in
+/// its direction.
+pub fn is_priceless(edition: &Edition, trip: &Trip, parts: &[Part], unit: usize) -> bool
+    requires few { length parts.now ≤ MOST_PARTS }
+    requires advances { Advances trip.now parts.now }
+    ensures { result ≡ is_priceless edition.now trip.now parts.now unit }
+{
+    let own = own(parts, unit);
+    is_shut(edition, trip, parts, own.as_slice())
+        && lacks_amount(edition, trip, parts, own.as_slice())
 }

@@ -1,30 +1,23 @@
-use Rattle.std.proofs.Common.{◌≡◌, ◌<◌, ◌++◌, ◌∷◌, [], length, ap, sym, subst, ◌∙◌, Result, Ok, Err, true, false, arith}
-use Rattle.std.specs.Result.{IsOk, OnOk}
-use Rattle.fare_trip.specs.Itinerary.{count}
-use Rattle.fare_units.specs.Walk.{IsFront}
-use Rattle.fare_units.proofs.FrontLemmas.{front_more, front_short}
+use Rattle.std.proofs.Common.{◌≡◌, ◌++◌, ◌∷◌, [], List, sym, subst, ◌∙◌, true, false, inl, inr}
+use Rattle.std.proofs.lemmas.Bool.{or_cases}
 use Rattle.fare_rules.specs.declared.part.Part.{Part}
-use Rattle.fare_branch.specs.Floors.{may_follow}
-use Rattle.fare_branch.proofs.StepLemmas.{none_follows, follows, Follows}
+use Rattle.fare_units.specs.Shut.{is_priceless}
+use Rattle.fare_units.specs.Walk.{is_fruitless}
+use Rattle.fare_branch.specs.Floors.{may_follow, is_hopeless}
+use Rattle.fare_branch.proofs.StepLemmas.{none_follows}
+use Rattle.fare_branch.proofs.ShutLemmas.{fruitless_is_none, priceless_is_none}
 use Rattle.fare_branch.proofs.partial.Partial.next.Goals as goal
-
-on_ok : {P : Type 0} (r : Result (Unit {0}) Part) → IsOk r → OnOk r P → P
-on_ok (Ok x) h p = p
-on_ok (Err e) h p = cc
 
 pub returns-then-not-may_follow : goal.returns-then-not-may_follow
 returns-then-not-may_follow c =
     let none : may_follow c.args.table.now.trip c.args.self.now c.args.part ≡ false = cc in
     none_follows c.args.table.now.edition c.args.table.now.trip c.args.self.now c.args.part none
 
-pub returns : goal.returns
-returns c =
-    let may : may_follow c.args.table.now.trip c.args.self.now c.args.part ≡ true = cc in
-    let f : Follows c.args.table.now.trip c.args.self.now c.args.part = follows c.args.table.now.trip c.args.self.now c.args.part may in
-    let short : length c.args.self.now < count c.args.table.now.trip = front_short c.args.table.now.trip c.args.self.now c.args.part c.requires.made f.rises f.within in
-    let same : c.copied-longer.result ≡ c.args.self.now = cc in
-    let sectors : c.count-sectors.result ≡ count c.args.table.now.trip = c.count-sectors.ensures.value ∙ ap count c.trip-trip.ensures in
-    let room : length c.copied-longer.result < 16 = omega (arith, ap length same) in
-    let pushed : c.try_push-room.new.self ≡ c.copied-longer.result ++ c.args.part ∷ [] = on_ok c.try_push-room.result (c.try_push-room.ensures.room.1 room) c.try_push-room.ensures.pushed in
-    let longer : c.try_push-room.new.self ≡ c.args.self.now ++ c.args.part ∷ [] = cc in
-    (longer, subst (IsFront c.args.table.now.trip) (sym longer) (front_more c.args.table.now.trip c.args.self.now c.args.part c.requires.made f.rises f.within f.ordered))
+pub returns-then-is_hopeless : goal.returns-then-is_hopeless
+returns-then-is_hopeless c =
+    let P : List Part → Type 0 = λ xs. is_hopeless c.args.table.now.edition c.args.table.now.trip xs c.args.part.unit ≡ true in
+    let none : is_hopeless c.args.table.now.edition c.args.table.now.trip (c.args.self.now ++ c.args.part ∷ []) c.args.part.unit ≡ true = subst P c.longer-longer.ensures.parts (sym c.is_hopeless.ensures ∙ c.if-is_hopeless.true) in
+    elim (or_cases (is_fruitless c.args.table.now.edition (c.args.self.now ++ c.args.part ∷ [])) (is_priceless c.args.table.now.edition c.args.table.now.trip (c.args.self.now ++ c.args.part ∷ []) c.args.part.unit) none) [
+      | inl f ↦ fruitless_is_none c.args.table.now.edition c.args.table.now.trip c.args.self.now c.args.part f
+      | inr p ↦ priceless_is_none c.args.table.now.edition c.args.table.now.trip c.args.self.now c.args.part p
+    ]
