@@ -7,4 +7,6 @@ pub mod Calls
 pub mod Failures
 pub mod Room
 pub mod Objects
+pub mod ListedDoor
+pub mod OpenDoor
 pub mod Memory

@@ -67,6 +67,13 @@ impl Bodies {
         self.items.is_empty()
     }
 
+    /// The bodies, in order.
+    pub(crate) fn into_items(self) -> Vec<Bytes>
+        ensures { result.items ≡ self }
+    {
+        self.items
+    }
+
     /// Puts another body at index `i`, counted from 0.
     pub(crate) fn set(&mut self, i: usize, body: &[u8]) -> Result<(), NoMemory>
         requires { i < length self.old }

@@ -45,6 +45,13 @@ impl Bytes {
         Ok(())
     }
 
+    /// The same bytes.
+    pub(crate) fn into_vec(self) -> Vec<u8>
+        ensures { result.items ≡ self }
+    {
+        self.items
+    }
+
     /// All of them.
     pub fn as_slice(&self) -> &[u8]
         ensures { result.now ≡ self.now }

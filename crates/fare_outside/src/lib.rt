@@ -8,9 +8,12 @@
 //! - `plain_*`: objects in memory that never fail; `mem_*`: the same with a list of failing calls;
 //! - `calls`, `failures`, `fail_at`, `count`, `room`: which calls of those fail, how failures are
 //!   counted, and what fits;
-//! - `std_*`: standard input and standard output.
+//! - `at_place`: what stands at a place is read from, or put into, for a door in memory;
+//! - `std_*`: standard input and standard output;
+//! - `tcp_*`: a door over a port, its peers, and how long these may keep it waiting.
 #![tactic(auto)]
 
+mod at_place;
 mod bodies;
 mod bytes;
 mod calls;
@@ -21,6 +24,7 @@ mod failed;
 mod failures;
 mod gate;
 mod keeper;
+mod mem_door;
 mod mem_keeper;
 mod mem_sink;
 mod mem_source;
@@ -35,6 +39,9 @@ mod sink;
 mod source;
 mod std_sink;
 mod std_source;
+mod tcp_door;
+mod tcp_limits;
+mod tcp_peer;
 mod writing;
 
 pub use bodies::Bodies;
@@ -44,6 +51,7 @@ pub use fail_at::FailAt;
 pub use failed::Failed;
 pub use gate::{Gate, OpenGate};
 pub use keeper::{KeepFault, Keeper};
+pub use mem_door::MemDoor;
 pub use mem_keeper::MemKeeper;
 pub use mem_sink::MemSink;
 pub use mem_source::MemSource;
@@ -57,6 +65,8 @@ pub use sink::Sink;
 pub use source::Source;
 pub use std_sink::StdSink;
 pub use std_source::StdSource;
+pub use tcp_door::TcpDoor;
+pub use tcp_limits::TcpLimits;
 pub use writing::write_all;
 
 #[cfg(test)]

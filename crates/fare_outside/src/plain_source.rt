@@ -41,6 +41,7 @@ impl Source for PlainSource {
         ensures within { ReadsAtMost result buf.new }
         ensures bytes { ReadConsumes (Some self.old) (Some self.new) result buf.new }
         ensures answer { result ≡ Ok (min (length buf.old) (length self.old)) }
+        ensures rest { self.new ≡ drop (length buf.old) self.old }
     {
         let count = copy_front(&self.bytes[self.at..], buf);
         self.at += count;

@@ -1,0 +1,141 @@
+use super::*;
+use std::io::{Read, Write};
+use std::net::Shutdown;
+use std::test::Fail;
+use std::thread;
+use std::time::Duration;
+
+/// A door on a free port, and the port.
+fn listening(rt: &HostRuntime, limits: TcpLimits) -> Result<(TcpDoor, u16), Fail> {
+    let mut door = TcpDoor::with_limits(rt, limits);
+    door.listen(0)?;
+    let port = match &door.listener {
+        Some(listener) => listener.local_addr()?.port(),
+        None => 0,
+    };
+    Ok((door, port))
+}
+
+fn dialed(rt: &HostRuntime, port: u16) -> Result<TcpStream, Fail> {
+    Ok(TcpStream::connect(rt, (Ipv4Addr::LOCALHOST, port))?)
+}
+
+/// One that has sent all that it has.
+fn asking(rt: &HostRuntime, port: u16, bytes: &[u8]) -> Result<TcpStream, Fail> {
+    let mut peer = dialed(rt, port)?;
+    peer.write_all(bytes)?;
+    peer.shutdown(Shutdown::Write)?;
+    Ok(peer)
+}
+
+/// Whether a peer gets just these bytes, and then the end.
+fn gets(peer: &mut TcpStream, bytes: &[u8]) -> Result<bool, Fail> {
+    let mut buf = [0; 16];
+    let count = peer.read(&mut buf)?;
+    Ok(&buf[..count] == bytes && peer.read(&mut [0; 1])? == 0)
+}
+
+/// Whether the current connection brings just these bytes, and then the end.
+fn brings(door: &mut TcpDoor, bytes: &[u8]) -> Result<bool, Fail> {
+    let mut buf = [0; 16];
+    let count = door.read(&mut buf)?;
+    Ok(&buf[..count] == bytes && door.read(&mut [0; 1])? == 0)
+}
+
+/// Whether a connection is found within a second: the system may need a moment to tell of it.
+fn finds(rt: &HostRuntime, door: &mut TcpDoor) -> bool {
+    for _ in 0..100 {
+        if door.more() {
+            return true;
+        }
+        thread::sleep(rt, Duration::from_millis(10));
+    }
+    false
+}
+
+fn taken_and_held(door: &mut TcpDoor) -> bool {
+    match door.next() {
+        Ok(true) => door.hold(),
+        Ok(false) | Err(Failed) => false,
+    }
+}
+
+fn taken(door: &mut TcpDoor) -> bool {
+    door.next() == Ok(true)
+}
+
+fn is_cut(door: &mut TcpDoor) -> bool {
+    door.read(&mut [0; 4]).is_err()
+}
+
+/// Limits of some milliseconds.
+fn limits(silence: u64, exchange: u64) -> TcpLimits {
+    TcpLimits {
+        silence: Duration::from_millis(silence),
+        exchange: Duration::from_millis(exchange),
+        end: Duration::from_millis(100),
+    }
+}
+
+#[test]
+fn two_peers_are_answered_in_one_round(rt: HostRuntime) -> Result<(), Fail> {
+    let (mut door, port) = listening(&rt, TcpLimits::default())?;
+    assert!(rt; !door.more());
+    let mut first = asking(&rt, port, b"one")?;
+    let mut second = asking(&rt, port, b"two")?;
+    assert!(rt; taken_and_held(&mut door));
+    assert!(rt; finds(&rt, &mut door));
+    assert!(rt; taken_and_held(&mut door));
+    assert!(rt; !door.more());
+    assert!(rt; door.resume());
+    assert!(rt; brings(&mut door, b"one")?);
+    assert_eq!(rt; door.write(b"first"), Ok(5));
+    assert!(rt; door.resume());
+    assert!(rt; brings(&mut door, b"two")?);
+    assert_eq!(rt; door.write(b"second"), Ok(6));
+    door.close();
+    assert!(rt; gets(&mut first, b"first")?);
+    assert!(rt; gets(&mut second, b"second")?);
+    Ok(())
+}
+
+#[test]
+fn a_silent_peer_is_cut_off(rt: HostRuntime) -> Result<(), Fail> {
+    let (mut door, port) = listening(&rt, limits(100, 60_000))?;
+    let _silent = dialed(&rt, port)?;
+    assert!(rt; taken(&mut door));
+    assert!(rt; is_cut(&mut door));
+    let (mut door, port) = listening(&rt, limits(60_000, 100))?;
+    let _slow = dialed(&rt, port)?;
+    assert!(rt; taken(&mut door));
+    assert!(rt; is_cut(&mut door));
+    assert!(rt; door.write(b"late").is_err());
+    Ok(())
+}
+
+#[test]
+fn a_peer_that_resets_is_cut_off_alone(rt: HostRuntime) -> Result<(), Fail> {
+    let (mut door, port) = listening(&rt, TcpLimits::default())?;
+    let peer = dialed(&rt, port)?;
+    assert!(rt; taken(&mut door));
+    assert_eq!(rt; door.write(b"unread"), Ok(6));
+    // A connection that ends with bytes unread is reset.
+    drop(peer);
+    assert!(rt; is_cut(&mut door));
+    door.close();
+    let _next = asking(&rt, port, b"next")?;
+    assert!(rt; taken(&mut door));
+    assert!(rt; brings(&mut door, b"next")?);
+    Ok(())
+}
+
+#[test]
+fn unread_bytes_do_not_lose_the_answer(rt: HostRuntime) -> Result<(), Fail> {
+    let (mut door, port) = listening(&rt, TcpLimits::default())?;
+    let mut peer = asking(&rt, port, b"never read")?;
+    assert!(rt; taken(&mut door));
+    assert_eq!(rt; door.write(b"refused"), Ok(7));
+    door.close();
+    assert!(rt; gets(&mut peer, b"refused")?);
+    Ok(())
+}
