@@ -26,3 +26,6 @@ pub use laws::round_of_one;
 pub use round::Round;
 pub use serving::{RoundHandler, serve_round};
 pub use taking::take_round;
+
+#[cfg(test)]
+mod tests;

@@ -16,12 +16,14 @@ pub trait RoundHandler: Handler {
     ghost use Rattle.std.specs.Prelude.{◌≡◌, IfSome, List, Option, false, ℕ};
     ghost use Rattle.fare_http.specs.declared.reply.Reply.{Reply};
     ghost use Rattle.fare_rounds.specs.Entries.{ViewsRound, is_publication};
+    ghost use Rattle.std.specs.Thread.{IsSync};
 
     /// Which reply a request of a method, a path and a body has, if it isn't a `POST /editions`.
     ghost reply: { Self → List ℕ → List ℕ → List ℕ → Reply → Type 0 };
 
     /// Answers each whole request of a round but `POST /editions`, by `Round::view_all`.
     fn view<R: Threads + Sync>(&self, rt: &R, alloc: Global, round: &mut Round)
+        requires { IsSync R.row }
         ensures { ViewsRound (reply self.now) round.old round.new };
 
     /// The handler, where it is asked, has the same reply or finds memory wanting, and stays as it is.
