@@ -1,5 +1,5 @@
 -- Answers that are sent one after the other.
-use Rattle.std.proofs.Common.{◌≡◌, ℕ, ◌+◌, ◌<◌, ◌≤◌, suc, List, [], ◌∷◌, ◌++◌, length, map, take, drop, get_or, set, add-one, Option, None, Some, refl, sym, ap, ◌∙◌, subst, arith, append_assoc, append-nil, length-append}
+use Rattle.std.proofs.Common.{◌≡◌, ℕ, ◌+◌, ◌<◌, ◌≤◌, suc, List, [], ◌∷◌, ◌++◌, length, map, take, drop, get_or, set, add-one, Option, None, Some, refl, sym, ap, ◌∙◌, subst, arith, append_assoc, length-append}
 use Rattle.std.specs.Prelude.{option_map}
 use Rattle.std.proofs.Math.Seq.{drop-cons}
 use Rattle.std.proofs.lemmas.List.{drop-set-lt, length-map, map-append, take_more, take_more_set}
@@ -163,25 +163,6 @@ answering-counts Fails held_before held_now before now replies served cut_before
       omega (arith, done.served_is, done.cut_is, count, counts-each endings, length-map done.answered (λ (a : Answered). a.ending)),
       omega (arith, count, done.each, ap length done.held, length-append done.places held_now),
     )
-
--- all that were held have been answered
-pub answered-all : (Fails : Type 0) (held_before held_now : List ℕ) (before now : Option (List (List ℕ)))
-    (replies : List (Option Reply)) (served cut_before cut_now : ℕ)
-    → (done : Answering Fails held_before held_now before now replies served cut_before cut_now)
-    → length held_before ≡ length replies
-    → (held_now ≡ []) × Answers Fails held_before before now done.answered
-answered-all Fails held_before held_now before now replies served cut_before cut_now done same =
-    let count : length done.answered ≡ length replies =
-    sym (length-map done.answered (λ (a : Answered). a.reply)) ∙ ap length done.replies_are in
-    let none : held_now ≡ [] =
-    no-more held_now (omega (arith, same, count, done.each, ap length done.held, length-append done.places held_now)) in
-    let all : done.places ≡ held_before =
-    sym (done.held ∙ ap (λ rest. done.places ++ rest) none ∙ append-nil done.places) in
-    (none, subst (λ places. Answers Fails places before now done.answered) all done.answers)
-  where
-    no-more : (places : List ℕ) → length places ≡ 0 → places ≡ []
-    no-more [] none = refl
-    no-more (place ∷ places) none = absurd (omega (arith, none))
 
 module _ {H : Type 0} (step : H → List ℕ → List ℕ → List ℕ → Option Reply → H → Type 0) where
   -- one entry more was answered

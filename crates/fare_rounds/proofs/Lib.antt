@@ -3,3 +3,4 @@ pub mod GatherLemmas
 pub mod ViewLemmas
 pub mod AnswerLemmas
 pub mod RoundLemmas
+pub mod OneLemmas

@@ -131,74 +131,82 @@ module _ {H : Type 0} (step : H → List ℕ → List ℕ → List ℕ → Optio
   in-turn-length (entry ∷ entries) (reply ∷ given) old new turn =
       let rest = in-turn-length entries given turn.0 new turn.2 in omega (arith, rest)
 
+  -- what is shown at a handler is a step that leaves it
+  abbrev pub Shows : Type 0
+  Shows = (handler : H) (method path body : List ℕ) (answer : Option Reply) → is_publication method path ≡ false
+      → IfSome answer (replies handler method path body) → step handler method path body answer handler
+
   -- a request that was viewed, and then answered where it is a `POST /editions`, took one step of the round
   step-taken : (is : Bool) (own viewed reply : Option Reply) (Step Stays : Type 0) (Has : Reply → Type 0)
+      (Shown : Option Reply → Type 0) → ((answer : Option Reply) → is ≡ false → IfSome answer Has → Shown answer)
       → MatchBool is (viewed ≡ own) (IfSome viewed Has) → MatchBool is Step ((reply ≡ viewed) × Stays)
-      → MatchBool is Step (IfSome reply Has × Stays)
-  step-taken true own viewed reply Step Stays Has has replied = replied
-  step-taken false own viewed reply Step Stays Has has replied =
-      (subst (λ r. IfSome r Has) (sym replied.0) has, replied.1)
+      → MatchBool is Step (Shown reply × Stays)
+  step-taken true own viewed reply Step Stays Has Shown shows has replied = replied
+  step-taken false own viewed reply Step Stays Has Shown shows has replied =
+      (shows reply refl (subst (λ r. IfSome r Has) (sym replied.0) has), replied.1)
 
   -- an entry is answered as serving its connection says
-  entry-served : (start old new : H) (connection : Option (List ℕ)) (request : Option Request)
+  entry-served : Shows → (start old new : H) (connection : Option (List ℕ)) (request : Option Request)
       (own viewed reply : Option Reply) → IsBrought connection request own
       → HasReply (replies start) request own viewed → IsReplied step request viewed old reply new
-      → IsServed (RoundStep step replies start) connection old (answer_bytes reply) new
-  entry-served start old new connection None None viewed reply brought has replied =
+      → IsServed (RoundStep step start) connection old (answer_bytes reply) new
+  entry-served shows start old new connection None None viewed reply brought has replied =
       wanting (ap answer_bytes (replied.0 ∙ has)) replied.1
-  entry-served start old new connection None (Some own) viewed reply brought has replied =
+  entry-served shows start old new connection None (Some own) viewed reply brought has replied =
       fixed own brought (ap answer_bytes (replied.0 ∙ has)) replied.1
-  entry-served start old new connection (Some request) own viewed reply brought has replied =
+  entry-served shows start old new connection (Some request) own viewed reply brought has replied =
       whole request reply brought.0
       (step-taken (is_publication request.method request.path) own viewed reply
       (step old request.method request.path request.body reply new) (new ≡ old)
-      (replies start request.method request.path request.body) has replied)
+      (replies start request.method request.path request.body)
+      (λ answer. step start request.method request.path request.body answer start)
+      (λ answer is shown. shows start request.method request.path request.body answer is shown) has replied)
       refl
 
   -- an answer that was sent ends the exchange
   exchange-ended : (Fails : Type 0) (start old new : H) (connection : Option (List ℕ)) (ending : Exchange)
-      (answer sent : List ℕ) → IsServed (RoundStep step replies start) connection old answer new
+      (answer sent : List ℕ) → IsServed (RoundStep step start) connection old answer new
       → SentAs Fails ending answer sent
-      → Exchanges (RoundStep step replies start) ending connection old sent new Fails
+      → Exchanges (RoundStep step start) ending connection old sent new Fails
   exchange-ended Fails start old new connection Served answer sent served is =
-      subst (λ bytes. IsServed (RoundStep step replies start) connection old bytes new) (sym is) served
+      subst (λ bytes. IsServed (RoundStep step start) connection old bytes new) (sym is) served
   exchange-ended Fails start old new connection Cut answer sent served part = unsent answer part.0 served part.1
 
   -- the exchanges make a round
-  pub round-served : (Fails : Type 0) (start old new : H) (arrivals : List Arrival) (viewed : List Entry)
+  pub round-served : Shows → (Fails : Type 0) (start old new : H) (arrivals : List Arrival) (viewed : List Entry)
       (answered : List Answered) → All (IsRead Fails) arrivals
       → AllZip (IsViewed (replies start)) (entries_of arrivals) viewed
       → InTurn step viewed old (map (λ answer. answer.reply) answered) new → All (IsSent Fails) answered
-      → IsRound step replies Fails start old (merged arrivals answered) new
+      → IsRound step Fails start old (merged arrivals answered) new
   unfolding merged
-  round-served Fails start old new [] [] [] read views turn sent = turn
-  round-served Fails start old new [] [] (answer ∷ answered) read views turn sent = absurd turn
-  round-served Fails start old new [] (entry ∷ viewed) answered read views turn sent = absurd views
-  round-served Fails start old new (cut_off connection ∷ arrivals) viewed answered read views turn sent = (
+  round-served shows Fails start old new [] [] [] read views turn sent = turn
+  round-served shows Fails start old new [] [] (answer ∷ answered) read views turn sent = absurd turn
+  round-served shows Fails start old new [] (entry ∷ viewed) answered read views turn sent = absurd views
+  round-served shows Fails start old new (cut_off connection ∷ arrivals) viewed answered read views turn sent = (
     old,
     cut-short (All-head (IsRead Fails) (cut_off connection) arrivals read),
-    round-served Fails start old new arrivals viewed answered
+    round-served shows Fails start old new arrivals viewed answered
         (All-tail (IsRead Fails) (cut_off connection) arrivals read) views turn sent,
   )
     where
       cut-short : BringsTooLittle connection ⊎ Fails
-          → Exchanges (RoundStep step replies start) Cut connection old [] old Fails
+          → Exchanges (RoundStep step start) Cut connection old [] old Fails
       cut-short (inl short) = ended short refl refl
       cut-short (inr fails) = unread fails refl refl
-  round-served Fails start old new (held connection entry ∷ arrivals) [] answered read views turn sent = absurd views
-  round-served Fails start old new (held connection entry ∷ arrivals) (view ∷ viewed) [] read views turn sent =
+  round-served shows Fails start old new (held connection entry ∷ arrivals) [] answered read views turn sent = absurd views
+  round-served shows Fails start old new (held connection entry ∷ arrivals) (view ∷ viewed) [] read views turn sent =
       absurd turn
-  round-served Fails start old new (held connection entry ∷ arrivals) (view ∷ viewed) (answer ∷ answered) read views
+  round-served shows Fails start old new (held connection entry ∷ arrivals) (view ∷ viewed) (answer ∷ answered) read views
       turn sent =
       let between = turn.0 in
       let brought = All-head (IsRead Fails) (held connection entry) arrivals read in
       let replied = subst (λ request. IsReplied step request view.reply old answer.reply between) views.0.0 turn.1 in
-      let served = entry-served start old between connection entry.request entry.reply view.reply answer.reply
+      let served = entry-served shows start old between connection entry.request entry.reply view.reply answer.reply
       brought views.0.1 replied in (
         between,
         exchange-ended Fails start old between connection answer.ending (answer_bytes answer.reply) answer.sent served
             (All-head (IsSent Fails) answer answered sent),
-        round-served Fails start between new arrivals viewed answered
+        round-served shows Fails start between new arrivals viewed answered
             (All-tail (IsRead Fails) (held connection entry) arrivals read) views.1 turn.2
             (All-tail (IsSent Fails) answer answered sent),
       )

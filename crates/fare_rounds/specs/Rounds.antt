@@ -1,5 +1,5 @@
 -- What a round makes of the bytes that its connections bring, and of a handler.
-use Rattle.std.specs.Prelude.{◌≡◌, ℕ, List, [], ◌∷◌, Option, MatchBool, IfSome}
+use Rattle.std.specs.Prelude.{◌≡◌, ℕ, List, [], ◌∷◌, Option, MatchBool}
 use Rattle.fare_http.specs.declared.reply.Reply.{Reply}
 use Rattle.fare_http.specs.declared.sending.Exchange.{Exchange}
 use Rattle.fare_http.specs.Serving.{Exchanges}
@@ -11,14 +11,13 @@ pub record Exchanged : Type 0 where
   pub ending : Exchange
   pub sent : List ℕ
 
-module _ {H : Type 0} (step : H → List ℕ → List ℕ → List ℕ → Option Reply → H → Type 0)
-    (replies : H → List ℕ → List ℕ → List ℕ → Reply → Type 0) where
-  -- one request of a round that began with this handler: a `POST /editions` is one step of the handler; any other has
-  -- the reply that it had at the round's start, or memory was wanting, and the handler is as before
+module _ {H : Type 0} (step : H → List ℕ → List ℕ → List ℕ → Option Reply → H → Type 0) where
+  -- one request of a round that began with this handler: a `POST /editions` is one step of the handler; any other has an
+  -- answer that the handler had at the round's start, staying as it was, and leaves the handler as before
   abbrev pub RoundStep : H → H → List ℕ → List ℕ → List ℕ → Option Reply → H → Type 0
   RoundStep start old method path body reply new =
       MatchBool (is_publication method path) (step old method path body reply new)
-      (IfSome reply (replies start method path body) × (new ≡ old))
+      (step start method path body reply start × (new ≡ old))
 
   -- the connections of a round, in the order of arrival: each one's exchange is that of serving it with such a step
   abbrev pub IsRound : Type 0 → H → H → List Exchanged → H → Type 0

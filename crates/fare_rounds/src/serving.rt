@@ -13,16 +13,23 @@ use std::thread::Threads;
 
 /// A handler of which the requests that change nothing can be answered side by side.
 pub trait RoundHandler: Handler {
-    ghost use Rattle.std.specs.Prelude.{List, ℕ};
+    ghost use Rattle.std.specs.Prelude.{◌≡◌, IfSome, List, Option, false, ℕ};
     ghost use Rattle.fare_http.specs.declared.reply.Reply.{Reply};
-    ghost use Rattle.fare_rounds.specs.Entries.{ViewsRound};
+    ghost use Rattle.fare_rounds.specs.Entries.{ViewsRound, is_publication};
+    ghost use Rattle.std.specs.Thread.{IsSync};
 
     /// Which reply a request of a method, a path and a body has, if it isn't a `POST /editions`.
     ghost reply: { Self → List ℕ → List ℕ → List ℕ → Reply → Type 0 };
 
     /// Answers each whole request of a round but `POST /editions`, by `Round::view_all`.
     fn view<R: Threads + Sync>(&self, rt: &R, alloc: Global, round: &mut Round)
+        requires { IsSync R.row }
         ensures { ViewsRound (reply self.now) round.old round.new };
+
+    /// The handler, where it is asked, has the same reply or finds memory wanting, and stays as it is.
+    ghost shows: { (handler : Self) (method path body : List ℕ) (answer : Option Reply) →
+        is_publication method path ≡ false → IfSome answer (reply handler method path body) →
+        Self.step handler method path body answer handler };
 }
 
 /// Serves one round of at most `most` connections, and says how the door ended it and how many exchanges ended in which
@@ -38,7 +45,7 @@ pub fn serve_round<R: Threads + Sync, D: Door, H: RoundHandler>(
     requires few { most ≤ 8 }
     requires none_held { D.held door.old ≡ [] }
     ensures round { (round : List Exchanged)
-        × IsRound H.step H.reply (Rose (D.cuts door.old) (D.cuts door.new)) handler.old handler.old round handler.new
+        × IsRound H.step (Rose (D.cuts door.old) (D.cuts door.new)) handler.old handler.old round handler.new
         × TakesEach (D.waiting door.old) (D.waiting door.new) (map (λ exchanged. exchanged.connection) round)
         × (D.sent door.new ≡ with_lists (map (λ exchanged. exchanged.sent) round) (D.sent door.old))
         × (result.1.served ≡ served_count (map (λ exchanged. exchanged.ending) round))

@@ -41,7 +41,7 @@ returns-clause-round g c =
     let told = subst (λ places. IfSome (g.D.Door.sent first) (λ lists. places ≡ places_from (length lists) arrivals))
     (sym gathers.held) gathers.told in (
       merged arrivals answered,
-      round-served step replies Fails start start _ arrivals viewed.entries answered gathers.read zipped done.answered.1 sent,
+      round-served step replies g.met.H.RoundHandler.shows Fails start start _ arrivals viewed.entries answered gathers.read zipped done.answered.1 sent,
       subst (TakesEach (g.D.Door.waiting first) (g.D.Door.waiting door)) (sym (merged-connections arrivals answered same))
           (rw done.waiting gathers.waiting),
       merged-sent (g.D.Door.sent first) (g.D.Door.sent between) (g.D.Door.sent door) (g.D.Door.held between) arrivals answered

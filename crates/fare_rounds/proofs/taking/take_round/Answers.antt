@@ -32,9 +32,11 @@ returns-in-Err-clause-all g c = λ not-failed.
     let first = c.args.door.now in
     let before = c.connections.invariant in
     let between : Gathering = record { waiting = g.D.Door.waiting door; sent = g.D.Door.sent door; held = g.D.Door.held door; row = c.connections.round } in
+    let now = c.take_next.new.door in
+    let new : Gathering = record { waiting = g.D.Door.waiting now; sent = g.D.Door.sent now; held = g.D.Door.held now; row = c.take_next.new.round } in
     let stays = c.in-Err.ensures.ended in
-    let none : NoneWaits (g.D.Door.waiting door) = waits-none between _ stays (c.in-Err.ensures.none_waits not-failed) in
-    let count = count-stays between _ stays in
+    let none : NoneWaits (g.D.Door.waiting door) = waits-none between new stays (c.in-Err.ensures.none_waits not-failed) in
+    let count = count-stays between new stays in
     let few : connection_count c.connections.round ≤ c.args.most = omega (arith, before.count, c.connections-test.true) in
     rw count
     (all-taken _ (g.D.Door.waiting first) (g.D.Door.sent first) between c.args.most before.gathered few (inl none))
