@@ -1,5 +1,5 @@
 -- Connections that are taken one after the other.
-use Rattle.std.proofs.Common.{◌≡◌, ◌⊎◌, inl, inr, ℕ, ◌+◌, ◌≤◌, min, true, List, [], ◌∷◌, ◌++◌, length, map, Option, None, Some, refl, sym, ap, ◌∙◌, subst, arith, append_assoc, append-nil, length-append}
+use Rattle.std.proofs.Common.{◌≡◌, ◌⊎◌, inl, inr, ℕ, ◌+◌, ◌<◌, ◌≤◌, min, true, List, [], ◌∷◌, ◌++◌, length, map, Option, None, Some, refl, sym, ap, ◌∙◌, subst, arith, append_assoc, append-nil, length-append}
 use Rattle.std.specs.Prelude.{IfSome, option_to_list, is_some}
 use Rattle.std.proofs.lemmas.List.{map-append, length-map}
 use Rattle.std.proofs.lemmas.List.Elements.{All-append, All-cons, All-nil, All-weaker}
@@ -233,3 +233,28 @@ all-taken Fails waiting sent new most taken few why =
     let count : connection_count new.row ≡ length connections =
     counts-all Fails waiting sent new taken.0 taken.1 ∙ sym (length-map taken.0 connection_of) in
     rw count (all-waiting waiting new.waiting connections most taken.1.waiting (rw count at few) (rw count at why))
+
+-- where a further connection is taken only of those that are told to wait, none waited if none comes
+none-before : (old : List (List ℕ)) (new : Option (List (List ℕ))) (connections : List (Option (List ℕ)))
+    → TakesEach (Some old) new connections → (0 < length connections → new ≡ None) → NoneWaits new → old ≡ []
+none-before old None connections takes asked none = absurd takes
+none-before old (Some new) [] takes asked none =
+    let nothing : length old ≡ 0 =
+    omega (arith, ap length takes.1, length-append takes.0 new, ap length none, ap length takes.2, length-map takes.0 (λ (bytes : List ℕ). Some bytes)) in
+    empty old nothing
+  where
+    empty : (lists : List (List ℕ)) → length lists ≡ 0 → lists ≡ []
+    empty [] none = refl
+    empty (bytes ∷ lists) none = absurd (omega (arith, none))
+none-before old (Some new) (connection ∷ connections) takes asked none =
+    let never : Some new ≡ None = asked (omega arith) in absurd (cc)
+
+pub none-waited : (Fails : Type 0) (waiting sent : Option (List (List ℕ))) (new : Gathering)
+    → (arrivals : List Arrival) × Gathers Fails (none_taken waiting sent) new arrivals
+    → (0 < connection_count new.row → new.waiting ≡ None) → NoneWaits new.waiting
+    → IfSome waiting (λ lists. lists ≡ [])
+none-waited Fails None sent new taken asked none = tt
+none-waited Fails (Some old) sent new taken asked none =
+    let count : connection_count new.row ≡ length (map connection_of taken.0) =
+    counts-all Fails (Some old) sent new taken.0 taken.1 ∙ sym (length-map taken.0 connection_of) in
+    none-before old new.waiting (map connection_of taken.0) taken.1.waiting (λ some. asked (omega (arith, count, some))) none

@@ -53,6 +53,7 @@ pub fn serve_round<R: Threads + Sync, D: Door, H: RoundHandler>(
     ensures most { result.1.served + result.1.cut ≤ most }
     ensures open { result.0 ≡ DoorEnd.Open → 1 ≤ result.1.served + result.1.cut }
     ensures no_more { result.0 ≡ DoorEnd.NoMore → NoneWaits (D.waiting door.new) }
+    ensures none_waited { result.0 ≡ DoorEnd.NoMore → IfSome (D.waiting door.old) (λ lists. lists ≡ []) }
     ensures failed { result.0 ≡ DoorEnd.Failed → Rose (D.faults door.old) (D.faults door.new) }
     ensures all { result.0 ≢ DoorEnd.Failed →
         IfSome (D.waiting door.old) (λ lists. result.1.served + result.1.cut ≡ min most (length lists)) }

@@ -26,6 +26,7 @@ pub fn take_round<D: Door>(alloc: Global, door: &mut D, most: u32) -> (Round, Do
     ensures most { connection_count result.0 ≤ most }
     ensures open { result.1 ≡ DoorEnd.Open → 1 ≤ connection_count result.0 }
     ensures no_more { result.1 ≡ DoorEnd.NoMore → NoneWaits (D.waiting door.new) }
+    ensures none_waited { result.1 ≡ DoorEnd.NoMore → IfSome (D.waiting door.old) (λ lists. lists ≡ []) }
     ensures failed { result.1 ≡ DoorEnd.Failed → Rose (D.faults door.old) (D.faults door.new) }
     ensures all { result.1 ≢ DoorEnd.Failed →
         IfSome (D.waiting door.old) (λ lists. connection_count result.0 ≡ min most (length lists)) }
@@ -60,6 +61,7 @@ fn take_next<D: Door>(
         (record { waiting = D.waiting door.old; sent = D.sent door.old; held = D.held door.old; row = round.old })
         (record { waiting = D.waiting door.new; sent = D.sent door.new; held = D.held door.new; row = round.new })) }
     ensures further { result ≡ Err DoorEnd.Open → is_first ≡ false }
+    ensures asked { result ≡ Err DoorEnd.NoMore → is_first ≡ false → D.waiting door.old ≡ None }
     ensures none_waits { IfErr result (λ end. end ≢ DoorEnd.Failed → NoneWaits (D.waiting door.new)) }
     ensures failed { result ≡ Err DoorEnd.Failed → Rose (D.faults door.old) (D.faults door.new) }
     ensures current { result ≡ Err DoorEnd.Open → D.current door.new ≡ D.current door.old }

@@ -3,7 +3,10 @@ use Rattle.fare_outside.specs.Cause.{Rose}
 use Rattle.fare_outside.specs.Door.{NoneWaits}
 use Rattle.fare_rounds.specs.Entries.{connection_count}
 use Rattle.fare_rounds.specs.Taking.{Gathering, TakesNone}
-use Rattle.fare_rounds.proofs.GatherLemmas.{all-taken, counts-next, gathers-next, gathers-none}
+use Rattle.fare_rounds.proofs.GatherLemmas.{all-taken, counts-next, gathers-next, gathers-none, none-waited}
+use Rattle.std.proofs.Common.{◌≢◌, Err}
+use Rattle.std.proofs.lemmas.Bool.Decides.{nat_tests}
+use Rattle.fare_rounds.specs.declared.door_end.DoorEnd.TheVariants.{Failed}
 use Rattle.fare_rounds.proofs.taking.take_round.Goals as goal
 
 pub connections-init : goal.connections-init
@@ -40,6 +43,20 @@ returns-in-Err-clause-all g c = λ not-failed.
     let few : connection_count c.connections.round ≤ c.args.most = omega (arith, before.count, c.connections-test.true) in
     rw count
     (all-taken _ (g.D.Door.waiting first) (g.D.Door.sent first) between c.args.most before.gathered few (inl none))
+
+pub returns-in-Err-clause-none_waited : goal.returns-in-Err-clause-none_waited
+returns-in-Err-clause-none_waited g c = λ no-more.
+    let door = c.connections.door in
+    let first = c.args.door.now in
+    let before = c.connections.invariant in
+    let ended = c.in-Err.ensures in
+    let between : Gathering = record { waiting = g.D.Door.waiting door; sent = g.D.Door.sent door; held = g.D.Door.held door; row = c.connections.round } in
+    let now = c.take_next.new.door in
+    let new : Gathering = record { waiting = g.D.Door.waiting now; sent = g.D.Door.sent now; held = g.D.Door.held now; row = c.take_next.new.round } in
+    let not-failed : c.in-Err.end ≢ Failed = λ failed. cc in
+    let none : NoneWaits (g.D.Door.waiting door) = waits-none between new ended.ended (ended.none_waits not-failed) in
+    none-waited _ (g.D.Door.waiting first) (g.D.Door.sent first) between before.gathered
+    (λ some. ended.asked (ap Err no-more) (grind (arith, nat_tests, before.count))) none
 
 pub connections-preserved : goal.connections-preserved
 connections-preserved g c =
