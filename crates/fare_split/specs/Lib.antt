@@ -1,0 +1,3 @@
+pub use Rattle.fare_branch.specs.Search
+pub mod PriceWord
+pub mod NoWord
