@@ -21,9 +21,9 @@ stepped_to floor s id n me w r low high fits =
       views = λ seat u e. subst (λ m. Fits floor m u) (sym here) (⊎_elim
           (λ (x : (seat ≡ id) × (w ≡ u)). subst (Fits floor n) x.1 fits)
           (λ (x : (seat ≢ id) × (get_elem? s.views seat ≡ some u)).
-            let was = r.views seat u x.1 in
-            let up : slice_index s.words 0 ≤ u.least = was.0 in
-            (omega arith, was.1))
+          let was = r.views seat u x.1 in
+          let up : slice_index s.words 0 ≤ u.least = was.0 in
+          (omega arith, was.1))
           (at_set s.views id seat w u e));
     }
 

@@ -1,5 +1,5 @@
 -- What workers have found: one row for each, and what follows for all of them.
-use Rattle.std.specs.Prelude.{◌≡◌, ℕ, ◌<◌, ◌≤◌, false, List, Option, Some, None, Contains, All, map, length, slice_get}
+use Rattle.std.specs.Prelude.{◌≡◌, ℕ, ◌<◌, ◌≤◌, Bool, true, false, List, Option, Some, None, Contains, All, map, length, slice_get, if◌then◌else◌}
 use Rattle.fare_trip.specs.Itinerary.{Itinerary}
 use Rattle.fare_tariff.specs.Tariff.{Tariff}
 use Rattle.fare_rules.specs.declared.part.Part.{Part}
@@ -60,10 +60,20 @@ pub record IsRun (prices : Pricing) (row : Row) : Type 0 where
   pub floor : least_price prices.edition prices.trip ≤ row.least
   pub searched : IsSearched prices.edition prices.trip row.piece row.least row.result
 
--- nothing before it was found
+-- a construction with its price is not after what was found
 abbrev pub IsNotAfter : List Part × ℕ → Option (List Part × ℕ) → Type 0
 IsNotAfter best None = Unit {0}
 IsNotAfter best (Some other) = is_before other.0 other.1 best.0 best.1 ≡ false
+
+-- a construction with its price is before the best so far, or there is none
+abbrev pub is_earlier : List Part → ℕ → Option (List Part × ℕ) → Bool
+is_earlier parts price None = true
+is_earlier parts price (Some best) = is_before parts price best.0 best.1
+
+-- what a worker found, where it is before the best so far or there is none, and else the best so far
+abbrev pub earlier_of : Option (List Part × ℕ) → Option (List Part × ℕ) → Option (List Part × ℕ)
+earlier_of best None = best
+earlier_of best (Some found) = if is_earlier found.0 found.1 best then Some found else best
 
 -- an answer is the earliest of some results: one that none is before, or nothing where none has found anything
 abbrev pub IsEarliest : List (Option (List Part × ℕ)) → Option (List Part × ℕ) → Type 0

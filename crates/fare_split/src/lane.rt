@@ -43,6 +43,8 @@ impl<'a, 'b, N: Named> Bound for Lane<'a, 'b, N> {
     }
 
     fn found(&mut self, price: u64) {
-        self.word.shared.fetch_min::<Tells>(&mut self.seat, 0, price);
+        self.word
+            .shared
+            .fetch_min::<Tells>(&mut self.seat, 0, price);
     }
 }
