@@ -1,0 +1,12 @@
+use Rattle.std.proofs.Common.{◌≡◌, ◌<◌, ℕ, arith}
+use Rattle.fare_split.specs.PriceWord.{floor_of}
+use Rattle.fare_split.proofs.WordLemmas.{copies}
+use Rattle.fare_split.proofs.seating.seated.Goals as goal
+
+pub split_seat-own-requires : goal.split_seat-own-requires
+split_seat-own-requires c =
+    let one : c.args.word.now.shared.table_id.words ≡ 1 = c.requires.one_word in (
+      c.loop-piece.invariant.at,
+      omega arith,
+      copies (floor_of c.args.word.now.shared.key) c.loop-piece.seat.id c.loop-piece.seat.me.0,
+    )

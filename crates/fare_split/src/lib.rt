@@ -1,0 +1,30 @@
+//! The search shared out among workers: each searches a piece of the first-part choices of its own, and one word that
+//! all share holds the least price that any of them found.
+//!
+//! - `word`: the shared word, and what a seat at it knows;
+//! - `lane`: a seat at the word as the bound of a search;
+//! - `pieces`: the pieces of the workers, even ranges of the first-part choices;
+//! - `worker`: one worker, and its search at its seat;
+//! - `running`: the run of one worker;
+//! - `seating`: the workers of some pieces, each with a seat;
+//! - `threads`: the runs of all workers, each in a thread of its own;
+//! - `earliest`: the earliest of what they found;
+//! - `opening`: the word, with its first seat;
+//! - `prepared`: all that a search on some workers needs, and the search.
+//!
+//! Each of these stands on those above it.
+#![tactic(auto)]
+
+mod earliest;
+mod lane;
+mod opening;
+mod pieces;
+mod prepared;
+mod running;
+mod seating;
+mod threads;
+mod word;
+mod worker;
+
+pub use pieces::MOST_WORKERS;
+pub use prepared::Prepared;

@@ -1,0 +1,115 @@
+ghost use Rattle.std.specs.Prelude.{◌≡◌, ◌<◌, ◌≤◌, Some, All, IfOk, length, map, option_map, slice_get};
+ghost use Rattle.fare_rules.specs.Best.{IsBestAnswer};
+ghost use Rattle.fare_split.specs.Rows.{ArePieces, IsEarliest, IsFresh, IsRun, choice_count, piece_of, result_of};
+
+use crate::earliest::earliest;
+use crate::opening::opened;
+use crate::pieces::{MOST_WORKERS, shared_out};
+use crate::seating::seated;
+use crate::threads::run_all;
+use crate::word::Word;
+use crate::worker::Worker;
+use fare_bounds::Rest;
+use fare_branch::{Piece, choices};
+use fare_component::Table;
+use fare_outside::{Gate, NoMemory};
+use fare_rules::edition_is_valid;
+use fare_tariff::Edition;
+use fare_trip::Trip;
+use fare_units::Construction;
+use std::alloc::Global;
+use std::marker::Model;
+use std::thread::Threads;
+
+/// All that a search on some workers needs. A contract sees what is priced and a row for each worker: its piece, the
+/// least price that it knows, and what it found. Until a search these two are `NO_PRICE` and nothing.
+#[derive(Drop)]
+pub struct Prepared<'a> {
+    table: Table<'a>,
+    rest: Rest,
+    word: Word<'a>,
+    workers: Vec<Worker>,
+    pieces: Vec<Piece>,
+}
+
+impl<'a> Model for Prepared<'a> {
+    ghost use Rattle.fare_split.specs.Rows.{Preparation};
+    ghost use Rattle.fare_split.specs.Workers.{IsPrepared, rows_of};
+
+    ghost Value = { Preparation };
+
+    ghost view = { λ p. record { prices = p.table; rows = rows_of p.workers.items } };
+
+    ghost invariant = { λ p. IsPrepared p.table p.rest p.word.shared.table_id p.workers.items p.pieces.items };
+}
+
+impl<'a> Prepared<'a> {
+    /// Prepares the search for the best construction of a trip on some workers. It takes all the memory that the search
+    /// needs.
+    pub fn new(
+        alloc: Global,
+        edition: &'a Edition,
+        trip: &'a Trip,
+        workers: u32,
+    ) -> Result<Prepared<'a>, NoMemory>
+        requires some { 1 ≤ workers }
+        requires few { workers ≤ MOST_WORKERS }
+        ensures { IfOk result (IsFresh edition.now trip.now workers) }
+    {
+        edition_is_valid(edition);
+        let _sectors = trip.count();
+        let table = Table::prepare(alloc, edition, trip)?;
+        let rest = Rest::of(&table);
+        let pieces = shared_out(alloc, choices(&table), workers)?;
+        let (word, seat) = opened(alloc, &table)?;
+        let workers = seated(alloc, &word, seat, pieces.as_slice())?;
+        Ok(Prepared {
+            table,
+            rest,
+            word,
+            workers,
+            pieces,
+        })
+    }
+
+    /// The pieces of the workers: one for each, and each first-part choice lies in exactly one.
+    pub fn pieces(&self) -> &[Piece]
+        ensures pieces { result.now ≡ map piece_of self.now.rows }
+        ensures split { ArePieces (choice_count self.now.prices) result.now }
+    {
+        self.pieces.as_slice()
+    }
+
+    /// What a worker found, counted from 0.
+    pub fn result(&self, worker: u32) -> Option<(&Construction, u64)>
+        requires { worker < length self.now.rows }
+        ensures { slice_get (map result_of self.now.rows) worker
+            ≡ Some (option_map (λ found. (found.0.now, found.1)) result) }
+    {
+        match &self.workers[worker as usize].found {
+            None => None,
+            Some((parts, price)) => Some((parts, *price)),
+        }
+    }
+
+    /// The best construction of the trip, with its price; nothing exactly where none is lawful. Each worker searches its
+    /// piece, once the gate has let it through, and the answer is the earliest of what they found. It takes no memory.
+    pub fn solve<R: Threads + Sync, G: Gate>(
+        &mut self,
+        rt: &R,
+        gate: &G,
+    ) -> Option<(Construction, u64)>
+        ensures best { IsBestAnswer self.old.prices.edition self.old.prices.trip result }
+        ensures prices { self.new.prices ≡ self.old.prices }
+        ensures pieces { map piece_of self.new.rows ≡ map piece_of self.old.rows }
+        ensures run { All (IsRun self.old.prices) self.new.rows }
+        ensures earliest { IsEarliest (map result_of self.new.rows) result }
+    {
+        let word = &self.word;
+        let table = &self.table;
+        let rest = &self.rest;
+        let _sectors = table.trip().count();
+        run_all(rt, gate, word, table, rest, self.workers.as_mut_slice());
+        earliest(self.workers.as_slice())
+    }
+}
