@@ -1,10 +1,10 @@
 # The commands of a fresh machine that has the toolchain's `rt` on its PATH.
 PREFIX ?= /usr/local
 EXAMPLE ?= examples/london-rome.txt
-RECORDS ?= 2000
+RECORDS ?= 200000
 PROGRAM = crates/fares/out/fares
 
-.PHONY: quote try test install speed program
+.PHONY: quote try test install speed try-store program
 
 # Proves and builds the program where it isn't built yet, and quotes an example trip.
 quote: program
@@ -28,6 +28,10 @@ speed: program
 	examples/many-records $(RECORDS) > many-records.txt
 	time $(PROGRAM) price < many-records.txt
 	rm many-records.txt
+
+# What a file of editions bears, tried for real.
+try-store: program
+	examples/try-store $(PROGRAM)
 
 program:
 	cd crates/fares && rt run fares -- price < $(abspath examples/london-rome.txt) > /dev/null
