@@ -13,6 +13,3 @@ mod rest;
 pub use costs::least_cost;
 pub use limits::COST_LIMIT;
 pub use rest::Rest;
-
-#[cfg(test)]
-mod tests;

@@ -31,6 +31,3 @@ pub use partial::Partial;
 pub use pieces::{Piece, choices};
 pub use quoter::BranchQuoter;
 pub use searching::search;
-
-#[cfg(test)]
-mod tests;

@@ -1,6 +1,7 @@
 mod answers;
 mod calls;
 mod parts;
+mod search;
 mod spans;
 mod tables;
 mod texts;
