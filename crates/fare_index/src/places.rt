@@ -22,15 +22,14 @@ pub(crate) fn places_of<K: Eq + Hash + Copy>(
 ) -> Result<Places<K>, NoMemory>
     ensures { IfOk result (ArePlaces K.eq keys.now) }
 {
-    let Ok(count) = u32::try_from(keys.len()) else {
+    if keys.len() > u32::MAX as usize {
         return Err(NoMemory);
-    };
+    }
     // About half of the keys of an edition are told apart.
     let mut first = HashMap::with_capacity(alloc, keys.len() / 2)?;
     let mut next = vec![in alloc; None; keys.len()]?;
-    for place in (0..count).rev() {
-        let at = place as usize;
-        next[at] = first.insert(keys[at], place)?;
+    for place in (0..keys.len()).rev() {
+        next[place] = first.insert(keys[place], place as u32)?;
     }
     Ok(Places { first, next })
 }
