@@ -1,7 +1,7 @@
 -- Each kind of record is found by its key.
-use Rattle.std.proofs.Common.{◌≡◌, ℕ, ◌+◌, Bool, true, false, cond, ◌&&◌, List, [], ◌∷◌, Option, Some, None, is_some, is_none, not, option_and_then, find, bytes_eq, refl, ap, ◌∙◌}
+use Rattle.std.proofs.Common.{◌≡◌, ℕ, ◌+◌, Bool, true, false, cond, ◌&&◌, List, [], ◌∷◌, zero, suc, slice_get, Option, Some, None, is_some, is_none, not, Bor, option_and_then, find, bytes_eq, refl, ap, sym, ◌∙◌}
 use Rattle.std.specs.List.{position_from}
-use Rattle.std.specs.Option.{option_or}
+use Rattle.std.specs.Option.{option_or, option_copied}
 use Rattle.fare_codes.specs.declared.city.City.{City}
 use Rattle.fare_codes.specs.declared.country.Country.{Country}
 use Rattle.fare_codes.specs.declared.rule_id.RuleId.{RuleId}
@@ -17,7 +17,7 @@ use Rattle.fare_tariff.specs.declared.records.record.Record.{Record}
 use Rattle.fare_tariff.specs.declared.records.record.Record.TheVariants as filed
 use Rattle.fare_tariff.specs.Lookup.{first_some, same_pair, same_via, city_in, currency_in, rule_in, mpm_in, tpm_in, is_fare_between}
 use Rattle.fare_tariff.specs.Check.{is_allowance_of}
-use Rattle.fare_tariff.specs.Keyed.{own_key, has_own_key}
+use Rattle.fare_tariff.specs.Keyed.{own_key, has_own_key, IsAmong}
 
 -- the first answer of a list is that of the first record that answers
 pub first_some-find : {A : Type 0} (answer : Record → Option A) (test : Record → Bool) → ((one : Record) → test one ≡ is_some (answer one)) → (all : List Record) → first_some answer all ≡ option_and_then answer (find test all)
@@ -40,6 +40,30 @@ first_some-none {A} answer test tells k (x ∷ xs) = go (answer x) (test x) (tel
     go None false h later = later
     go (Some v) true h later = refl
     go (Some v) false h later = cc
+
+-- a list answers something where a record of it does
+pub answered_at : {A : Type 0} (answer : Record → Option A) (all : List Record) (place : ℕ) (one : Record) → slice_get all place ≡ Some one → is_some (answer one) ≡ true → is_none (first_some answer all) ≡ false
+answered_at answer [] place one h s = cc
+answered_at {A} answer (x ∷ xs) zero one h s =
+    let same : x ≡ one = cc in
+    go (answer x) (ap (λ r. is_some (answer r)) same ∙ s)
+  where
+    go : (o : Option A) → is_some o ≡ true → is_none (option_or o (first_some answer xs)) ≡ false
+    go None e = cc
+    go (Some v) e = refl
+answered_at {A} answer (x ∷ xs) (suc place) one h s = go (answer x) (answered_at answer xs place one h s)
+  where
+    go : (o : Option A) → is_none (first_some answer xs) ≡ false → is_none (option_or o (first_some answer xs)) ≡ false
+    go None later = later
+    go (Some v) later = refl
+
+-- what is there in a borrowed answer is there
+pub told_by : {T : Type 0} (o : Option (Bor T)) (v : Option T) (r : Bool) → option_copied o ≡ v → r ≡ is_some o → r ≡ true → is_some v ≡ true
+told_by None v r h s told = cc
+told_by (Some one) v r h s told = ap is_some (sym h)
+
+pub city_known : (city : City) (all : List Record) (one : Record) → IsAmong all one → is_some (city_in city one) ≡ true → is_none (first_some (city_in city) all) ≡ false
+city_known city all one at told = answered_at (city_in city) all at.0 one at.1 told
 
 -- a test gives a value exactly where it is true
 some_where : {A : Type 0} (t : Bool) (v : A) → t ≡ is_some (cond t (Some v) None)

@@ -1,6 +1,6 @@
 //! Cities, rules and countries that a record names and no record files.
 
-ghost use Rattle.std.specs.Prelude.{◌≡◌, is_none};
+ghost use Rattle.std.specs.Prelude.{◌≡◌, true, false, is_none};
 ghost use Rattle.std.specs.List.{list_any};
 ghost use Rattle.std.specs.Option.{option_to_list};
 ghost use Rattle.fare_tariff.specs.Check.{is_unknown_city, is_one_unknown, names_unknown_city, is_unknown_rule};
@@ -9,15 +9,36 @@ ghost use Rattle.fare_tariff.specs.Faulty.{names_unknown};
 ghost use Rattle.fare_tariff.specs.Lookup.{first_some, rule_in, currency_in};
 
 use crate::filed::Filed;
+use crate::look_up::city_in;
 use crate::records::Record;
 use fare_codes::{City, Country, RuleId};
 use fare_index::Key;
+
+/// Whether the record at which a city's may stand is its record.
+fn is_guessed(filed: &Filed, city: City) -> bool
+    ensures { result ≡ true → is_unknown_city filed.now city ≡ false }
+{
+    match filed.guess(city) {
+        None => false,
+        Some(one) => city_in(city, one).is_some(),
+    }
+}
+
+/// Whether no record has the key of a city.
+fn has_no_place(filed: &Filed, city: City) -> bool
+    ensures { result ≡ is_unknown_city filed.now city }
+{
+    filed.first(&Key::City(city)).is_none()
+}
 
 /// Whether a city has no record.
 fn is_unknown_city(filed: &Filed, city: City) -> bool
     ensures { result ≡ is_unknown_city filed.now city }
 {
-    filed.first(&Key::City(city)).is_none()
+    if is_guessed(filed, city) {
+        return false;
+    }
+    has_no_place(filed, city)
 }
 
 /// Whether a via field names a city that has no record.
