@@ -1,12 +1,15 @@
-ghost use Rattle.std.specs.Prelude.{◌≡◌, ◌↔◌, true, List, ℕ, IsTrue, codes, bytes_eq};
+ghost use Rattle.std.specs.Prelude.{◌≡◌, ◌↔◌, true, List, ℕ, [], ◌∷◌, IsTrue, codes, bytes_eq};
+ghost use Rattle.std.specs.Cmp.Rules.{comparing, hashing};
+ghost use Rattle.std.proofs.Common.{rules};
 ghost use Rattle.fare_codes.specs.Codes.{is_city, read_city};
 
 use crate::texts::{all_uppercase, ascii_text};
 use arrayvec::ArrayString;
+use std::hash::{Hash, Hasher};
 use std::marker::Model;
 
 /// A city: three letters A to Z.
-#[derive(Clone, Copy, Debug, PartialEq, Eq, PartialOrd, Ord, Hash)]
+#[derive(Clone, Copy, Debug, PartialEq, Eq, PartialOrd, Ord)]
 pub struct City {
     letters: [u8; 3],
 }
@@ -51,6 +54,17 @@ impl City {
         ensures test { result ≡ bytes_eq self other }
     {
         self.letters == other.letters
+    }
+}
+
+/// Its letters are hashed as one write, since an edition's index hashes a city for each record.
+impl Hash for City {
+    ghost hash_input = { λ letters. letters ∷ [] };
+
+    ghost respects_eq = { Prim.search (hashing, rules) };
+
+    fn hash<H: Hasher>(&self, state: &mut H) {
+        state.write(&self.letters);
     }
 }
 

@@ -1,12 +1,15 @@
-ghost use Rattle.std.specs.Prelude.{◌≡◌, ◌↔◌, ◌≤◌, true, IsTrue, length, bytes_eq};
+ghost use Rattle.std.specs.Prelude.{◌≡◌, ◌↔◌, ◌≤◌, true, [], ◌∷◌, IsTrue, length, bytes_eq};
+ghost use Rattle.std.specs.Cmp.Rules.{comparing, hashing};
+ghost use Rattle.std.proofs.Common.{rules};
 ghost use Rattle.fare_codes.specs.Codes.{is_rule_id, read_rule_id, padded};
 
 use crate::texts::{all_code_characters, ascii_text};
 use arrayvec::ArrayString;
+use std::hash::{Hash, Hasher};
 use std::marker::Model;
 
 /// A rule's id: one to eight characters, each a letter A to Z or a digit.
-#[derive(Clone, Copy, Debug, PartialEq, Eq, PartialOrd, Ord, Hash)]
+#[derive(Clone, Copy, Debug, PartialEq, Eq, PartialOrd, Ord)]
 pub struct RuleId {
     characters: [u8; 8],
     len: u8,
@@ -63,6 +66,17 @@ impl RuleId {
         ensures test { result ≡ bytes_eq self other }
     {
         self == other
+    }
+}
+
+/// Its eight bytes are hashed as one write, since an edition's index hashes a rule for each fare.
+impl Hash for RuleId {
+    ghost hash_input = { λ bytes. padded bytes ∷ [] };
+
+    ghost respects_eq = { Prim.search (hashing, rules) };
+
+    fn hash<H: Hasher>(&self, state: &mut H) {
+        state.write(&self.characters);
     }
 }
 

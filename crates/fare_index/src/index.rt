@@ -42,7 +42,7 @@ impl Index {
     pub fn first(&self, key: &Key) -> Option<usize>
         ensures { result ≡ position_from (same_key key.now) 0 self.now }
     {
-        self.places.first.get(key).copied()
+        index_of(self.places.first.get(key).copied())
     }
 
     /// The next place of the key at a place; nothing where the key doesn't come again.
@@ -51,6 +51,16 @@ impl Index {
         ensures { (d : Key) → result
             ≡ position_from (same_key (slice_index_or self.now place d)) (place + 1) (drop (place + 1) self.now) }
     {
-        self.places.next[place]
+        index_of(self.places.next[place])
+    }
+}
+
+/// A place of 32 bits as an index of a list.
+fn index_of(place: Option<u32>) -> Option<usize>
+    ensures { result ≡ place }
+{
+    match place {
+        Some(at) => Some(at as usize),
+        None => None,
     }
 }

@@ -1,6 +1,7 @@
 -- Each kind of record is found by its key.
-use Rattle.std.proofs.Common.{◌≡◌, Bool, true, false, cond, ◌&&◌, List, [], ◌∷◌, Option, Some, None, is_some, option_and_then, find, bytes_eq, refl, ap, ◌∙◌}
-use Rattle.std.specs.Option.{option_or}
+use Rattle.std.proofs.Common.{◌≡◌, ℕ, ◌+◌, Bool, true, false, cond, ◌&&◌, List, [], ◌∷◌, zero, suc, slice_get, Option, Some, None, is_some, is_none, not, Bor, option_and_then, find, bytes_eq, refl, ap, sym, ◌∙◌}
+use Rattle.std.specs.List.{position_from}
+use Rattle.std.specs.Option.{option_or, option_copied}
 use Rattle.fare_codes.specs.declared.city.City.{City}
 use Rattle.fare_codes.specs.declared.country.Country.{Country}
 use Rattle.fare_codes.specs.declared.rule_id.RuleId.{RuleId}
@@ -16,7 +17,7 @@ use Rattle.fare_tariff.specs.declared.records.record.Record.{Record}
 use Rattle.fare_tariff.specs.declared.records.record.Record.TheVariants as filed
 use Rattle.fare_tariff.specs.Lookup.{first_some, same_pair, same_via, city_in, currency_in, rule_in, mpm_in, tpm_in, is_fare_between}
 use Rattle.fare_tariff.specs.Check.{is_allowance_of}
-use Rattle.fare_tariff.specs.Keyed.{own_key, has_own_key}
+use Rattle.fare_tariff.specs.Keyed.{own_key, has_own_key, IsAmong}
 
 -- the first answer of a list is that of the first record that answers
 pub first_some-find : {A : Type 0} (answer : Record → Option A) (test : Record → Bool) → ((one : Record) → test one ≡ is_some (answer one)) → (all : List Record) → first_some answer all ≡ option_and_then answer (find test all)
@@ -28,6 +29,41 @@ first_some-find {A} answer test tells (x ∷ xs) = go (answer x) (test x) refl (
     go None false e h later = later
     go (Some v) true e h later = e
     go (Some v) false e h later = cc
+
+-- a list answers nothing exactly where no record of it has the key
+pub first_some-none : {A : Type 0} (answer : Record → Option A) (test : Record → Bool) → ((one : Record) → test one ≡ is_some (answer one)) → (k : ℕ) (all : List Record) → is_none (first_some answer all) ≡ is_none (position_from test k all)
+first_some-none answer test tells k [] = refl
+first_some-none {A} answer test tells k (x ∷ xs) = go (answer x) (test x) (tells x) (first_some-none answer test tells (k + 1) xs)
+  where
+    go : (o : Option A) (t : Bool) → t ≡ is_some o → is_none (first_some answer xs) ≡ is_none (position_from test (k + 1) xs) → is_none (option_or o (first_some answer xs)) ≡ is_none (cond t (Some k) (position_from test (k + 1) xs))
+    go None true h later = cc
+    go None false h later = later
+    go (Some v) true h later = refl
+    go (Some v) false h later = cc
+
+-- a list answers something where a record of it does
+pub answered_at : {A : Type 0} (answer : Record → Option A) (all : List Record) (place : ℕ) (one : Record) → slice_get all place ≡ Some one → is_some (answer one) ≡ true → is_none (first_some answer all) ≡ false
+answered_at answer [] place one h s = cc
+answered_at {A} answer (x ∷ xs) zero one h s =
+    let same : x ≡ one = cc in
+    go (answer x) (ap (λ r. is_some (answer r)) same ∙ s)
+  where
+    go : (o : Option A) → is_some o ≡ true → is_none (option_or o (first_some answer xs)) ≡ false
+    go None e = cc
+    go (Some v) e = refl
+answered_at {A} answer (x ∷ xs) (suc place) one h s = go (answer x) (answered_at answer xs place one h s)
+  where
+    go : (o : Option A) → is_none (first_some answer xs) ≡ false → is_none (option_or o (first_some answer xs)) ≡ false
+    go None later = later
+    go (Some v) later = refl
+
+-- what is there in a borrowed answer is there
+pub told_by : {T : Type 0} (o : Option (Bor T)) (v : Option T) (r : Bool) → option_copied o ≡ v → r ≡ is_some o → r ≡ true → is_some v ≡ true
+told_by None v r h s told = cc
+told_by (Some one) v r h s told = ap is_some (sym h)
+
+pub city_known : (city : City) (all : List Record) (one : Record) → IsAmong all one → is_some (city_in city one) ≡ true → is_none (first_some (city_in city) all) ≡ false
+city_known city all one at told = answered_at (city_in city) all at.0 one at.1 told
 
 -- a test gives a value exactly where it is true
 some_where : {A : Type 0} (t : Bool) (v : A) → t ≡ is_some (cond t (Some v) None)
@@ -94,3 +130,19 @@ mpm_found a b ind all = first_some-find (mpm_in a b ind) (has_own_key (permitted
 
 pub tpm_found : (a b : City) (all : List Record) → first_some (tpm_in a b) all ≡ option_and_then (tpm_in a b) (find (has_own_key (ticketed_key a b)) all)
 tpm_found a b all = first_some-find (tpm_in a b) (has_own_key (ticketed_key a b)) (tpm_tells a b) all
+
+-- what isn't there is none
+pub none_told : {A : Type 0} (o : Option A) (r : Bool) → is_some o ≡ not r → r ≡ is_none o
+none_told None true h = refl
+none_told None false h = cc
+none_told (Some v) true h = cc
+none_told (Some v) false h = refl
+
+pub city_unknown : (city : City) (all : List Record) → is_none (first_some (city_in city) all) ≡ is_none (position_from (has_own_key (kind.City city)) 0 all)
+city_unknown city all = first_some-none (city_in city) (has_own_key (kind.City city)) (city_tells city) 0 all
+
+pub currency_unknown : (country : Country) (all : List Record) → is_none (first_some (currency_in country) all) ≡ is_none (position_from (has_own_key (kind.Currency country)) 0 all)
+currency_unknown country all = first_some-none (currency_in country) (has_own_key (kind.Currency country)) (currency_tells country) 0 all
+
+pub rule_unknown : (id : RuleId) (all : List Record) → is_none (first_some (rule_in id) all) ≡ is_none (position_from (has_own_key (kind.Rule id)) 0 all)
+rule_unknown id all = first_some-none (rule_in id) (has_own_key (kind.Rule id)) (rule_tells id) 0 all

@@ -1,5 +1,5 @@
 -- The keys by which the records of a list are found.
-use Rattle.std.specs.Prelude.{◌≡◌, ℕ, Bool, true, List, Option, Some, None, map, nat_lt, if◌then◌else◌}
+use Rattle.std.specs.Prelude.{◌≡◌, ℕ, Bool, true, List, Option, Some, None, map, nat_lt, slice_get, if◌then◌else◌}
 use Rattle.std.specs.List.{list_all}
 use Rattle.fare_index.specs.declared.key.Key.{Key}
 use Rattle.fare_index.specs.declared.key.Key.TheVariants as kind
@@ -37,3 +37,7 @@ before place (Some first) = if nat_lt first place then Some first else None
 pub record IsIndexed (records : List Record) (index : List Key) : Type 0 where
   pub keys : index ≡ map own_key records
   pub amounts : list_all has_amount_in_range records ≡ true
+
+-- a record stands at a place of a list
+abbrev pub IsAmong : List Record → Record → Type 0
+IsAmong records one = (place : ℕ) × (slice_get records place ≡ Some one)

@@ -1,14 +1,16 @@
 //! Records with the places of their keys.
 
-ghost use Rattle.std.specs.Prelude.{◌≡◌, ◌+◌, ◌<◌, true, find, map, IfOk, OnOk, length, drop, slice_index_or};
+ghost use Rattle.std.specs.Prelude.{◌≡◌, ◌+◌, ◌<◌, true, find, map, IfOk, IfSome, OnOk, length, drop, slice_index_or};
 ghost use Rattle.std.specs.List.{list_all, position_from};
 ghost use Rattle.std.specs.Option.{option_copied};
 ghost use Rattle.fare_tariff.specs.declared.records.record.Record.{Record};
 ghost use Rattle.fare_tariff.specs.Check.{has_amount_in_range};
 ghost use Rattle.fare_codes.specs.declared.nuc.TheConstants.{FARE_LIMIT};
-ghost use Rattle.fare_tariff.specs.Keyed.{own_key, has_own_key};
+ghost use Rattle.fare_tariff.specs.Keyed.{own_key, has_own_key, IsAmong};
 
 use crate::records::{FareRec, Record};
+use crate::towns::Towns;
+use fare_codes::City;
 use fare_index::{Index, Key};
 use fare_outside::NoMemory;
 use std::alloc::Global;
@@ -19,6 +21,7 @@ use std::marker::Model;
 pub(crate) struct Filed {
     records: Vec<Record>,
     index: Index,
+    towns: Towns,
 }
 
 impl Model for Filed {
@@ -39,8 +42,13 @@ impl Filed {
         ensures { IfOk result (λ filed. filed ≡ records.items) }
     {
         let keys = own_keys(alloc, records.as_slice())?;
+        let towns = Towns::of(alloc, keys.as_slice())?;
         let index = Index::of(alloc, keys)?;
-        Ok(Filed { records, index })
+        Ok(Filed {
+            records,
+            index,
+            towns,
+        })
     }
 
     /// The records, in their order.
@@ -49,6 +57,13 @@ impl Filed {
         ensures amounts { list_all has_amount_in_range self.now ≡ true }
     {
         self.records.as_slice()
+    }
+
+    /// The record at the place where a city's may stand; it may be any other.
+    pub(crate) fn guess(&self, city: City) -> Option<&Record>
+        ensures { IfSome result (λ one. IsAmong self.now one.now) }
+    {
+        self.records.get(self.towns.place(city))
     }
 
     /// The place of the first record with a key.

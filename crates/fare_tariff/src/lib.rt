@@ -4,7 +4,7 @@
 //! - `records`: a record of each kind with its ranges, keys, terms and lists of names, and when two are the same;
 //! - `limits`: how many records there may be, and how great their numbers;
 //! - `edition`: an edition, which is valid by its type;
-//! - `filed`: a list of records with the places of their keys;
+//! - `filed`: a list of records with the places of their keys, and `towns`, where the record of a city may stand;
 //! - `check`: each kind of fault as its own test, and the first fault of a list of records;
 //! - `look_up`: cities, currencies, fares, rules and mileages, each found by its key;
 //! - `seasons`: when two seasons share a day;
@@ -19,6 +19,7 @@ mod limits;
 mod look_up;
 mod records;
 mod seasons;
+mod towns;
 
 pub use check::{CheckFault, CheckKind};
 pub use edition::Edition;

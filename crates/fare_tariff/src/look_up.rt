@@ -7,6 +7,5 @@ mod rules;
 mod seek;
 
 pub(crate) use fares::{has_key, nth_place, number_at};
-pub(crate) use places::{city_record, currency_record};
-pub(crate) use rules::rule_record;
+pub(crate) use places::city_in;
 pub(crate) use seek::{Sought, first_fare, is_sought};

@@ -1,22 +1,44 @@
 //! Cities, rules and countries that a record names and no record files.
 
-ghost use Rattle.std.specs.Prelude.{◌≡◌};
+ghost use Rattle.std.specs.Prelude.{◌≡◌, true, false, is_none};
 ghost use Rattle.std.specs.List.{list_any};
 ghost use Rattle.std.specs.Option.{option_to_list};
 ghost use Rattle.fare_tariff.specs.Check.{is_unknown_city, is_one_unknown, names_unknown_city, is_unknown_rule};
 ghost use Rattle.fare_tariff.specs.Check.{names_unknown_rule, names_unknown_currency};
 ghost use Rattle.fare_tariff.specs.Faulty.{names_unknown};
+ghost use Rattle.fare_tariff.specs.Lookup.{first_some, rule_in, currency_in};
 
 use crate::filed::Filed;
-use crate::look_up::{city_record, currency_record, rule_record};
+use crate::look_up::city_in;
 use crate::records::Record;
-use fare_codes::{City, RuleId};
+use fare_codes::{City, Country, RuleId};
+use fare_index::Key;
+
+/// Whether the record at which a city's may stand is its record.
+fn is_guessed(filed: &Filed, city: City) -> bool
+    ensures { result ≡ true → is_unknown_city filed.now city ≡ false }
+{
+    match filed.guess(city) {
+        None => false,
+        Some(one) => city_in(city, one).is_some(),
+    }
+}
+
+/// Whether no record has the key of a city.
+fn has_no_place(filed: &Filed, city: City) -> bool
+    ensures { result ≡ is_unknown_city filed.now city }
+{
+    filed.first(&Key::City(city)).is_none()
+}
 
 /// Whether a city has no record.
 fn is_unknown_city(filed: &Filed, city: City) -> bool
     ensures { result ≡ is_unknown_city filed.now city }
 {
-    city_record(filed, city).is_none()
+    if is_guessed(filed, city) {
+        return false;
+    }
+    has_no_place(filed, city)
 }
 
 /// Whether a via field names a city that has no record.
@@ -50,13 +72,20 @@ pub(crate) fn names_unknown_city(filed: &Filed, one: &Record) -> bool
     }
 }
 
+/// Whether a rule has no record.
+fn is_unknown_id(filed: &Filed, id: RuleId) -> bool
+    ensures { result ≡ is_none (first_some (rule_in id) filed.now) }
+{
+    filed.first(&Key::Rule(id)).is_none()
+}
+
 /// Whether a rule field names a rule that has no record.
 fn is_unknown_rule(filed: &Filed, rule: &Option<RuleId>) -> bool
     ensures { result ≡ is_unknown_rule filed.now rule.now }
 {
     match rule {
         None => false,
-        Some(id) => rule_record(filed, *id).is_none(),
+        Some(id) => is_unknown_id(filed, *id),
     }
 }
 
@@ -70,12 +99,19 @@ pub(crate) fn names_unknown_rule(filed: &Filed, one: &Record) -> bool
     }
 }
 
+/// Whether a country has no currency.
+fn is_unknown_country(filed: &Filed, country: Country) -> bool
+    ensures { result ≡ is_none (first_some (currency_in country) filed.now) }
+{
+    filed.first(&Key::Currency(country)).is_none()
+}
+
 /// Whether a record is a city whose country has no currency.
 pub(crate) fn names_unknown_currency(filed: &Filed, one: &Record) -> bool
     ensures { result ≡ names_unknown_currency filed.now one.now }
 {
     match one {
-        Record::City(r) => currency_record(filed, r.country).is_none(),
+        Record::City(r) => is_unknown_country(filed, r.country),
         _ => false,
     }
 }

@@ -6,17 +6,21 @@ use std::alloc::Global;
 use std::marker::Model;
 
 /// A list of rules by their ids, in which nothing stands for the free rule. A contract sees the list of names.
+///
+/// Each record of an edition takes the room of the greatest, a rule, so a list is kept behind a pointer.
 #[derive(Drop)]
 pub struct RuleList {
-    names: Vec<Option<RuleId>>,
+    alloc: Global,
+    names: Option<Box<Vec<Option<RuleId>>>>,
 }
 
 impl Model for RuleList {
-    ghost use Rattle.std.specs.Prelude.{List, ℕ, Option};
+    ghost use Rattle.std.specs.Prelude.{List, [], ℕ, Option};
+    ghost use Rattle.std.specs.Option.{option_map_or};
 
     ghost Value = { List (Option (List ℕ)) };
 
-    ghost view = { λ l. l.names.items };
+    ghost view = { λ l. option_map_or (λ list. list.value.items) l.names [] };
 }
 
 impl RuleList {
@@ -24,9 +28,7 @@ impl RuleList {
     pub fn new(alloc: Global) -> RuleList
         ensures { result ≡ [] }
     {
-        RuleList {
-            names: Vec::new(alloc),
-        }
+        RuleList { alloc, names: None }
     }
 
     /// Adds a name at the end; where memory is wanting the list is as before.
@@ -34,7 +36,14 @@ impl RuleList {
         ensures ok { OnOk result (self.new ≡ self.old ++ name ∷ []) }
         ensures err { OnErr result (self.new ≡ self.old) }
     {
-        self.names.push(name)?;
+        match &mut self.names {
+            Some(list) => list.push(name)?,
+            None => {
+                let mut list = Vec::new(self.alloc);
+                list.push(name)?;
+                self.names = Some(Box::new(self.alloc, list)?);
+            }
+        }
         Ok(())
     }
 
@@ -42,7 +51,10 @@ impl RuleList {
     pub fn names(&self) -> &[Option<RuleId>]
         ensures { result.now ≡ self.now }
     {
-        self.names.as_slice()
+        match &self.names {
+            Some(list) => list.as_slice(),
+            None => &[],
+        }
     }
 }
 

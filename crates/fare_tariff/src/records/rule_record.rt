@@ -7,6 +7,8 @@ use std::marker::Model;
 pub struct RuleRec {
     /// The rule's id; the key.
     pub id: RuleId,
+    /// Whether a mileage surcharge above 0 is allowed.
+    pub excess: bool,
     /// The greatest number of interior stopovers in a fare component, 0 to 16.
     pub stops: u32,
     /// The greatest number of interior transfers in a fare component, 0 to 16.
@@ -17,8 +19,6 @@ pub struct RuleRec {
     pub min_stay: u32,
     /// The greatest stay in days, 0 to 999.
     pub max_stay: u32,
-    /// Whether a mileage surcharge above 0 is allowed.
-    pub excess: bool,
     /// The rules with which it may be combined in a pricing unit.
     pub units: Names,
     /// The rules with which it may be combined end on end.

@@ -6,7 +6,7 @@ use Rattle.fare_index.proofs.places.places_of.Goals as goal
 pub loop-place-init : goal.loop-place-init
 loop-place-init g c =
     let same : length c.in_ok-next.next.items ≡ length c.args.keys.now = omega (arith, c.in_ok-next.next.ok, c.in_ok-next.ensures.len) in
-    passed_none g.K.PartialEq.eq c.args.keys.now c.new-first.result c.in_ok-next.next.items c.new-first.ensures.empty same
+    passed_none g.K.PartialEq.eq c.args.keys.now c.in_ok-first.first c.in_ok-next.next.items c.in_ok-first.ensures.empty same
 
 pub loop-place-preserved : goal.loop-place-preserved
 loop-place-preserved g c =

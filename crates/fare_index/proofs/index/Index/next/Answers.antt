@@ -10,4 +10,4 @@ index-requires c =
     omega (arith, same, c.requires, c.self.inside.places.next.ok)
 
 pub returns : goal.returns
-returns c = λ d. c.index.ensures ∙ next_seen same_key _ c.args.self.now _ c.args.place d _ c.self.view_is c.self.invariant.next c.requires
+returns c = λ d. c.index_of.ensures ∙ c.index.ensures ∙ next_seen same_key _ c.args.self.now _ c.args.place d _ c.self.view_is c.self.invariant.next c.requires
