@@ -5,6 +5,7 @@ pub mod Counts
 pub mod CursorLemmas
 pub mod EntryLemmas
 pub mod LawLemmas
+pub mod ReferenceLemmas
 pub mod TableLemmas
 pub mod WalkLemmas
 pub mod WorkedEntries

@@ -4,6 +4,7 @@ pub use Rattle.fare_tariff.specs.Tariff
 pub use Rattle.fare_rules.specs.Terms
 pub use Rattle.fare_rules.specs.ComponentAmount
 pub mod Candidates
+pub mod References
 pub mod Shared
 pub mod Table
 pub mod Usable

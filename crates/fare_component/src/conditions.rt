@@ -16,7 +16,7 @@ pub use fares::{
     covers_cabins, covers_carriers, has_indicator, in_season, may_be_priced, runs_between,
 };
 pub use spans::{holds_surface, repeats_city};
-pub(crate) use surcharges::span_surcharge;
+pub(crate) use surcharges::{span_surcharge, surcharge_by};
 pub use surcharges::{excess_holds, mileage_holds};
-pub(crate) use terms::is_allowed;
+pub(crate) use terms::{is_allowed, terms_allow};
 pub use terms::{advance_holds, stops_hold, transfers_hold};

@@ -1,7 +1,8 @@
 //! The table of a trip in an edition: what each fare costs for each span, computed once.
 //!
 //! - `indicators`: the indicators of all spans;
-//! - `bases`: the base of a fare by them;
+//! - `references`, `forms`: the references of fares between the points, each looked up once;
+//! - `bases`, `backhauls`: the base and the backhaul minimum of a fare by them;
 //! - `entry`: one fare of a span;
 //! - `cursor`, `candidates`: the fares between two cities, in record order;
 //! - `entries`, `row`: all entries of a span, and of all spans from a point.
@@ -12,12 +13,15 @@ ghost use Rattle.fare_rules.specs.Numbers.{numbers};
 ghost use Rattle.fare_component.specs.Shared.{AreIndicators};
 ghost use Rattle.fare_component.specs.Table.{IsInBounds, entries_of, row_of};
 
+mod backhauls;
 mod bases;
 mod candidates;
 mod cursor;
 mod entries;
 mod entry;
+mod forms;
 mod indicators;
+mod references;
 mod row;
 
 pub use entries::MOST_ENTRIES;
@@ -25,6 +29,7 @@ pub use entry::Entry;
 use fare_outside::NoMemory;
 use fare_tariff::Edition;
 use fare_trip::Trip;
+use forms::Forms;
 use indicators::{Indicators, all_indicators};
 use row::Row;
 use std::alloc::Global;
@@ -109,9 +114,10 @@ fn rows_of(
     requires { AreIndicators edition.now trip.now indicators.now.rows }
     ensures { IfOk result (λ rows. rows.items ≡ map (row_of edition.now trip.now) (numbers 0 (count trip.now))) }
 {
+    let mut forms = Forms::new(alloc);
     let mut rows = Vec::new(alloc);
     for a in 0..trip.count() {
-        rows.push(Row::of(alloc, edition, trip, indicators, a)?)?;
+        rows.push(Row::of(alloc, edition, trip, indicators, &mut forms, a)?)?;
     }
     Ok(rows)
 }

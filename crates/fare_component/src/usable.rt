@@ -1,7 +1,8 @@
 //! Whether a fare may be used for a span, whatever its mileage.
 
-ghost use Rattle.std.specs.Prelude.{◌≡◌, ◌<◌, ◌≤◌, ◌&&◌, not};
+ghost use Rattle.std.specs.Prelude.{◌≡◌, ◌<◌, ◌≤◌, ◌&&◌, not, true};
 ghost use Rattle.fare_trip.specs.Itinerary.{count};
+ghost use Rattle.fare_rules.specs.Indicator.{indicator};
 ghost use Rattle.fare_rules.specs.Span.{holds_surface};
 ghost use Rattle.fare_rules.specs.ComponentAmount.{repeats_city};
 ghost use Rattle.fare_component.specs.Usable.{is_for_span, is_usable};
@@ -10,6 +11,7 @@ use crate::conditions::{
     advance_holds, covers_cabins, covers_carriers, has_indicator, holds_surface, in_season,
     may_be_priced, repeats_city, runs_between, stops_hold, transfers_hold,
 };
+use fare_codes::Indicator;
 use fare_tariff::{Edition, FareRec};
 use fare_trip::Trip;
 
@@ -63,4 +65,30 @@ pub(crate) fn is_usable(
         && stops_hold(edition, trip, a, b, fare)
         && transfers_hold(edition, trip, a, b, fare)
         && advance_holds(edition, trip, fare)
+}
+
+/// Whether a fare is for a span that can be a component and has an indicator.
+#[tactic(auto, using(crate::proofs::AmountLemmas::is_for_plain_span))]
+pub(crate) fn suits_span(
+    edition: &Edition,
+    trip: &Trip,
+    ind: Indicator,
+    a: usize,
+    b: usize,
+    fare: &FareRec,
+    back: bool,
+) -> bool
+    requires rises { a < b }
+    requires within { b ≤ count trip.now }
+    requires plain { (not (holds_surface trip.now a b) && not (repeats_city trip.now a b)) ≡ true }
+    requires indicator { ind ≡ indicator edition.now trip.now a b }
+    ensures { result ≡ is_for_span edition.now trip.now a b back fare.now }
+{
+    let _edition = edition;
+    runs_between(trip, a, b, back, fare)
+        && may_be_priced(fare, back)
+        && fare.ind.is(ind)
+        && covers_cabins(trip, a, b, fare)
+        && covers_carriers(trip, a, b, fare)
+        && in_season(trip, a, fare)
 }

@@ -4,6 +4,7 @@ ghost use Rattle.std.specs.Prelude.{◌≡◌, ◌<◌, ◌≤◌, ◌++◌, OnO
 ghost use Rattle.fare_drill.specs.declared.limits.TheConstants.{EXTRA_CITIES};
 ghost use Rattle.fare_drill.specs.Miles.{pairs, pairs_from};
 
+use crate::limits::EXTRA_CITIES;
 use crate::pair::Pair;
 use fare_outside::NoMemory;
 use std::alloc::Global;
@@ -13,7 +14,8 @@ pub(crate) fn pairs(alloc: Global, count: u32) -> Result<Vec<Pair>, NoMemory>
     requires { count ≤ EXTRA_CITIES }
     ensures { IfOk result (λ all. all.items ≡ pairs count) }
 {
-    let mut pairs = Vec::new(alloc);
+    let room = count as usize * EXTRA_CITIES as usize / 2;
+    let mut pairs = Vec::with_capacity(alloc, room)?;
     for first in 0..count {
         push_from(&mut pairs, count, first)?;
     }

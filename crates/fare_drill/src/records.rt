@@ -19,6 +19,9 @@ use fare_outside::NoMemory;
 use fare_tariff::{CurRec, Names, Record, RuleRec};
 use std::alloc::Global;
 
+/// Room for the records of as many cities as there can be and for the extra cities.
+const ROOM: usize = 9 * 16 * 16 + 3 + 676;
+
 /// The records of a drill.
 #[tactic(auto, unfolding(crate::specs::Drill::drill_records))]
 pub(crate) fn drill_records(
@@ -30,7 +33,7 @@ pub(crate) fn drill_records(
     requires { sectors ≤ MOST_SECTORS }
     ensures { IfOk result (λ records. records.items ≡ drill_records seed sectors extra) }
 {
-    let mut records = Vec::new(alloc);
+    let mut records = Vec::with_capacity(alloc, ROOM + extra as usize)?;
     push_base(&mut records, alloc, seed, sectors.max(2))?;
     push_extra(&mut records, alloc, extra)?;
     Ok(records)

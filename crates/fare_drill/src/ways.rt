@@ -15,7 +15,7 @@ pub(crate) fn ways(alloc: Global, count: u32) -> Result<Vec<Way>, NoMemory>
     requires { count ≤ MOST_SECTORS }
     ensures { IfOk result (λ all. all.items ≡ ways count) }
 {
-    let mut ways = Vec::new(alloc);
+    let mut ways = Vec::with_capacity(alloc, 128 * count as usize)?;
     for from in 0..count {
         push_from(&mut ways, count, from)?;
     }

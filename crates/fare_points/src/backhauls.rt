@@ -63,7 +63,7 @@ fn greatest_reference(
 }
 
 /// The minimum of a lower and a higher amount: the higher one and their difference; nothing where it isn't higher.
-fn minimum_above(low: Nuc, high: Nuc) -> Option<Nuc>
+pub fn minimum_above(low: Nuc, high: Nuc) -> Option<Nuc>
     requires low { low < FARE_LIMIT }
     requires high { high < FARE_LIMIT }
     ensures value { result ≡ minimum_above low high }

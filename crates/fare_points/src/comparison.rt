@@ -33,7 +33,7 @@ fn is_whole(a: usize, b: usize, i: usize, j: usize) -> bool
 
 /// Whether a pair of points of a component is compared: it isn't the whole, and each of its points is the component's
 /// end on its side or a stopover.
-fn is_compared(trip: &Trip, a: usize, b: usize, i: usize, j: usize) -> bool
+pub fn is_compared(trip: &Trip, a: usize, b: usize, i: usize, j: usize) -> bool
     requires begins { a ≤ i }
     requires rises { i < j }
     requires within { j ≤ count trip.now }

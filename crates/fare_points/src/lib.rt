@@ -16,7 +16,8 @@ mod indicators;
 mod places;
 mod references;
 
-pub use backhauls::backhaul;
+pub use backhauls::{backhaul, minimum_above};
+pub use comparison::is_compared;
 pub use highers::higher;
 pub use indicators::{indicator, indicator_of};
 pub use places::placed;

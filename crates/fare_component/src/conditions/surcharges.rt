@@ -2,10 +2,12 @@
 
 ghost use Rattle.std.specs.Prelude.{◌≡◌, ◌<◌, ◌≤◌, IfSome};
 ghost use Rattle.fare_trip.specs.Itinerary.{count};
+ghost use Rattle.fare_rules.specs.Indicator.{indicator};
 ghost use Rattle.fare_rules.specs.ComponentAmount.{span_surcharge, mileage_holds, excess_holds};
 ghost use Rattle.fare_rules.specs.Mileage.{surcharge_of};
 
 use crate::conditions::terms::is_allowed;
+use fare_codes::Indicator;
 use fare_mileage::{Mileage, mileage};
 use fare_points::indicator;
 use fare_rules::MOST_SURCHARGE;
@@ -23,16 +25,33 @@ fn surcharge_of(mileage: Mileage) -> Option<u32>
     }
 }
 
-/// The surcharge that the mileage of a span asks for, in hundredths of the base, where it lets a fare be used.
+/// The surcharge that the mileage of a span asks for, in hundredths of the base, where it lets a fare be used and the
+/// span's indicator is this.
 #[tactic(auto, unfolding(fare_rules::specs::ComponentAmount::span_surcharge))]
+pub(crate) fn surcharge_by(
+    edition: &Edition,
+    trip: &Trip,
+    a: usize,
+    b: usize,
+    ind: Indicator,
+) -> Option<u32>
+    requires rises { a < b }
+    requires within { b ≤ count trip.now }
+    requires indicator { ind ≡ indicator edition.now trip.now a b }
+    ensures value { result ≡ span_surcharge edition.now trip.now a b }
+    ensures bound { IfSome result (λ step. step ≤ MOST_SURCHARGE) }
+{
+    surcharge_of(mileage(edition, trip, a, b, ind))
+}
+
+/// The surcharge that the mileage of a span asks for, in hundredths of the base, where it lets a fare be used.
 pub(crate) fn span_surcharge(edition: &Edition, trip: &Trip, a: usize, b: usize) -> Option<u32>
     requires rises { a < b }
     requires within { b ≤ count trip.now }
     ensures value { result ≡ span_surcharge edition.now trip.now a b }
     ensures bound { IfSome result (λ step. step ≤ MOST_SURCHARGE) }
 {
-    let ind = indicator(edition, trip, a, b);
-    surcharge_of(mileage(edition, trip, a, b, ind))
+    surcharge_by(edition, trip, a, b, indicator(edition, trip, a, b))
 }
 
 /// Whether the mileage of a span lets a fare be used.

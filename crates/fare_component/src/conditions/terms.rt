@@ -1,8 +1,8 @@
 //! Whether the terms of a fare's rule hold for a span. A rule that isn't filed has no terms, and none hold.
 
-ghost use Rattle.std.specs.Prelude.{◌≡◌, ◌<◌, ◌≤◌};
+ghost use Rattle.std.specs.Prelude.{◌≡◌, ◌<◌, ◌≤◌, ◌&&◌, Some};
 ghost use Rattle.fare_trip.specs.Itinerary.{count};
-ghost use Rattle.fare_rules.specs.Terms.{terms_of_fare, stops_hold, transfers_hold, advance_days, advance_holds};
+ghost use Rattle.fare_rules.specs.Terms.{allows_surcharge, terms_of_fare, stops_hold, transfers_hold, advance_days, advance_holds};
 ghost use Rattle.fare_rules.specs.ComponentAmount.{is_allowed};
 
 use crate::conditions::spans::{stopovers, transfers};
@@ -66,6 +66,13 @@ pub fn advance_holds(edition: &Edition, trip: &Trip, fare: &FareRec) -> bool
     }
 }
 
+/// Whether terms allow a surcharge: one of 0, or any where they allow an excess.
+fn allows_surcharge(step: u32, asked: Terms) -> bool
+    ensures { result ≡ allows_surcharge step asked }
+{
+    step == 0 || asked.excess
+}
+
 /// Whether the rule of a fare allows a surcharge, where there is one: it allows one of 0, and any where it allows an
 /// excess.
 pub(crate) fn is_allowed(edition: &Edition, fare: &FareRec, surcharge: Option<u32>) -> bool
@@ -74,6 +81,32 @@ pub(crate) fn is_allowed(edition: &Edition, fare: &FareRec, surcharge: Option<u3
     match (surcharge, terms_of_fare(edition, fare)) {
         (None, _) => true,
         (Some(_), None) => false,
-        (Some(step), Some(asked)) => step == 0 || asked.excess,
+        (Some(step), Some(asked)) => allows_surcharge(step, asked),
+    }
+}
+
+/// Whether the terms of a fare's rule hold for a span and allow its surcharge, by one look-up.
+#[tactic(auto, unfolding(fare_rules::specs::Terms::stops_hold, fare_rules::specs::Terms::transfers_hold, fare_rules::specs::Terms::advance_holds))]
+pub(crate) fn terms_allow(
+    edition: &Edition,
+    trip: &Trip,
+    a: usize,
+    b: usize,
+    fare: &FareRec,
+    step: u32,
+) -> bool
+    requires rises { a < b }
+    requires within { b ≤ count trip.now }
+    ensures { result ≡ (stops_hold edition.now trip.now a b fare.now && transfers_hold edition.now trip.now a b fare.now
+        && advance_holds edition.now trip.now fare.now && is_allowed edition.now fare.now (Some step)) }
+{
+    match terms_of_fare(edition, fare) {
+        None => false,
+        Some(asked) => {
+            stopovers(trip, a, b) <= asked.stops
+                && transfers(trip, a, b) <= asked.transfers
+                && asked.advance <= advance_days(trip)
+                && allows_surcharge(step, asked)
+        }
     }
 }

@@ -1,14 +1,20 @@
-ghost use Rattle.std.specs.Prelude.{◌≡◌, ◌<◌, ◌≤◌, [], ◌∷◌, ◌++◌, length, All, IfOk, OnOk, Some, if◌then◌else◌};
+ghost use Rattle.std.specs.Prelude.{◌≡◌, ◌<◌, ◌≤◌, [], ◌∷◌, ◌++◌, ◌&&◌, length, All, IfOk, OnOk, Some, not, true};
+ghost use Rattle.std.specs.Prelude.{if◌then◌else◌};
 ghost use Rattle.fare_trip.specs.Itinerary.{count};
-ghost use Rattle.fare_rules.specs.ComponentAmount.{span_surcharge};
+ghost use Rattle.fare_rules.specs.Indicator.{indicator};
+ghost use Rattle.fare_rules.specs.Span.{holds_surface};
+ghost use Rattle.fare_rules.specs.ComponentAmount.{repeats_city, span_surcharge};
+ghost use Rattle.fare_component.specs.References.{AreForms};
 ghost use Rattle.fare_component.specs.Shared.{AreIndicators};
-ghost use Rattle.fare_component.specs.Table.{IsInBounds, entries_of, has_amount};
+ghost use Rattle.fare_component.specs.Table.{IsInBounds, entries_of, entry_of, has_amount};
 
-use crate::conditions::span_surcharge;
+use crate::conditions::surcharge_by;
 use crate::table::candidates::{all_candidates, candidates_past, first_candidate};
 use crate::table::entry::{Entry, entry_of};
+use crate::table::forms::Forms;
 use crate::table::indicators::{Indicators, indicator_of};
 use crate::usable::is_plain;
+use fare_codes::Indicator;
 use fare_outside::NoMemory;
 use fare_rules::MOST_SURCHARGE;
 use fare_tariff::Edition;
@@ -71,30 +77,75 @@ impl Entries {
     }
 }
 
+/// Puts the entry of a record number last, where it has an amount in some direction.
+fn keep_entry(
+    edition: &Edition,
+    trip: &Trip,
+    indicators: &Indicators,
+    forms: &mut Forms,
+    a: usize,
+    b: usize,
+    step: u32,
+    number: u32,
+    entries: &mut Entries,
+) -> Result<(), NoMemory>
+    requires indicators { AreIndicators edition.now trip.now indicators.now.rows }
+    requires forms { AreForms edition.now trip.now forms.old.items.items }
+    requires rises { a < b }
+    requires within { b ≤ count trip.now }
+    requires plain { (not (holds_surface trip.now a b) && not (repeats_city trip.now a b)) ≡ true }
+    requires measured { span_surcharge edition.now trip.now a b ≡ Some step }
+    requires step { step ≤ MOST_SURCHARGE }
+    requires room { length entries.old < MOST_ENTRIES }
+    ensures kept { OnOk result (entries.new ≡ entries.old ++ (if has_amount (entry_of edition.now trip.now a b number)
+        then entry_of edition.now trip.now a b number ∷ [] else [])) }
+    ensures forms { OnOk result (AreForms edition.now trip.now forms.new.items.items) }
+{
+    match entry_of(edition, trip, indicators, forms, a, b, step, number) {
+        Err(error) => Err(error),
+        Ok(entry) => entries.keep(entry),
+    }
+}
+
 /// The entries of a span whose mileage asks for a surcharge: each fare between its ends for its indicator is tried.
 fn measured_entries(
     alloc: Global,
     edition: &Edition,
     trip: &Trip,
     indicators: &Indicators,
+    forms: &mut Forms,
     a: usize,
     b: usize,
+    ind: Indicator,
     step: u32,
 ) -> Result<Entries, NoMemory>
-    requires known { AreIndicators edition.now trip.now indicators.now.rows }
+    requires indicators { AreIndicators edition.now trip.now indicators.now.rows }
+    requires forms { AreForms edition.now trip.now forms.old.items.items }
     requires rises { a < b }
     requires within { b ≤ count trip.now }
+    requires plain { (not (holds_surface trip.now a b) && not (repeats_city trip.now a b)) ≡ true }
+    requires indicator { ind ≡ indicator edition.now trip.now a b }
     requires measured { span_surcharge edition.now trip.now a b ≡ Some step }
     requires step { step ≤ MOST_SURCHARGE }
-    ensures { IfOk result (λ entries. entries ≡ entries_of edition.now trip.now a b) }
+    ensures entries { IfOk result (λ entries. entries ≡ entries_of edition.now trip.now a b) }
+    ensures forms { OnOk result (AreForms edition.now trip.now forms.new.items.items) }
 {
     let (from, to) = (trip.point(a), trip.point(b));
-    let ind = indicator_of(indicators, edition, trip, a, b);
     let mut entries = Entries::new(alloc);
     let mut candidates = all_candidates(edition, from, to, ind);
     while let Some(number) = first_candidate(candidates) {
         candidates = candidates_past(edition, from, to, ind, candidates, number);
-        entries.keep(entry_of(edition, trip, indicators, a, b, step, number))?;
+        keep_entry(
+            edition,
+            trip,
+            indicators,
+            forms,
+            a,
+            b,
+            step,
+            number,
+            &mut entries,
+        )?;
     }
     Ok(entries)
 }
@@ -106,17 +157,22 @@ fn plain_entries(
     edition: &Edition,
     trip: &Trip,
     indicators: &Indicators,
+    forms: &mut Forms,
     a: usize,
     b: usize,
 ) -> Result<Entries, NoMemory>
-    requires known { AreIndicators edition.now trip.now indicators.now.rows }
+    requires indicators { AreIndicators edition.now trip.now indicators.now.rows }
+    requires forms { AreForms edition.now trip.now forms.old.items.items }
     requires rises { a < b }
     requires within { b ≤ count trip.now }
-    ensures { IfOk result (λ entries. entries ≡ entries_of edition.now trip.now a b) }
+    requires plain { (not (holds_surface trip.now a b) && not (repeats_city trip.now a b)) ≡ true }
+    ensures entries { IfOk result (λ entries. entries ≡ entries_of edition.now trip.now a b) }
+    ensures forms { OnOk result (AreForms edition.now trip.now forms.new.items.items) }
 {
-    match span_surcharge(edition, trip, a, b) {
+    let ind = indicator_of(indicators, edition, trip, a, b);
+    match surcharge_by(edition, trip, a, b, ind) {
         None => Ok(Entries::new(alloc)),
-        Some(step) => measured_entries(alloc, edition, trip, indicators, a, b, step),
+        Some(step) => { measured_entries(alloc, edition, trip, indicators, forms, a, b, ind, step) }
     }
 }
 
@@ -126,15 +182,18 @@ pub(crate) fn entries_of(
     edition: &Edition,
     trip: &Trip,
     indicators: &Indicators,
+    forms: &mut Forms,
     a: usize,
     b: usize,
 ) -> Result<Entries, NoMemory>
-    requires known { AreIndicators edition.now trip.now indicators.now.rows }
+    requires indicators { AreIndicators edition.now trip.now indicators.now.rows }
+    requires forms { AreForms edition.now trip.now forms.old.items.items }
     requires within { b ≤ count trip.now }
-    ensures { IfOk result (λ entries. entries ≡ entries_of edition.now trip.now a b) }
+    ensures entries { IfOk result (λ entries. entries ≡ entries_of edition.now trip.now a b) }
+    ensures forms { OnOk result (AreForms edition.now trip.now forms.new.items.items) }
 {
     if a < b && is_plain(trip, a, b) {
-        plain_entries(alloc, edition, trip, indicators, a, b)
+        plain_entries(alloc, edition, trip, indicators, forms, a, b)
     } else {
         Ok(Entries::new(alloc))
     }

@@ -1,19 +1,23 @@
-ghost use Rattle.std.specs.Prelude.{◌≡◌, ◌*◌, ◌<◌, ◌≤◌, IfSome, Some, false};
+ghost use Rattle.std.specs.Prelude.{◌≡◌, ◌*◌, ◌<◌, ◌≤◌, ◌&&◌, IfOk, IfSome, OnOk, Some, false, not, true};
 ghost use Rattle.fare_trip.specs.Itinerary.{count};
 ghost use Rattle.fare_tariff.specs.Lookup.{fare_at};
-ghost use Rattle.fare_rules.specs.ComponentAmount.{fare_amount, span_surcharge};
+ghost use Rattle.fare_rules.specs.Span.{holds_surface};
+ghost use Rattle.fare_rules.specs.ComponentAmount.{fare_amount, repeats_city, span_surcharge};
 ghost use Rattle.fare_rules.specs.UnitPrice.{at_least};
+ghost use Rattle.fare_component.specs.References.{AreForms};
 ghost use Rattle.fare_component.specs.Shared.{AreIndicators};
 ghost use Rattle.fare_component.specs.Table.{IsInBounds, entry_of, single_price};
 ghost use Rattle.fare_component.specs.Usable.{IsAmount};
 
 use crate::amounts::amount_from;
-use crate::conditions::{is_allowed, is_half_round_trip};
+use crate::conditions::{is_half_round_trip, terms_allow};
+use crate::table::backhauls::backhaul_by;
 use crate::table::bases::{Component, base_by};
-use crate::table::indicators::Indicators;
-use crate::usable::is_usable;
+use crate::table::forms::Forms;
+use crate::table::indicators::{Indicators, indicator_of};
+use crate::usable::suits_span;
 use fare_codes::{FARE_LIMIT, Nuc};
-use fare_points::backhaul;
+use fare_outside::NoMemory;
 use fare_rules::{Amount, MOST_SURCHARGE};
 use fare_tariff::{Edition, FareRec};
 use fare_trip::Trip;
@@ -42,39 +46,40 @@ pub(crate) fn at_least(amount: Nuc, minimum: Option<Nuc>) -> Nuc
 }
 
 /// The amount of a fare for a component whose mileage asks for a surcharge.
-#[tactic(auto, using(crate::proofs::AmountLemmas::unusable, crate::proofs::AmountLemmas::disallowed, crate::proofs::AmountLemmas::allowed))]
+#[tactic(auto, using(crate::proofs::AmountLemmas::unsuitable, crate::proofs::AmountLemmas::refused, crate::proofs::AmountLemmas::granted))]
 fn amount_by(
     edition: &Edition,
     trip: &Trip,
     indicators: &Indicators,
+    forms: &mut Forms,
     component: Component,
     step: u32,
     fare: &FareRec,
-) -> Option<Amount>
-    requires known { AreIndicators edition.now trip.now indicators.now.rows }
+) -> Result<Option<Amount>, NoMemory>
+    requires indicators { AreIndicators edition.now trip.now indicators.now.rows }
+    requires forms { AreForms edition.now trip.now forms.old.items.items }
     requires rises { component.a < component.b }
     requires within { component.b ≤ count trip.now }
+    requires plain { (not (holds_surface trip.now component.a component.b)
+        && not (repeats_city trip.now component.a component.b)) ≡ true }
     requires measured { span_surcharge edition.now trip.now component.a component.b ≡ Some step }
     requires step { step ≤ MOST_SURCHARGE }
     requires amount { fare.now.amount < FARE_LIMIT }
-    ensures value { result ≡ fare_amount edition.now trip.now component.a component.b component.back fare.now }
-    ensures bound { IfSome result IsAmount }
+    ensures value { IfOk result
+        (λ found. found ≡ fare_amount edition.now trip.now component.a component.b component.back fare.now) }
+    ensures bound { IfOk result (λ found. IfSome found IsAmount) }
+    ensures forms { OnOk result (AreForms edition.now trip.now forms.new.items.items) }
 {
-    if !is_usable(
-        edition,
-        trip,
-        component.a,
-        component.b,
-        fare,
-        component.back,
-    ) {
-        return None;
+    let (a, b, back) = (component.a, component.b, component.back);
+    let ind = indicator_of(indicators, edition, trip, a, b);
+    if !suits_span(edition, trip, ind, a, b, fare, back) {
+        return Ok(None);
     }
-    if !is_allowed(edition, fare, Some(step)) {
-        return None;
+    if !terms_allow(edition, trip, a, b, fare, step) {
+        return Ok(None);
     }
-    let base = base_by(edition, trip, indicators, component, fare);
-    Some(amount_from(base, step))
+    let base = base_by(edition, trip, indicators, forms, component, fare)?;
+    Ok(Some(amount_from(base, step)))
 }
 
 /// The price of a fare for a span as a unit of its own, where its amount priced out is this; nothing for a half round
@@ -83,26 +88,35 @@ fn amount_by(
 fn single_price(
     edition: &Edition,
     trip: &Trip,
+    indicators: &Indicators,
+    forms: &mut Forms,
     a: usize,
     b: usize,
     number: u32,
     fare: &FareRec,
     out: &Option<Amount>,
-) -> Option<Nuc>
+) -> Result<Option<Nuc>, NoMemory>
+    requires indicators { AreIndicators edition.now trip.now indicators.now.rows }
+    requires forms { AreForms edition.now trip.now forms.old.items.items }
     requires rises { a < b }
     requires within { b ≤ count trip.now }
     requires filed { fare_at edition.now number ≡ Some fare.now }
+    requires amount { fare.now.amount < FARE_LIMIT }
     requires out { out.now ≡ fare_amount edition.now trip.now a b false fare.now }
     requires bound { IfSome out.now IsAmount }
-    ensures value { result ≡ single_price edition.now trip.now a b number }
-    ensures bound { IfSome result (λ price. price < 2 * FARE_LIMIT) }
+    ensures value { IfOk result (λ price. price ≡ single_price edition.now trip.now a b number) }
+    ensures bound { IfOk result (λ price. IfSome price (λ amount. amount < 2 * FARE_LIMIT)) }
+    ensures forms { OnOk result (AreForms edition.now trip.now forms.new.items.items) }
 {
     if is_half_round_trip(fare) {
-        return None;
+        return Ok(None);
     }
     match out {
-        None => None,
-        Some(found) => Some(at_least(found.amount, backhaul(edition, trip, a, b, fare))),
+        None => Ok(None),
+        Some(found) => {
+            let minimum = backhaul_by(edition, trip, indicators, forms, a, b, fare)?;
+            Ok(Some(at_least(found.amount, minimum)))
+        }
     }
 }
 
@@ -112,33 +126,37 @@ fn entry_of_fare(
     edition: &Edition,
     trip: &Trip,
     indicators: &Indicators,
+    forms: &mut Forms,
     a: usize,
     b: usize,
     step: u32,
     number: u32,
     fare: &FareRec,
-) -> Entry
-    requires known { AreIndicators edition.now trip.now indicators.now.rows }
+) -> Result<Entry, NoMemory>
+    requires indicators { AreIndicators edition.now trip.now indicators.now.rows }
+    requires forms { AreForms edition.now trip.now forms.old.items.items }
     requires rises { a < b }
     requires within { b ≤ count trip.now }
+    requires plain { (not (holds_surface trip.now a b) && not (repeats_city trip.now a b)) ≡ true }
     requires measured { span_surcharge edition.now trip.now a b ≡ Some step }
     requires step { step ≤ MOST_SURCHARGE }
     requires filed { fare_at edition.now number ≡ Some fare.now }
     requires amount { fare.now.amount < FARE_LIMIT }
-    ensures value { result ≡ entry_of edition.now trip.now a b number }
-    ensures bounds { IsInBounds result }
+    ensures value { IfOk result (λ entry. entry ≡ entry_of edition.now trip.now a b number) }
+    ensures bounds { IfOk result IsInBounds }
+    ensures forms { OnOk result (AreForms edition.now trip.now forms.new.items.items) }
 {
     let there = Component { a, b, back: false };
     let home = Component { a, b, back: true };
-    let out = amount_by(edition, trip, indicators, there, step, fare);
-    let back = amount_by(edition, trip, indicators, home, step, fare);
-    let single = single_price(edition, trip, a, b, number, fare, &out);
-    Entry {
+    let out = amount_by(edition, trip, indicators, forms, there, step, fare)?;
+    let back = amount_by(edition, trip, indicators, forms, home, step, fare)?;
+    let single = single_price(edition, trip, indicators, forms, a, b, number, fare, &out)?;
+    Ok(Entry {
         fare: number,
         out,
         back,
         single,
-    }
+    })
 }
 
 /// What a record number costs for a span whose mileage asks for a surcharge: nothing where it files no fare.
@@ -147,26 +165,30 @@ pub(crate) fn entry_of(
     edition: &Edition,
     trip: &Trip,
     indicators: &Indicators,
+    forms: &mut Forms,
     a: usize,
     b: usize,
     step: u32,
     number: u32,
-) -> Entry
-    requires known { AreIndicators edition.now trip.now indicators.now.rows }
+) -> Result<Entry, NoMemory>
+    requires indicators { AreIndicators edition.now trip.now indicators.now.rows }
+    requires forms { AreForms edition.now trip.now forms.old.items.items }
     requires rises { a < b }
     requires within { b ≤ count trip.now }
+    requires plain { (not (holds_surface trip.now a b) && not (repeats_city trip.now a b)) ≡ true }
     requires measured { span_surcharge edition.now trip.now a b ≡ Some step }
     requires step { step ≤ MOST_SURCHARGE }
-    ensures value { result ≡ entry_of edition.now trip.now a b number }
-    ensures bounds { IsInBounds result }
+    ensures value { IfOk result (λ entry. entry ≡ entry_of edition.now trip.now a b number) }
+    ensures bounds { IfOk result IsInBounds }
+    ensures forms { OnOk result (AreForms edition.now trip.now forms.new.items.items) }
 {
     match edition.fare_at(number) {
-        None => Entry {
+        None => Ok(Entry {
             fare: number,
             out: None,
             back: None,
             single: None,
-        },
-        Some(fare) => entry_of_fare(edition, trip, indicators, a, b, step, number, fare),
+        }),
+        Some(fare) => { entry_of_fare(edition, trip, indicators, forms, a, b, step, number, fare) }
     }
 }

@@ -9,7 +9,7 @@ use fare_tariff::Edition;
 use fare_trip::Trip;
 
 /// How many points a trip can have.
-const MOST_POINTS: usize = 17;
+pub(crate) const MOST_POINTS: usize = 17;
 
 /// The global indicators of all spans of a trip, by the points where they begin and end.
 #[derive(Drop)]
@@ -50,7 +50,7 @@ pub(crate) fn indicator_of(
     i: usize,
     j: usize,
 ) -> Indicator
-    requires known { AreIndicators edition.now trip.now indicators.now.rows }
+    requires indicators { AreIndicators edition.now trip.now indicators.now.rows }
     requires rises { i < j }
     requires within { j ≤ count trip.now }
     ensures { result ≡ indicator edition.now trip.now i j }

@@ -1,9 +1,11 @@
-ghost use Rattle.std.specs.Prelude.{◌≡◌, ◌≤◌, [], length, slice_index_or, All, IfOk};
+ghost use Rattle.std.specs.Prelude.{◌≡◌, ◌≤◌, [], length, slice_index_or, All, IfOk, OnOk};
+ghost use Rattle.fare_component.specs.References.{AreForms};
 ghost use Rattle.fare_component.specs.Shared.{AreIndicators};
 ghost use Rattle.fare_component.specs.Table.{IsInBounds, row_of};
 
 use crate::table::entries::{Entries, MOST_ENTRIES, entries_of};
 use crate::table::entry::Entry;
+use crate::table::forms::Forms;
 use crate::table::indicators::Indicators;
 use fare_outside::NoMemory;
 use fare_tariff::Edition;
@@ -34,15 +36,17 @@ impl Row {
         edition: &Edition,
         trip: &Trip,
         indicators: &Indicators,
+        forms: &mut Forms,
         a: usize,
     ) -> Result<Row, NoMemory>
-        requires { AreIndicators edition.now trip.now indicators.now.rows }
-        ensures { IfOk result
-            (λ row. row ≡ row_of edition.now trip.now a) }
+        requires indicators { AreIndicators edition.now trip.now indicators.now.rows }
+        requires forms { AreForms edition.now trip.now forms.old.items.items }
+        ensures row { IfOk result (λ row. row ≡ row_of edition.now trip.now a) }
+        ensures forms { OnOk result (AreForms edition.now trip.now forms.new.items.items) }
     {
         let mut spans = Vec::new(alloc);
         for b in 0..trip.count() + 1 {
-            spans.push(entries_of(alloc, edition, trip, indicators, a, b)?)?;
+            spans.push(entries_of(alloc, edition, trip, indicators, forms, a, b)?)?;
         }
         Ok(Row { spans })
     }

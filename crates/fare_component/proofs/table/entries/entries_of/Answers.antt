@@ -4,8 +4,8 @@ use Rattle.fare_component.proofs.TableLemmas.{no_span_back}
 use Rattle.fare_component.proofs.table.entries.entries_of.Goals as goal
 use Rattle.fare_component.proofs.table.entries.entries_of.Goals.{else-a-b-via-then-a-b+else-is_plain, else-a-b-via-else-a-b}
 
-pub returns-else-a-b : goal.returns-else-a-b
-returns-else-a-b c =
+pub returns-else-a-b-clause-entries : goal.returns-else-a-b-clause-entries
+returns-else-a-b-clause-entries c =
     let tariff = c.args.edition.now in
     let trip = c.args.trip.now in
     elim c.else-a-b.branch [

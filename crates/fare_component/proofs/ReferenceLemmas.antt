@@ -1,0 +1,101 @@
+-- The references of a form serve each fare of it.
+use Rattle.std.proofs.Common.{◌≡◌, refl, ℕ, ◌+◌, ◌*◌, ◌<◌, ◌≤◌, Bool, List, length, set, replicate, get_or, ap, sym, subst, ◌∙◌, arith, inl, inr}
+use Rattle.std.specs.Prelude.{Option, Some, None, IfSome}
+use Rattle.std.proofs.lemmas.Bool.{cases_eq, cases_lt}
+use Rattle.std.proofs.lemmas.Grind.{get_or-set_at}
+use Rattle.std.proofs.lemmas.List.{get_or-replicate, get_or-set_other, get_or_past, length-replicate, length-set}
+use Rattle.fare_codes.specs.declared.day.Day.{Day}
+use Rattle.fare_trip.specs.Itinerary.{Itinerary, count}
+use Rattle.fare_tariff.specs.Record.{FareRecord}
+use Rattle.fare_tariff.specs.Tariff.{Tariff}
+use Rattle.fare_rules.specs.Backhaul.{greatest_reference}
+use Rattle.fare_rules.specs.Base.{base, compared_pairs, greatest_amount}
+use Rattle.fare_rules.specs.Reference.{reference}
+use Rattle.fare_component.specs.declared.table.references.Form.{Form}
+use Rattle.fare_component.specs.declared.table.references.References.{References}
+use Rattle.fare_component.specs.References.{AreReferences, IsOfForm, IsReference}
+
+-- at each place of a list of one value stands that value, and behind it too where that is what stands behind
+pub same_at : {A : Type 0} (x : A) (n place : ℕ) → get_or (replicate n x) place x ≡ x
+same_at x n place =
+    elim (cases_lt place n) [
+      | inl within ↦ get_or-replicate n place x x within
+      | inr past ↦ get_or_past (replicate n x) place x (omega (arith, length-replicate n x, past))
+    ]
+
+-- what stands at a place once one is written
+at_put : (slots : List (Option (Option ℕ))) (place at : ℕ) (found : Option ℕ) (P : Option ℕ → Type 0)
+    → (at ≡ place → P found) → IfSome (get_or slots at None) P
+    → IfSome (get_or (set slots place (Some found)) at None) P
+at_put slots place at found P here there =
+    elim (cases_eq at place) [
+      | inr other ↦ subst (λ (o : Option (Option ℕ)). IfSome o P) (sym (get_or-set_other slots place at (Some found) None other)) there
+      | inl same ↦
+          elim (cases_lt place (length slots)) [
+            | inl within ↦ subst (λ (o : Option (Option ℕ)). IfSome o P) (sym (get_or-set_at slots place at (Some found) None same within)) (here same)
+            | inr past ↦
+                subst (λ (o : Option (Option ℕ)). IfSome o P)
+                (sym (get_or_past (set slots place (Some found)) at None (omega (arith, length-set slots place (Some found), past, same)))) tt
+          ]
+    ]
+
+-- what is known is right once one more reference is
+pub references_put : (tariff : Tariff) (trip : Itinerary) (known : References) (i j : ℕ) (found : Option ℕ)
+    → count trip ≤ 16 → i < j → j ≤ count trip → AreReferences tariff trip known
+    → IsReference tariff trip known.form i j found
+    → AreReferences tariff trip (record known { found = set known.found (i * 17 + j) (Some found) })
+references_put tariff trip known i j found short rises within right one =
+    λ p q up last. at_put known.found (i * 17 + j) (p * 17 + q) found (IsReference tariff trip known.form p q)
+    (λ same.
+    let first : i ≡ p = omega arith in
+    let second : j ≡ q = omega arith in
+    subst (λ (n : ℕ). IsReference tariff trip known.form n q found) first
+    (subst (λ (n : ℕ). IsReference tariff trip known.form i n found) second one))
+    (right p q up last)
+
+-- where nothing is known, what is known is right
+pub nothing_known : (tariff : Tariff) (trip : Itinerary) (known : References)
+    → ((place : ℕ) → get_or known.found place None ≡ None) → AreReferences tariff trip known
+nothing_known tariff trip known none =
+    λ i j up last. subst (λ (o : Option (Option ℕ)). IfSome o (IsReference tariff trip known.form i j)) (sym (none (i * 17 + j))) tt
+
+-- the fare of a form with what tells its references apart taken from a fare
+abbrev moulded : FareRecord → FareRecord → FareRecord
+moulded fare other =
+    record other { carrier = fare.carrier; class = fare.class; kind = fare.kind; rule = fare.rule }
+
+-- that is the fare of the form
+is_moulded : (fare : FareRecord) (back : Bool) (on : Day) (form : Form) → IsOfForm fare back on form
+    → form.fare ≡ moulded fare form.fare
+is_moulded fare back on form of_form =
+    λ i. record form.fare { carrier = of_form.carrier i; class = of_form.class i; kind = of_form.kind i; rule = of_form.rule i }
+
+-- and compares with what the fare does
+moulded_pairs : (tariff : Tariff) (trip : Itinerary) (a b : ℕ) (fare other : FareRecord) (back : Bool)
+    → compared_pairs tariff trip a b (moulded fare other) back ≡ compared_pairs tariff trip a b fare back
+unfolding compared_pairs reference
+moulded_pairs tariff trip a b fare other back = refl
+
+moulded_greatest : (tariff : Tariff) (trip : Itinerary) (a b : ℕ) (fare other : FareRecord)
+    → greatest_reference tariff trip a b (moulded fare other) ≡ greatest_reference tariff trip a b fare
+unfolding greatest_reference reference
+moulded_greatest tariff trip a b fare other = refl
+
+-- the base of a fare by the references of its form
+pub base_of_form : (tariff : Tariff) (trip : Itinerary) (a b : ℕ) (fare : FareRecord) (back : Bool) (on : Day) (form : Form)
+    → IsOfForm fare back on form
+    → greatest_amount fare.amount (compared_pairs tariff trip a b form.fare form.back) ≡ base tariff trip a b fare back
+unfolding base
+base_of_form tariff trip a b fare back on form of_form =
+    ap (greatest_amount fare.amount)
+    (ap (λ f. compared_pairs tariff trip a b f form.back) (is_moulded fare back on form of_form)
+    ∙ moulded_pairs tariff trip a b fare form.fare form.back
+    ∙ ap (compared_pairs tariff trip a b fare) of_form.direction)
+
+-- the greatest reference of a fare by those of its form
+pub greatest_of_form : (tariff : Tariff) (trip : Itinerary) (a b : ℕ) (fare : FareRecord) (back : Bool) (on : Day)
+    (form : Form) → IsOfForm fare back on form
+    → greatest_reference tariff trip a b form.fare ≡ greatest_reference tariff trip a b fare
+greatest_of_form tariff trip a b fare back on form of_form =
+    ap (greatest_reference tariff trip a b) (is_moulded fare back on form of_form)
+    ∙ moulded_greatest tariff trip a b fare form.fare

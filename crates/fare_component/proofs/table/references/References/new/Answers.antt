@@ -1,0 +1,6 @@
+use Rattle.std.specs.Prelude.{None}
+use Rattle.fare_component.proofs.ReferenceLemmas.{same_at}
+use Rattle.fare_component.proofs.table.references.References.new.Goals as goal
+
+pub returns-clause-none : goal.returns-clause-none
+returns-clause-none c = λ place. same_at None 289 place
