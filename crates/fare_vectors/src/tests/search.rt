@@ -69,7 +69,9 @@ fn is_same(one: &Option<(Construction, u64)>, other: &Option<(Construction, u64)
     match (one, other) {
         (None, None) => true,
         (Some((one, price)), Some((other, cost))) => {
-            price == cost && !earlier(one, *price, other, *cost) && !earlier(other, *cost, one, *price)
+            price == cost
+                && !earlier(one, *price, other, *cost)
+                && !earlier(other, *cost, one, *price)
         }
         _ => false,
     }
