@@ -28,4 +28,5 @@ IsNoList parts = ⊥
 abbrev pub IsDived : Tariff → Itinerary → Piece → ℕ → ℕ → Option (List Part × ℕ) → Type 0
 IsDived tariff trip piece before after found =
     IsWalk tariff trip IsNoList before None after found
-    ⊎ ((parts : List Part) × BeginsIn tariff trip piece parts × IsWalk tariff trip (IsList parts) before None after found)
+    ⊎ ((parts : List Part) × BeginsIn tariff trip piece parts
+    × IsWalk tariff trip (IsList parts) before None after found)

@@ -26,8 +26,8 @@ abbrev pub is_worthless : Tariff → Itinerary → List Part → ℕ → Bool
 is_worthless tariff trip parts unit =
     must_go_on tariff trip parts (own parts unit) && is_none (onward_amount tariff trip parts (length parts))
 
--- the last of some parts, of a unit, has no place in any lawful construction that begins with them: it is fruitless, shuts
--- a unit that has no price, leaves its unit stranded, or is worthless in it
+-- the last of some parts, of a unit, has no place in any lawful construction that begins with them: it is fruitless,
+-- shuts a unit that has no price, leaves its unit stranded, or is worthless in it
 abbrev pub is_hopeless : Tariff → Itinerary → List Part → ℕ → Bool
 is_hopeless tariff trip parts unit =
     is_fruitless tariff parts || is_priceless tariff trip parts unit

@@ -1,5 +1,5 @@
-//! A greedy dive: from the cheapest of the choices of a piece on, always the part with the least floor. What it comes to
-//! is tried first, so that a price is known early.
+//! A greedy dive: from the cheapest of the choices of a piece on, always the part with the least floor. What it comes
+//! to is tried first, so that a price is known early.
 
 ghost use Rattle.std.specs.Prelude.{◌≡◌, ◌+◌, ◌<◌, ◌≤◌, IfSome};
 ghost use Rattle.fare_trip.specs.Itinerary.{count};

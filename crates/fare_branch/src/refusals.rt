@@ -67,9 +67,9 @@ fn is_worthless(table: &Table, parts: &Construction, unit: u8) -> bool
         && !has_onward_amount(table, parts)
 }
 
-/// Whether the last of some parts, of a unit, has no place in any lawful construction that begins with them: it crosses a
-/// unit, shares one with a one way fare, shuts one that has no price, leaves its unit where it can't come home, or has no
-/// amount in a unit that must go on.
+/// Whether the last of some parts, of a unit, has no place in any lawful construction that begins with them: it crosses
+/// a unit, shares one with a one way fare, shuts one that has no price, leaves its unit where it can't come home, or
+/// has no amount in a unit that must go on.
 pub(crate) fn is_hopeless(table: &Table, parts: &Construction, unit: u8) -> bool
     requires made { IsMadeWith table.now parts.now }
     requires some { 1 ≤ length parts.now }

@@ -31,12 +31,13 @@ is_in_country tariff trip city i = lie_together tariff (point trip i) city
 abbrev pub points_behind : Itinerary → List Part → List ℕ
 points_behind trip parts = numbers (end_of parts (length parts) + 1) (count trip + 1)
 
--- a unit may come home behind some parts: its origin comes again there, or, where it has one part, a city of the country
--- of its origin, at which it may end as an open jaw
+-- a unit may come home behind some parts: its origin comes again there, or, where it has one part, a city of the
+-- country of its origin, at which it may end as an open jaw
 abbrev pub may_come_home : Tariff → Itinerary → List Part → List ℕ → Bool
 may_come_home tariff trip parts own =
     list_any (is_in_city trip (origin trip parts own)) (points_behind trip parts)
-    || (nat_lt (length own) 2 && list_any (is_in_country tariff trip (origin trip parts own)) (points_behind trip parts))
+    || (nat_lt (length own) 2
+    && list_any (is_in_country tariff trip (origin trip parts own)) (points_behind trip parts))
 
 -- a unit is stranded: it must go on, and yet may not come home
 abbrev pub is_stranded : Tariff → Itinerary → List Part → ℕ → Bool

@@ -6,8 +6,8 @@ ghost use Rattle.fare_trip.specs.Itinerary.{count};
 ghost use Rattle.fare_rules.specs.Construction.{own};
 ghost use Rattle.fare_rules.specs.Numbers.{numbers};
 ghost use Rattle.fare_units.specs.Advance.{Advances, EndsWithin};
-ghost use Rattle.fare_units.specs.Onward.{is_shut_unit, must_go_on, is_in_city, is_in_country, may_come_home, is_stranded};
-ghost use Rattle.fare_units.specs.Onward.{is_homeward};
+ghost use Rattle.fare_units.specs.Onward.{is_shut_unit, must_go_on, is_in_city, is_in_country, may_come_home};
+ghost use Rattle.fare_units.specs.Onward.{is_stranded, is_homeward};
 
 use crate::construction::MOST_PARTS;
 use crate::parts::countries::lie_together;
@@ -96,8 +96,8 @@ fn may_come_home(edition: &Edition, trip: &Trip, parts: &[Part], own: &[usize]) 
     city_comes(trip, home, end) || own.len() < 2 && country_comes(edition, trip, home, end)
 }
 
-/// Whether a unit of the first parts of a construction is stranded: it must go on, and yet its origin does not come again
-/// behind them, nor, where it has one part, a city of the country of its origin.
+/// Whether a unit of the first parts of a construction is stranded: it must go on, and yet its origin does not come
+/// again behind them, nor, where it has one part, a city of the country of its origin.
 pub fn is_stranded(edition: &Edition, trip: &Trip, parts: &[Part], unit: usize) -> bool
     requires few { length parts.now ≤ MOST_PARTS }
     requires advances { Advances trip.now parts.now }
