@@ -17,6 +17,7 @@ use Rattle.fare_component.proofs.LawLemmas.{amount_is_entry, entry_is_of_fare}
 use Rattle.fare_bounds.specs.Covers.{least_cost}
 use Rattle.fare_branch.specs.Beginnings.{fare_of_entry}
 use Rattle.fare_branch.specs.Costs.{fare_least}
+use Rattle.fare_branch.specs.Refusals.{is_priced}
 use Rattle.fare_branch.proofs.StepLemmas.{member_snoc}
 
 true_false : true ≡ false → ⊥
@@ -62,8 +63,10 @@ module _ (tariff : Tariff) (trip : Itinerary) (a b : ℕ) where
       let single : single_price tariff trip a b number ≡ None = single_none true (fare_at tariff number) (single_of tariff trip a b number) (no_single number out) in
       rw (single, out, back) refl
 
-  pub least_of_none : (entries : List Entry) (fare : ℕ) → a < b → b ≤ count trip → entries ≡ entries_of tariff trip a b → (Member fare (map fare_of_entry entries) → ⊥) → fare_least tariff trip a b fare ≡ None
-  least_of_none entries fare rises within all none =
+  -- a fare that no entry has has no amount
+  no_amounts : (entries : List Entry) (fare : ℕ) → a < b → b ≤ count trip → entries ≡ entries_of tariff trip a b → (Member fare (map fare_of_entry entries) → ⊥)
+      → (is_some (component_amount tariff trip a b fare false) ≡ false) × (is_some (component_amount tariff trip a b fare true) ≡ false)
+  no_amounts entries fare rises within all none =
       elim (cases_Bool (has_amount (entry_of tariff trip a b fare))) [
         | inl t ↦
             let there = amount_is_entry tariff trip a b fare rises within t in
@@ -71,7 +74,26 @@ module _ (tariff : Tariff) (trip : Itinerary) (a b : ℕ) where
             let c : Contains entries (entry_of tariff trip a b fare) = subst P (sym all) there in
             let Q : ℕ → Type 0 = λ n. Member n (map fare_of_entry entries) in
             absurd (none (subst Q (ap (λ (x : Entry). x.fare) c.2) (member_of_place entries c.0 (entry_of tariff trip a b fare) c.1)))
-        | inr f ↦
-            let both = both_false _ _ f in
-            least_of_nothing fare (not_there (component_amount tariff trip a b fare false) both.0) (not_there (component_amount tariff trip a b fare true) both.1)
+        | inr f ↦ both_false _ _ f
       ]
+
+  pub least_of_none : (entries : List Entry) (fare : ℕ) → a < b → b ≤ count trip → entries ≡ entries_of tariff trip a b → (Member fare (map fare_of_entry entries) → ⊥) → fare_least tariff trip a b fare ≡ None
+  least_of_none entries fare rises within all none =
+      let both = no_amounts entries fare rises within all none in
+      least_of_nothing fare (not_there (component_amount tariff trip a b fare false) both.0) (not_there (component_amount tariff trip a b fare true) both.1)
+
+  -- an entry has the amounts of its fare
+  priced_by : (number : ℕ) (back : Bool) → is_priced (entry_of tariff trip a b number) back ≡ is_some (component_amount tariff trip a b number back)
+  priced_by number true = refl
+  priced_by number false = refl
+
+  pub priced_entry : (entries : List Entry) (i : ℕ) (one : Entry) (fare : ℕ) (back : Bool) → entries ≡ entries_of tariff trip a b → i < length entries → one ≡ get_or entries i one → one.fare ≡ fare → is_priced one back ≡ is_some (component_amount tariff trip a b fare back)
+  priced_entry entries i one fare back all h same e =
+      let there : Contains entries one = (i, h, sym same) in
+      let P : List Entry → Type 0 = λ es. Contains es one in
+      let is : IsEntry tariff trip a b one = entry_is_of_fare tariff trip a b one (subst P all there) in
+      ap (λ (x : Entry). is_priced x back) is.whole ∙ priced_by one.fare back ∙ ap (λ n. is_some (component_amount tariff trip a b n back)) e
+
+  pub priced_none : (entries : List Entry) (fare : ℕ) (back : Bool) → a < b → b ≤ count trip → entries ≡ entries_of tariff trip a b → (Member fare (map fare_of_entry entries) → ⊥) → is_some (component_amount tariff trip a b fare back) ≡ false
+  priced_none entries fare true rises within all none = (no_amounts entries fare rises within all none).1
+  priced_none entries fare false rises within all none = (no_amounts entries fare rises within all none).0

@@ -11,3 +11,6 @@ pub mod FloorLemmas
 pub mod WholeLemmas
 pub mod SameLemmas
 pub mod ShutLemmas
+pub mod OnwardLemmas
+pub mod RefusalLemmas
+pub mod DiveLemmas

@@ -55,10 +55,10 @@ but_last_member k (x ∷ y ∷ ys) (inl e) = inl e
 but_last_member k (x ∷ y ∷ ys) (inr m) = inr (but_last_member k (y ∷ ys) m)
 
 module _ (tariff : Tariff) (trip : Itinerary) (front rest : List Part) where
-  start_same : (k : ℕ) → 1 ≤ k → k ≤ length front → start_city trip (front ++ rest) k ≡ start_city trip front k
+  pub start_same : (k : ℕ) → 1 ≤ k → k ≤ length front → start_city trip (front ++ rest) k ≡ start_city trip front k
   start_same k low high = ap (point trip) (front_start trip front rest k low high)
 
-  end_same : (k : ℕ) → 1 ≤ k → k ≤ length front → end_city trip (front ++ rest) k ≡ end_city trip front k
+  pub end_same : (k : ℕ) → 1 ≤ k → k ≤ length front → end_city trip (front ++ rest) k ≡ end_city trip front k
   end_same k low high = ap (λ (p : Part). point trip p.end) (front_part front rest k low high)
 
   fare_same : (k : ℕ) → 1 ≤ k → k ≤ length front → fare_of tariff (front ++ rest) k ≡ fare_of tariff front k
@@ -106,11 +106,11 @@ module _ (tariff : Tariff) (trip : Itinerary) (front rest : List Part) where
       ∙ any_eq (ends_in trip (front ++ rest) (origin trip front (x ∷ own))) (ends_in trip front (origin trip front (x ∷ own))) (but_last (x ∷ own))
       (λ k m. let a = first k (but_last_member k (x ∷ own) m) in ends_in_same (origin trip front (x ∷ own)) k a.0 a.1)
 
-  closes_same : (x : ℕ) (own : List ℕ) → AreFirst (x ∷ own) → closes trip (front ++ rest) (x ∷ own) ≡ closes trip front (x ∷ own)
+  pub closes_same : (x : ℕ) (own : List ℕ) → AreFirst (x ∷ own) → closes trip (front ++ rest) (x ∷ own) ≡ closes trip front (x ∷ own)
   unfolding closes
   closes_same x own first = rw (chained_same (x ∷ own) first, home_same x own first, early_same x own first) refl
 
-  jaw_same : (own : List ℕ) → AreFirst own → is_jaw tariff trip (front ++ rest) own ≡ is_jaw tariff trip front own
+  pub jaw_same : (own : List ℕ) → AreFirst own → is_jaw tariff trip (front ++ rest) own ≡ is_jaw tariff trip front own
   jaw_same [] first = refl
   jaw_same (k ∷ []) first = refl
   jaw_same (k ∷ next ∷ []) first =

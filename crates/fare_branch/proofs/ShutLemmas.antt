@@ -48,7 +48,7 @@ any_some : (f : ℕ → Bool) (xs : List ℕ) → list_any f xs ≡ true → 1 �
 any_some f [] e = absurd (true_false (sym e))
 any_some f (x ∷ xs) e = omega arith
 
-any_at : (f : ℕ → Bool) (k : ℕ) (xs : List ℕ) → Member k xs → f k ≡ true → list_any f xs ≡ true
+pub any_at : (f : ℕ → Bool) (k : ℕ) (xs : List ℕ) → Member k xs → f k ≡ true → list_any f xs ≡ true
 any_at f k [] m t = absurd m
 any_at f k (x ∷ xs) (inl e) t = let here : f x ≡ true = subst (λ j. f j ≡ true) e t in rw here refl
 any_at f k (x ∷ xs) (inr m) t =
@@ -71,10 +71,10 @@ other_way a b e =
       | inr f ↦ f
     ]
 
-both_true : (a b : Bool) → a ≡ true → b ≡ true → (a && b) ≡ true
+pub both_true : (a b : Bool) → a ≡ true → b ≡ true → (a && b) ≡ true
 both_true a b x y = rw (x, y) refl
 
-not_alone : (holds many : Bool) → (holds && many) ≡ false → many ≡ true → holds ≡ false
+pub not_alone : (holds many : Bool) → (holds && many) ≡ false → many ≡ true → holds ≡ false
 not_alone true many e t = absurd (true_false (sym t ∙ e))
 not_alone false many e t = refl
 
@@ -144,7 +144,7 @@ module _ (tariff : Tariff) (trip : Itinerary) (front rest : List Part) where
   abbrev pub own_behind : ℕ → List ℕ
   own_behind unit = filter (is_own (front ++ rest) unit) (range_with_len (length front + 1) (length rest))
 
-  own_in_two : (unit : ℕ) → own (front ++ rest) unit ≡ own front unit ++ own_behind unit
+  pub own_in_two : (unit : ℕ) → own (front ++ rest) unit ≡ own front unit ++ own_behind unit
   unfolding own
   own_in_two unit =
       let n : length (front ++ rest) ≡ length front + length rest = length-append front rest in
@@ -159,7 +159,7 @@ module _ (tariff : Tariff) (trip : Itinerary) (front rest : List Part) where
       same_own : (unit k : ℕ) → 1 ≤ k → k ≤ length front → is_own (front ++ rest) unit k ≡ is_own front unit k
       same_own unit k low high = rw (front_unit front rest k low high) refl
 
-  own_are_first : (unit : ℕ) → AreFirst tariff trip front rest (own front unit)
+  pub own_are_first : (unit : ℕ) → AreFirst tariff trip front rest (own front unit)
   unfolding own
   own_are_first unit k m =
       let h = kept_member (is_own front unit) 1 (length front + 1 - 1) k m in
@@ -202,7 +202,7 @@ module _ (tariff : Tariff) (trip : Itinerary) (front rest : List Part) where
         let yes : (follows trip front x y && true) ≡ true = sym here ∙ (rw one refl) in
         true_false (sym (and_parts _ _ yes).0 ∙ other_way (end_city trip front x) (start_city trip front y) gap)
 
-    shut_alone : (xs : List ℕ) (behind : List ℕ) → AreFirst tariff trip front rest xs → own (front ++ rest) unit ≡ xs ++ behind → is_shut tariff trip front xs ≡ true → behind ≡ []
+    pub shut_alone : (xs : List ℕ) (behind : List ℕ) → AreFirst tariff trip front rest xs → own (front ++ rest) unit ≡ xs ++ behind → is_shut tariff trip front xs ≡ true → behind ≡ []
     unfolding is_shut
     shut_alone xs [] first e shut = refl
     shut_alone [] (k ∷ more) first e shut = let some : 1 ≤ length {A = ℕ} [] = shut_has_parts tariff trip front [] shut in absurd (omega arith)
@@ -228,13 +228,13 @@ module _ (tariff : Tariff) (trip : Itinerary) (front rest : List Part) where
         gap_of (z ∷ zs) first e g = true_false (sym g)
 
     -- so nothing is behind it
-    shut_own : is_shut tariff trip front (own front unit) ≡ true → own (front ++ rest) unit ≡ own front unit
+    pub shut_own : is_shut tariff trip front (own front unit) ≡ true → own (front ++ rest) unit ≡ own front unit
     shut_own shut =
         let behind : own_behind unit ≡ [] = shut_alone (own front unit) (own_behind unit) (own_are_first unit) (own_in_two unit) shut in
         own_in_two unit ∙ ap (λ xs. own front unit ++ xs) behind ∙ append-nil (own front unit)
 
     -- each of its parts has an amount
-    own_member : (k : ℕ) → Member k (own front unit) → (1 ≤ k) × (k ≤ length front) × (unit_of front k ≡ unit)
+    pub own_member : (k : ℕ) → Member k (own front unit) → (1 ≤ k) × (k ≤ length front) × (unit_of front k ≡ unit)
     unfolding own
     own_member k m =
         let h = kept_member (is_own front unit) 1 (length front + 1 - 1) k m in

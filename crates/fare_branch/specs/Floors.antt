@@ -1,12 +1,12 @@
 -- Floors: what a list of parts costs at least, over all its completions.
-use Rattle.std.specs.Prelude.{◌≡◌, ℕ, ◌+◌, ◌≤◌, Bool, true, nat_lt, nat_le, ◌&&◌, ◌||◌, List, ◌∷◌, [], ◌++◌, Option, Some, None}
+use Rattle.std.specs.Prelude.{◌≡◌, ℕ, ◌+◌, ◌≤◌, Bool, true, nat_lt, nat_le, ◌&&◌, List, ◌∷◌, [], ◌++◌, Option, Some, None}
 use Rattle.fare_trip.specs.Itinerary.{Itinerary, count}
 use Rattle.fare_tariff.specs.Tariff.{Tariff}
 use Rattle.fare_rules.specs.declared.part.Part.{Part}
 use Rattle.fare_rules.specs.Completion.{IsCompletion}
 use Rattle.fare_rules.specs.Construction.{greatest_unit, places, own}
-use Rattle.fare_units.specs.Shut.{is_shut, is_priceless}
-use Rattle.fare_units.specs.Walk.{IsFront, next_start, is_fruitless}
+use Rattle.fare_units.specs.Shut.{is_shut}
+use Rattle.fare_units.specs.Walk.{IsFront, next_start}
 use Rattle.fare_component.specs.Table.{Pricing}
 
 -- a list of parts has no completion
@@ -44,8 +44,3 @@ abbrev pub HasNoOpenUnit : Tariff → Itinerary → List Part → Type 0
 HasNoOpenUnit tariff trip parts =
     (unit : ℕ) → 1 ≤ unit → unit ≤ greatest_unit parts (places parts)
     → is_shut tariff trip parts (own parts unit) ≡ true
-
--- the last of some parts, of a unit, has no place in any lawful construction that begins with them: it is fruitless, or
--- shuts a unit that has no price
-abbrev pub is_hopeless : Tariff → Itinerary → List Part → ℕ → Bool
-is_hopeless tariff trip parts unit = is_fruitless tariff parts || is_priceless tariff trip parts unit

@@ -3,8 +3,10 @@ pub use Rattle.fare_units.specs.Walk
 pub use Rattle.fare_component.specs.Table
 pub use Rattle.fare_bounds.specs.Covers
 pub mod Floors
+pub mod Refusals
 pub mod Beginnings
 pub mod Costs
 pub mod Walked
 pub mod Search
+pub mod Dive
 pub mod LeastPrice

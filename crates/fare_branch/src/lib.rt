@@ -4,9 +4,11 @@
 //! - `bound`: what a search asks for the least price known, and tells what it finds;
 //! - `own_bound`: a bound that knows no more than it was told;
 //! - `pieces`: the first-part choices by their numbers, and ranges of them;
+//! - `refusals`: why some first parts are not gone on from;
 //! - `partial`: first parts of constructions, part by part;
 //! - `costs`: what parts cost at least;
 //! - `floors`: what first parts cost at least, with all that may follow;
+//! - `diving`: a greedy dive for a price to begin with;
 //! - `walking`: the walk over the constructions that begin with some parts;
 //! - `searching`: the search of a piece;
 //! - `quoter`: the quoter that searches all of them.
@@ -16,11 +18,13 @@
 
 mod bound;
 mod costs;
+mod diving;
 mod floors;
 mod own_bound;
 mod partial;
 mod pieces;
 mod quoter;
+mod refusals;
 mod searching;
 mod walking;
 

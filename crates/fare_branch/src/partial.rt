@@ -3,14 +3,13 @@
 ghost use Rattle.std.specs.Prelude.{◌≡◌, ◌≤◌, ◌<◌, ◌++◌, ◌∷◌, [], length, true};
 ghost use Rattle.fare_rules.specs.Construction.{end_of, greatest_unit, places};
 ghost use Rattle.fare_units.specs.Walk.{next_start};
-ghost use Rattle.fare_branch.specs.Floors.{IsMadeWith, IsNext, may_follow, is_hopeless};
+ghost use Rattle.fare_branch.specs.Floors.{IsMadeWith, IsNext, may_follow};
 
+use crate::refusals::is_hopeless;
 use fare_component::Table;
 use fare_rules::Part;
 use fare_trip::Trip;
-use fare_units::{
-    Construction, MOST_PARTS, is_fruitless, is_priceless, part_at, start_of, unit_count,
-};
+use fare_units::{Construction, MOST_PARTS, is_shut_unit, part_at, start_of, unit_count};
 use std::marker::Model;
 
 /// The first parts of a construction. They take no memory.
@@ -98,6 +97,9 @@ impl Partial {
         if !self.may_follow(trip, part) {
             return None;
         }
+        if is_shut_unit(table.edition(), trip, self.parts(), part.unit as usize) {
+            return None;
+        }
         let longer = self.longer(table, part);
         if is_hopeless(table, &longer, part.unit) {
             return None;
@@ -117,17 +119,6 @@ impl Partial {
         let _room = longer.try_push(part);
         longer
     }
-}
-
-/// Whether the last of some parts has no place in any lawful construction that begins with them: it crosses a unit, shares
-/// one with a one way fare, or shuts one that has no price.
-fn is_hopeless(table: &Table, parts: &Construction, unit: u8) -> bool
-    requires made { IsMadeWith table.now parts.now }
-    ensures { result ≡ is_hopeless table.now.edition table.now.trip parts.now unit }
-{
-    let parts = parts.parts();
-    is_fruitless(table.edition(), parts)
-        || is_priceless(table.edition(), table.trip(), parts, unit as usize)
 }
 
 /// A construction of some parts.

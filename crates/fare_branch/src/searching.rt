@@ -1,14 +1,16 @@
 //! The search of a piece.
 
-ghost use Rattle.std.specs.Prelude.{◌≡◌, None};
+ghost use Rattle.std.specs.Prelude.{◌≡◌};
 ghost use Rattle.fare_bounds.specs.Covers.{AreRests};
 ghost use Rattle.fare_branch.specs.Search.{IsLeastPrice, BeginsIn, BeginsBy, IsSearched, kept_at};
+ghost use Rattle.fare_branch.specs.Dive.{IsDived};
 ghost use Rattle.fare_branch.specs.Walked.{IsWalk, IsUnderAll};
 
 use crate::bound::Bound;
+use crate::diving::dive;
 use crate::partial::Partial;
 use crate::pieces::{Piece, choice, choices};
-use crate::walking::{Found, enter};
+use crate::walking::{Found, enter, take};
 use fare_bounds::Rest;
 use fare_component::Table;
 use fare_rules::Part;
@@ -27,7 +29,8 @@ pub fn search<B: Bound>(
     ensures fixed { B.fixed bound.new ≡ B.fixed bound.old }
     ensures searched { IsSearched table.now.edition table.now.trip piece (B.least bound.new) result }
 {
-    let found = walk_piece(table, rest, piece, bound);
+    let first = try_dive(table, rest, piece, bound);
+    let found = walk_piece(table, rest, piece, first, bound);
     let least = bound.seen();
     kept_at(found, least)
 }
@@ -42,15 +45,34 @@ fn kept_at(found: Found, least: u64) -> Found
     }
 }
 
+/// Takes what a dive comes to, where that is lawful.
+fn try_dive<B: Bound>(table: &Table, rest: &Rest, piece: Piece, bound: &mut B) -> Found
+    requires rest { AreRests table.now.edition table.now.trip rest.now }
+    requires under { IsUnderAll table.now.edition table.now.trip (B.fixed bound.old) }
+    ensures fixed { B.fixed bound.new ≡ B.fixed bound.old }
+    ensures dived { IsDived table.now.edition table.now.trip piece (B.least bound.old) (B.least bound.new) result }
+{
+    match dive(table, rest, piece) {
+        None => None,
+        Some(front) => take(table, &front, None, bound),
+    }
+}
+
 /// Walks over the constructions that begin in a piece.
-fn walk_piece<B: Bound>(table: &Table, rest: &Rest, piece: Piece, bound: &mut B) -> Found
+fn walk_piece<B: Bound>(
+    table: &Table,
+    rest: &Rest,
+    piece: Piece,
+    best: Found,
+    bound: &mut B,
+) -> Found
     requires rest { AreRests table.now.edition table.now.trip rest.now }
     requires under { IsUnderAll table.now.edition table.now.trip (B.fixed bound.old) }
     ensures fixed { B.fixed bound.new ≡ B.fixed bound.old }
     ensures walk { IsWalk table.now.edition table.now.trip (BeginsIn table.now.edition table.now.trip piece)
-        (B.least bound.old) None (B.least bound.new) result }
+        (B.least bound.old) best (B.least bound.new) result }
 {
-    let mut best = None;
+    let mut best = best;
     for number in piece.first..piece.past.min(choices(table)) {
         best = walk_choice(table, rest, number, best, bound);
     }

@@ -47,7 +47,7 @@ fn is_beaten(best: &Found, front: &Partial, floor: u64) -> bool
 }
 
 /// Takes a construction, where it is lawful and before the best that was found, and tells its price.
-fn take<B: Bound>(table: &Table, front: &Partial, best: Found, bound: &mut B) -> Found
+pub(crate) fn take<B: Bound>(table: &Table, front: &Partial, best: Found, bound: &mut B) -> Found
     requires under { IsUnderAll table.now.edition table.now.trip (B.fixed bound.old) }
     ensures fixed { B.fixed bound.new ≡ B.fixed bound.old }
     ensures walk { IsWalk table.now.edition table.now.trip (IsList front.now) (B.least bound.old) best

@@ -11,4 +11,5 @@ pub mod Tests
 pub mod Breaks
 pub mod Turning
 pub mod Shut
+pub mod Onward
 pub mod Walk

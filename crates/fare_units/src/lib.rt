@@ -24,6 +24,7 @@ pub use fare_rules::{Broken, Part, UnitKind, UnitSheet};
 pub use parts::direction::{is_back, priced_back};
 pub use parts::places::{part_at, start_of};
 pub use prices::circle::circle_minimum;
+pub use prices::onward::{is_homeward, is_shut_unit, is_stranded, must_go_on};
 pub use prices::price::MOST_UNIT_PRICE;
 pub use prices::priced::{first_parts_advance, lawful_price, price_is_of_unbroken};
 pub use prices::sheet::{unit_count, unit_sheet};

@@ -23,7 +23,13 @@ fn comes_to_country(edition: &Edition, from: City, to: City, home: City) -> bool
 }
 
 /// Whether a part ends in the country of its unit's origin and begins in another.
-fn heads_home(edition: &Edition, trip: &Trip, parts: &[Part], own: &[usize], k: usize) -> bool
+pub(crate) fn heads_home(
+    edition: &Edition,
+    trip: &Trip,
+    parts: &[Part],
+    own: &[usize],
+    k: usize,
+) -> bool
     requires ends { EndsWithin trip.now parts.now }
     ensures { result ≡ heads_home edition.now trip.now parts.now own.now k }
 {

@@ -15,7 +15,7 @@ use fare_trip::Trip;
 
 /// Whether a unit is shut: it holds a one way fare, or closes, or is an open jaw whose gap lies before its second part.
 #[tactic(auto, unfolding(crate::specs::Shut::is_shut))]
-fn is_shut(edition: &Edition, trip: &Trip, parts: &[Part], own: &[usize]) -> bool
+pub(crate) fn is_shut(edition: &Edition, trip: &Trip, parts: &[Part], own: &[usize]) -> bool
     requires ends { EndsWithin trip.now parts.now }
     ensures { result ≡ is_shut edition.now trip.now parts.now own.now }
 {

@@ -1,11 +1,10 @@
-use Rattle.std.proofs.Common.{◌≡◌, ◌<◌, ◌++◌, ◌∷◌, [], length, ap, sym, subst, ◌∙◌, Result, Ok, Err, true, false, arith}
+use Rattle.std.proofs.Common.{◌≡◌, ◌<◌, ◌++◌, ◌∷◌, [], length, ap, sym, subst, ◌∙◌, Result, Ok, Err, arith}
 use Rattle.std.specs.Result.{IsOk, OnOk}
 use Rattle.fare_trip.specs.Itinerary.{count}
 use Rattle.fare_units.specs.Walk.{IsFront}
 use Rattle.fare_units.proofs.FrontLemmas.{front_more, front_short}
 use Rattle.fare_rules.specs.declared.part.Part.{Part}
-use Rattle.fare_branch.specs.Floors.{may_follow}
-use Rattle.fare_branch.proofs.StepLemmas.{none_follows, follows, Follows}
+use Rattle.fare_branch.proofs.StepLemmas.{follows, Follows}
 use Rattle.fare_branch.proofs.partial.Partial.longer.Goals as goal
 
 on_ok : {P : Type 0} (r : Result (Unit {0}) Part) → IsOk r → OnOk r P → P

@@ -1,0 +1,157 @@
+//! A greedy dive: from the cheapest of the choices of a piece on, always the part with the least floor. What it comes
+//! to is tried first, so that a price is known early.
+
+ghost use Rattle.std.specs.Prelude.{◌≡◌, ◌+◌, ◌<◌, ◌≤◌, IfSome};
+ghost use Rattle.fare_trip.specs.Itinerary.{count};
+ghost use Rattle.fare_units.specs.Walk.{next_start};
+ghost use Rattle.fare_bounds.specs.Covers.{AreRests};
+ghost use Rattle.fare_branch.specs.Floors.{IsMadeWith};
+ghost use Rattle.fare_branch.specs.Dive.{GoesFrom, StartsIn};
+ghost use Rattle.fare_branch.specs.Search.{BeginsIn};
+
+use crate::floors::floor_of;
+use crate::partial::Partial;
+use crate::pieces::{Piece, choice, choices};
+use fare_bounds::Rest;
+use fare_component::Table;
+use fare_rules::Part;
+
+/// Some first parts with their floor, where there are any.
+type Step = Option<(Partial, u64)>;
+
+/// The one with the lesser floor of what was found and some first parts that one more follows, where these can bring
+/// anything.
+#[tactic(auto, using(crate::proofs::DiveLemmas::goes_next))]
+fn lesser_step(table: &Table, rest: &Rest, front: &Partial, part: Part, found: Step) -> Step
+    requires rest { AreRests table.now.edition table.now.trip rest.now }
+    requires made { IsMadeWith table.now front.now }
+    requires found { IfSome found (GoesFrom table.now front.now) }
+    ensures { IfSome result (GoesFrom table.now front.now) }
+{
+    let Some(longer) = front.next(table, part) else {
+        return found;
+    };
+    let Some(floor) = floor_of(table, rest, &longer) else {
+        return found;
+    };
+    match found {
+        Some((parts, least)) if least <= floor => Some((parts, least)),
+        _ => Some((longer, floor)),
+    }
+}
+
+/// Over the units of a part that ends at a point and has a fare.
+fn least_by_units(
+    table: &Table,
+    rest: &Rest,
+    front: &Partial,
+    end: usize,
+    fare: u32,
+    found: Step,
+) -> Step
+    requires rest { AreRests table.now.edition table.now.trip rest.now }
+    requires made { IsMadeWith table.now front.now }
+    requires within { end ≤ count table.now.trip }
+    requires found { IfSome found (GoesFrom table.now front.now) }
+    ensures { IfSome result (GoesFrom table.now front.now) }
+{
+    let sectors = table.trip().count();
+    prove!(end <= sectors);
+    let mut found = found;
+    for unit in 1..front.greatest_unit() + 2 {
+        let part = Part {
+            end: end as u8,
+            unit: unit as u8,
+            fare,
+        };
+        found = lesser_step(table, rest, front, part, found);
+    }
+    found
+}
+
+/// Over the entries of the span to a point.
+fn least_by_entries(table: &Table, rest: &Rest, front: &Partial, end: usize, found: Step) -> Step
+    requires rest { AreRests table.now.edition table.now.trip rest.now }
+    requires made { IsMadeWith table.now front.now }
+    requires rises { next_start table.now.trip front.now < end }
+    requires within { end ≤ count table.now.trip }
+    requires found { IfSome found (GoesFrom table.now front.now) }
+    ensures { IfSome result (GoesFrom table.now front.now) }
+{
+    let mut found = found;
+    for entry in table.entries(front.next_start(table.trip()), end) {
+        found = least_by_units(table, rest, front, end, entry.fare, found);
+    }
+    found
+}
+
+/// Some first parts that one more follows, with the least floor; nothing where none follows.
+fn least_step(table: &Table, rest: &Rest, front: &Partial) -> Step
+    requires rest { AreRests table.now.edition table.now.trip rest.now }
+    requires made { IsMadeWith table.now front.now }
+    ensures { IfSome result (GoesFrom table.now front.now) }
+{
+    let trip = table.trip();
+    let mut found = None;
+    for end in (front.next_start(trip) + 1..trip.count() + 1).rev() {
+        found = least_by_entries(table, rest, front, end, found);
+    }
+    found
+}
+
+/// The first part with the least floor among the choices of a piece.
+fn first_step(table: &Table, rest: &Rest, piece: Piece) -> Step
+    requires rest { AreRests table.now.edition table.now.trip rest.now }
+    ensures { IfSome result (StartsIn table.now piece) }
+{
+    let mut found = None;
+    for number in piece.first..piece.past.min(choices(table)) {
+        found = lesser_start(table, rest, piece, number, found);
+    }
+    found
+}
+
+/// The one with the lesser floor of what was found and the first part of a choice.
+fn lesser_start(table: &Table, rest: &Rest, piece: Piece, number: u32, found: Step) -> Step
+    requires rest { AreRests table.now.edition table.now.trip rest.now }
+    requires low { piece.first ≤ number }
+    requires high { number < piece.past }
+    requires found { IfSome found (StartsIn table.now piece) }
+    ensures { IfSome result (StartsIn table.now piece) }
+{
+    let Some((end, fare)) = choice(table, number) else {
+        return found;
+    };
+    let _sectors = table.trip().count();
+    let part = Part {
+        end: end as u8,
+        unit: 1,
+        fare,
+    };
+    let Some(first) = Partial::new().next(table, part) else {
+        return found;
+    };
+    let Some(floor) = floor_of(table, rest, &first) else {
+        return found;
+    };
+    match found {
+        Some((parts, least)) if least <= floor => Some((parts, least)),
+        _ => Some((first, floor)),
+    }
+}
+
+/// What a dive comes to in a piece: first parts that begin with one of its choices, and often a whole construction;
+/// nothing where no choice can bring anything.
+pub(crate) fn dive(table: &Table, rest: &Rest, piece: Piece) -> Option<Partial>
+    requires rest { AreRests table.now.edition table.now.trip rest.now }
+    ensures { IfSome result (BeginsIn table.now.edition table.now.trip piece) }
+{
+    let (mut front, _floor) = first_step(table, rest, piece)?;
+    for _part in 0..table.trip().count() {
+        let Some((longer, _floor)) = least_step(table, rest, &front) else {
+            return Some(front);
+        };
+        front = longer;
+    }
+    Some(front)
+}
