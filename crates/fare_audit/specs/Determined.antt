@@ -12,8 +12,8 @@ use Rattle.fare_audit.specs.Filing.{bare_parts, key_of, season_day}
 abbrev pub without_fare : Part → Part
 without_fare part = record { end = part.end; unit = part.unit; fare = 0 }
 
--- a record files the FARE of the part at a place: one with the part's key whose season holds the day of the part's first
--- sector
+-- a record files the FARE of the part at a place: one with the part's key whose season holds the day of the part's
+-- first sector
 abbrev pub FilesPart : Tariff → Itinerary → CalculationLine → ℕ → ℕ → Type 0
 FilesPart tariff trip line k number =
     IsSomeAnd (slice_get line.parts (k - 1))

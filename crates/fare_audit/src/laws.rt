@@ -15,8 +15,8 @@ ghost use Rattle.fare_audit.specs.declared.verdict.Verdict.TheVariants.{Lawful};
 use fare_tariff::{Edition, fare_of_a_day_is_one};
 
 /// A law: a line determines its construction. Of the lists of parts with the ends and units of the line, in which each
-/// part has a FARE of the part's key whose season holds the day of its first sector, there is at most one in an edition;
-/// and it is that of the look-ups, where each part has a record.
+/// part has a FARE of the part's key whose season holds the day of its first sector, there is at most one in an
+/// edition; and it is that of the look-ups, where each part has a record.
 pub fn construction_is_one(edition: &Edition)
     ensures one { (trip : Itinerary) (line : CalculationLine) (parts others : List Part) →
         IsConstructionOf edition.now trip line parts → IsConstructionOf edition.now trip line others → parts ≡ others }
@@ -33,7 +33,8 @@ pub fn price_is_best_and_over()
         (parts : List Part) → IsVerdict tariff trip line (Lawful price over) → IsBest tariff trip parts best
         → best + over ≡ price }
     ensures none_over { (tariff : Tariff) (trip : Itinerary) (line : CalculationLine) (price best : ℕ) →
-        (parts : List Part) → IsVerdict tariff trip line (Lawful price 0) → IsBest tariff trip parts best → price ≡ best }
+        (parts : List Part) → IsVerdict tariff trip line (Lawful price 0) → IsBest tariff trip parts best
+        → price ≡ best }
 {}
 
 /// A law: a line has one verdict for a trip in an edition.
