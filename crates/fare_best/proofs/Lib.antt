@@ -1,0 +1,4 @@
+pub mod RankingLemmas
+pub mod WalkedLemmas
+pub mod StepLemmas
+pub mod OneLemmas

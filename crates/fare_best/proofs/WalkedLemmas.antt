@@ -1,0 +1,179 @@
+-- Walks that keep the first k constructions: how they are put together, and what they come to.
+use Rattle.std.proofs.Common.{◌≡◌, ℕ, suc, ◌-◌, ◌<◌, ◌≤◌, ◌⊎◌, min, true, false, List, [], ◌∷◌, length, take, Option, Some, None, Result, Ok, Err, refl, sym, subst, ◌∙◌, inl, inr, arith}
+use Rattle.std.specs.Prelude.{slice_get, All}
+use Rattle.std.specs.List.{AllByRecursion}
+use Rattle.std.proofs.lemmas.List.{length-take, length-take-le}
+use Rattle.std.proofs.lemmas.List.Elements.{All-from_recursion, recursion_from_All, All-take}
+use Rattle.std.proofs.lemmas.Bool.{ltb-true}
+use Rattle.fare_trip.specs.Itinerary.{Itinerary}
+use Rattle.fare_tariff.specs.Tariff.{Tariff}
+use Rattle.fare_rules.specs.declared.part.Part.{Part}
+use Rattle.fare_rules.specs.declared.broken.Broken.{Broken}
+use Rattle.fare_rules.specs.Best.{IsLawful}
+use Rattle.fare_rules.specs.FirstK.{Priced, IsPriced, IsBefore, IsFirstK}
+use Rattle.fare_rules.specs.Lawful.{lawful_price}
+use Rattle.fare_rules.proofs.BestLemmas.{transitive, total}
+use Rattle.fare_rules.proofs.LawfulLemmas.{kept}
+use Rattle.fare_rules.proofs.MemberLemmas.{Member, contains}
+use Rattle.fare_rules.proofs.OrderLemmas.{Before, before_tells, before_says}
+use Rattle.fare_units.specs.Walk.{Completes, IsList}
+use Rattle.fare_best.specs.Ranking.{comes_before, costs_below, first_with, is_beyond, ranked_with}
+use Rattle.fare_best.specs.Walked.{IsRanked, IsPlaced, IsWalk}
+use Rattle.fare_best.proofs.RankingLemmas.{contained, rising, all_pairs, take_rising, take_placed, with_every, with_kept, with_has, with_long, with_rising, full_before, costs_no_more}
+
+true_false : true ≡ false → ⊥
+true_false e = cc
+
+err_ok : (x : Broken) (y : ℕ) → Err x ≡ Ok y → ⊥
+err_ok x y e = cc
+
+ok_same : (p q : ℕ) → ◌≡◌ {A = Result ℕ Broken} (Ok p) (Ok q) → p ≡ q
+ok_same p q e = cc
+
+-- what is before another costs no more
+costs_no_more_than : (x y : Priced) → comes_before x y ≡ true → x.1 ≤ y.1
+costs_no_more_than x y h =
+    elim (before_tells x.0 y.0 x.1 y.1 h) [ inl l ↦ omega arith | inr e ↦ let same : x.1 ≡ y.1 = e.0 in omega arith ]
+
+pub through : (x y z : Priced) → comes_before x y ≡ true → comes_before y z ≡ true → comes_before x z ≡ true
+through x y z a b = transitive x.0 y.0 z.0 x.1 y.1 z.1 a b
+
+-- the last one wanted, where it costs less than a floor
+beyond_last : (floor : ℕ) (one : Option Priced) → costs_below floor one ≡ true
+    → (last : Priced) × (one ≡ Some last) × (last.1 < floor)
+beyond_last floor None h = absurd (true_false (sym h))
+beyond_last floor (Some last) h = (last, refl, ltb-true last.1 floor h)
+
+module _ (tariff : Tariff) (trip : Itinerary) (k : ℕ) where
+  -- lists that are left out, since each lawful one has its place
+  pub walk_left_out : (D : List Part → Type 0) (found : List Priced)
+      → (IsRanked tariff trip k found → (parts : List Part) (price : ℕ) → IsLawful tariff trip parts price → D parts → IsPlaced k found parts price)
+      → IsWalk tariff trip k D found found
+  walk_left_out D found placed = record { ranked = λ r. r; kept = λ r parts price p. p; walked = placed }
+
+  -- a walk over lists of which none is lawful
+  pub walk_nothing : (D : List Part → Type 0) (found : List Priced)
+      → ((parts : List Part) (price : ℕ) → IsLawful tariff trip parts price → D parts → ⊥) → IsWalk tariff trip k D found found
+  walk_nothing D found none = walk_left_out D found (λ r parts price l d. absurd (none parts price l d))
+
+  -- one walk after another
+  pub walk_then : (D E F : List Part → Type 0) (a b c : List Priced) → IsWalk tariff trip k D a b → IsWalk tariff trip k E b c
+      → ((parts : List Part) → F parts → D parts ⊎ E parts) → IsWalk tariff trip k F a c
+  walk_then D E F a b c first second each = record {
+    ranked = λ r. second.ranked (first.ranked r);
+    kept = λ r parts price p. second.kept (first.ranked r) parts price (first.kept r parts price p);
+    walked = λ r parts price l f. elim (each parts f) [
+      | inl h ↦ second.kept (first.ranked r) parts price (first.walked r parts price l h)
+      | inr h ↦ second.walked (first.ranked r) parts price l h
+    ];
+  }
+
+  -- a walk over lists among which are all lawful ones of those asked for
+  pub walk_within : (D E : List Part → Type 0) (before after : List Priced) → IsWalk tariff trip k E before after
+      → ((parts : List Part) (price : ℕ) → IsLawful tariff trip parts price → D parts → E parts)
+      → IsWalk tariff trip k D before after
+  walk_within D E before after walk each = record {
+    ranked = walk.ranked;
+    kept = walk.kept;
+    walked = λ r parts price l d. walk.walked r parts price l (each parts price l d);
+  }
+
+  -- two lawful constructions, of which neither is before the other, are one
+  told_apart : (one x : Priced) → IsPriced tariff trip one → IsPriced tariff trip x → comes_before x one ≡ false → comes_before one x ≡ false → one ≡ x
+  told_apart one x l m f g =
+      elim (total trip one.0 x.0 one.1 x.1 (kept tariff trip one.0 one.1 l).cover (kept tariff trip x.0 x.1 m).cover) [
+        | inl h ↦ absurd (true_false (sym h ∙ g))
+        | inr rest ↦ elim rest [
+          | inl h ↦ absurd (true_false (sym h ∙ f))
+          | inr e ↦ λ i. (e.0 i, e.1 i)
+        ]
+      ]
+
+  module _ (one : Priced) (lawful : IsPriced tariff trip one) (found : List Priced) (was : IsRanked tariff trip k found) where
+    all_lawful : AllByRecursion (IsPriced tariff trip) found
+    all_lawful = recursion_from_All (IsPriced tariff trip) found was.lawful
+
+    all_apart : (xs : List Priced) → AllByRecursion (IsPriced tariff trip) xs → AllByRecursion (λ x. comes_before x one ≡ false → comes_before one x ≡ false → one ≡ x) xs
+    all_apart [] a = tt
+    all_apart (x ∷ xs) (l, a) = (told_apart one x lawful l, all_apart xs a)
+
+    taken_ranked : IsRanked tariff trip k (first_with k one found)
+    taken_ranked =
+        let len : length (first_with k one found) ≡ min k (length (ranked_with comes_before one found)) = length-take k (ranked_with comes_before one found) in
+        record {
+          at_most = omega arith;
+          lawful = All-take (IsPriced tariff trip) k (ranked_with comes_before one found) (All-from_recursion (IsPriced tariff trip) (ranked_with comes_before one found) (with_every comes_before one (IsPriced tariff trip) found lawful all_lawful));
+          rising = all_pairs comes_before (first_with k one found) (take_rising comes_before k (ranked_with comes_before one found) (with_rising comes_before through one found (rising comes_before found was.rising)));
+        }
+
+    member_placed : (other : Priced) → Member other (ranked_with comes_before one found) → IsPlaced k (first_with k one found) other.0 other.1
+    member_placed other m =
+        elim (take_placed comes_before k (ranked_with comes_before one found) other (with_rising comes_before through one found (rising comes_before found was.rising)) m) [
+          | inl there ↦ inl (contains other (first_with k one found) there)
+          | inr full ↦ inr (full.0, All-from_recursion (λ x. IsBefore x other) (first_with k one found) full.1)
+        ]
+
+    taken_kept : (other : Priced) → IsPlaced k found other.0 other.1 → IsPlaced k (first_with k one found) other.0 other.1
+    taken_kept other (inl there) = member_placed other (with_kept comes_before one other found (contained other found there))
+    taken_kept other (inr full) =
+        let long : length found ≤ length (ranked_with comes_before one found) = with_long comes_before one found in
+        inr (
+          length-take-le k (ranked_with comes_before one found) (omega arith),
+          All-from_recursion (λ x. IsBefore x other) (first_with k one found)
+              (full_before comes_before through one k found other full.0 (recursion_from_All (λ x. IsBefore x other) found full.1)),
+        )
+
+    taken_there : IsPlaced k (first_with k one found) one.0 one.1
+    taken_there = member_placed one (with_has comes_before one found (all_apart found all_lawful))
+
+  -- a lawful list is taken
+  pub walk_taken : (parts : List Part) (price : ℕ) (found : List Priced) → IsLawful tariff trip parts price
+      → IsWalk tariff trip k (IsList parts) found (first_with k (parts, price) found)
+  walk_taken parts price found lawful = record {
+    ranked = λ r. taken_ranked (parts, price) lawful found r;
+    kept = λ r others cost p. taken_kept (parts, price) lawful found r (others, cost) p;
+    walked = λ r others cost l d.
+        let P : List Part → Type 0 = λ xs. IsLawful tariff trip xs cost in
+        let same : cost ≡ price = ok_same cost price (sym (subst P d l) ∙ lawful) in
+        let Q : List Part → Type 0 = λ xs. IsPlaced k (first_with k (parts, price) found) xs cost in
+        let R : ℕ → Type 0 = λ n. IsPlaced k (first_with k (parts, price) found) parts n in
+        subst Q (sym d) (subst R (sym same) (taken_there (parts, price) lawful found r));
+  }
+
+  -- a list that is not lawful is left out
+  pub walk_unlawful : (parts : List Part) (broken : Broken) (found : List Priced) → lawful_price tariff trip parts ≡ Err broken
+      → IsWalk tariff trip k (IsList parts) found found
+  walk_unlawful parts broken found e =
+      walk_nothing (IsList parts) found
+      (λ others price l d.
+      let P : List Part → Type 0 = λ xs. IsLawful tariff trip xs price in
+      err_ok broken price (sym e ∙ subst P d l))
+
+  all_cheaper : (parts : List Part) (price low : ℕ) (xs : List Priced) → low < price → AllByRecursion (λ x. x.1 ≤ low) xs → AllByRecursion (λ x. IsBefore x (parts, price)) xs
+  all_cheaper parts price low [] h a = tt
+  all_cheaper parts price low (x ∷ xs) h (up, a) =
+      (before_says x.0 parts x.1 price (inl (omega arith)), all_cheaper parts price low xs h a)
+
+  -- what costs more than the last one wanted has its place
+  pub beyond_is_placed : (found : List Priced) (floor price : ℕ) (parts : List Part) → 1 ≤ k → IsRanked tariff trip k found → is_beyond k found floor ≡ true → floor ≤ price → IsPlaced k found parts price
+  beyond_is_placed found floor price parts some r h up =
+      let last = beyond_last floor (slice_get found (k - 1)) h in
+      let at_most : length found ≤ k = r.at_most in
+      let low : last.0.1 < floor = last.2 in
+      let full : (length found ≡ suc (k - 1)) × AllByRecursion (λ x. x.1 ≤ last.0.1) found =
+      costs_no_more comes_before (λ (x : Priced). x.1) costs_no_more_than found (k - 1) last.0 (rising comes_before found r.rising) (omega arith) last.1 in
+      inr (omega arith, All-from_recursion (λ x. IsBefore x (parts, price)) found (all_cheaper parts price last.0.1 found (omega arith) full.1))
+
+  none_ranked : IsRanked tariff trip k []
+  none_ranked = record { at_most = omega arith; lawful = λ n d h. absurd (omega arith); rising = λ i j d up h. absurd (omega arith) }
+
+  -- a walk over all lists, before which nothing was found, comes to the first k
+  pub walk_is_first : (found : List Priced) → IsWalk tariff trip k (Completes []) [] found → IsFirstK tariff trip k found
+  walk_is_first found walk =
+      let r : IsRanked tariff trip k found = walk.ranked none_ranked in
+      record {
+        at_most = r.at_most;
+        lawful = r.lawful;
+        rising = r.rising;
+        others = λ other l. walk.walked none_ranked other.0 other.1 l (record { rest = other.0; whole = refl });
+      }

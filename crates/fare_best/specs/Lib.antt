@@ -1,0 +1,5 @@
+pub use Rattle.fare_rules.specs.FirstK
+pub use Rattle.fare_units.specs.Walk
+pub use Rattle.fare_branch.specs.Floors
+pub mod Ranking
+pub mod Walked

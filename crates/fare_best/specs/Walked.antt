@@ -1,0 +1,28 @@
+-- What a walk over constructions that keeps the first k of them has found and seen.
+use Rattle.std.specs.Prelude.{◌≡◌, ℕ, ◌≤◌, ◌⊎◌, List, length, All, AllPairs, Contains}
+use Rattle.fare_trip.specs.Itinerary.{Itinerary}
+use Rattle.fare_tariff.specs.Tariff.{Tariff}
+use Rattle.fare_rules.specs.declared.part.Part.{Part}
+use Rattle.fare_rules.specs.Best.{IsLawful}
+use Rattle.fare_rules.specs.FirstK.{Priced, IsPriced, IsBefore}
+
+-- what was found are at most k lawful constructions, each before those behind it
+pub record IsRanked (tariff : Tariff) (trip : Itinerary) (k : ℕ) (found : List Priced) : Type 0 where
+  pub at_most : length found ≤ k
+  pub lawful : All (IsPriced tariff trip) found
+  pub rising : AllPairs IsBefore found
+
+-- a construction with its price has its place: it was found, or k were that are before it
+abbrev pub IsPlaced : ℕ → List Priced → List Part → ℕ → Type 0
+IsPlaced k found parts price =
+    Contains found (parts, price) ⊎ ((length found ≡ k) × All (λ one. IsBefore one (parts, price)) found)
+
+-- from what was found a walk over some lists came to what is found then, where that was ranked: it is ranked, what had
+-- its place has it, and so has each lawful list of those walked
+pub record IsWalk (tariff : Tariff) (trip : Itinerary) (k : ℕ) (D : List Part → Type 0) (before after : List Priced) :
+    Type 0 where
+  pub ranked : IsRanked tariff trip k before → IsRanked tariff trip k after
+  pub kept : IsRanked tariff trip k before → (parts : List Part) (price : ℕ) → IsPlaced k before parts price
+      → IsPlaced k after parts price
+  pub walked : IsRanked tariff trip k before → (parts : List Part) (price : ℕ) → IsLawful tariff trip parts price
+      → D parts → IsPlaced k after parts price

@@ -1,0 +1,21 @@
+//! The first ten: the first lawful constructions of a trip by Order, up to ten of them, found by a walk that leaves out
+//! what costs more than the last one wanted.
+//!
+//! - `best_list`: the first constructions that were found, in their order;
+//! - `front`: what a walk asks of the first parts of a construction;
+//! - `walking`: the walk over the constructions that begin with some parts;
+//! - `first`: the first of all, and the law that they are one list.
+//!
+//! Each of these stands on those above it.
+#![tactic(auto)]
+
+mod best_list;
+mod first;
+mod front;
+mod walking;
+
+pub use best_list::{BestList, MOST_BEST};
+pub use first::{first_k, first_k_is_one};
+
+#[cfg(test)]
+mod tests;
