@@ -7,6 +7,9 @@ pub mod EditionLists
 pub mod Publications
 pub mod Standing
 pub mod Repeats
+pub mod Respellings
+pub mod Migrations
+pub mod MigratedBooks
 pub mod WordsOfBodies
 pub mod Examples
 pub mod Latest

@@ -12,3 +12,4 @@ pub mod Reopens
 pub mod Publish
 pub mod Stands
 pub mod Repeats
+pub mod Migration

@@ -233,3 +233,42 @@ fn a_keeper_that_fails_opens_no_book(rt: HostRuntime) -> Result<(), Fail> {
     );
     Ok(())
 }
+
+#[test]
+fn an_old_body_is_migrated_once(rt: HostRuntime) -> Result<(), Fail> {
+    let alloc = rt.alloc();
+    let mut bodies = Bodies::new(alloc);
+    bodies.push(VERSION_1)?;
+    bodies.push(b"HEAD,2,2,2025-02-01\nEND\n")?;
+    let mut store = PlainKeeper::new(bodies);
+    store.open(alloc, "editions")?;
+    let mut book = Book::of(alloc, read_edition(&rt, alloc, THIRD)?)?;
+    assert_eq!(rt; book.migrate(&rt, alloc, &mut store), Ok(1));
+    assert_eq!(rt; store.kept().get(0), Some(CANONICAL));
+    assert_eq!(rt; book.migrate(&rt, alloc, &mut store), Ok(0));
+    assert!(rt; book.settled() && book.find(3).is_none() && book.editions().len() == 2);
+    store.append(alloc, b"junk")?;
+    let damage = RestoreFault::Damaged(3, Damage::Text(TextFault::NoHeader));
+    assert_eq!(rt; book.migrate(&rt, alloc, &mut store), Err(damage));
+    Ok(())
+}
+
+#[test]
+fn a_migration_goes_on_where_it_failed(rt: HostRuntime) -> Result<(), Fail> {
+    let alloc = rt.alloc();
+    for kept in [false, true] {
+        // The second `replace`, behind `open`, two `append`, `len`, two `load`, `load`, `replace` and `load`.
+        let mut store = failing(alloc, &[(10, kept)])?;
+        store.open(alloc, "editions")?;
+        store.append(alloc, VERSION_1)?;
+        store.append(alloc, SECOND)?;
+        let mut book = Book::of(alloc, read_edition(&rt, alloc, THIRD)?)?;
+        let answer = book.migrate(&rt, alloc, &mut store);
+        assert_eq!(rt; answer, Err(RestoreFault::KeeperFault));
+        assert_eq!(rt; store.kept().get(0), Some(CANONICAL));
+        let left = if kept { 0 } else { 1 };
+        assert_eq!(rt; book.migrate(&rt, alloc, &mut store), Ok(left));
+        assert_eq!(rt; book.migrate(&rt, alloc, &mut store), Ok(0));
+    }
+    Ok(())
+}
