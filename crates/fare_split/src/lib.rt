@@ -31,3 +31,6 @@ mod worker;
 pub use pieces::MOST_WORKERS;
 pub use prepared::Prepared;
 pub use quoter::SplitQuoter;
+
+#[cfg(test)]
+mod tests;
