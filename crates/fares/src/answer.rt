@@ -18,13 +18,15 @@ use crate::publish::publish;
 use crate::stored_quote::stored_quote;
 use crate::words::Request;
 use fare_outside::{Keeper, Source};
+use fare_units::Quoter;
 use std::alloc::Global;
 use std::thread::Threads;
 
 /// The text that answers a request, or what the run ends in without it.
-pub fn answer<R: Threads + Sync, S: Source, P: Keeper>(
+pub fn answer<R: Threads + Sync, Q: Quoter, S: Source, P: Keeper>(
     rt: &R,
     alloc: Global,
+    quoter: &Q,
     request: &Request<'_>,
     src: &mut S,
     store: &mut P,
@@ -47,19 +49,21 @@ pub fn answer<R: Threads + Sync, S: Source, P: Keeper>(
     ensures keeping { IsKeeping result (P.faults store.old) (P.faults store.new) }
 {
     match request {
-        Request::Price => price(rt, alloc, src),
+        Request::Price => price(rt, alloc, quoter, src),
         Request::Publish { store: name } => publish(rt, alloc, src, store, name.as_str()),
         Request::List { store: name } => list(rt, alloc, store, name.as_str()),
         Request::Export {
             store: name,
             edition,
         } => export(rt, alloc, store, name.as_str(), *edition),
-        Request::Quote { store: name } => stored_quote(rt, alloc, src, store, name.as_str()),
+        Request::Quote { store: name } => {
+            stored_quote(rt, alloc, quoter, src, store, name.as_str())
+        }
         Request::Drill {
             seed,
             sectors,
             extra,
-        } => drill(rt, alloc, *seed, *sectors, *extra),
+        } => drill(rt, alloc, quoter, *seed, *sectors, *extra),
         Request::Missing => Err(Exit::NotYet),
         Request::Nothing => Err(Exit::Usage),
     }

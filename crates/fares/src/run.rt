@@ -13,7 +13,8 @@ ghost use Rattle.fares.specs.Run.{EndsIn, IsSilent, LeavesBodies, PublishesNothi
 use crate::answer::answer;
 use crate::exit::Exit;
 use crate::words::asked;
-use fare_outside::{Door, Gate, Keeper, NoMemory, Sink, Source, write_all};
+use fare_outside::{Door, Gate, Keeper, NoMemory, OpenGate, Sink, Source, write_all};
+use fare_split::SplitQuoter;
 use std::alloc::Global;
 use std::thread::Threads;
 
@@ -63,11 +64,12 @@ pub fn run<R: Threads + Sync, S: Source, K: Sink, P: Keeper, D: Door, G: Gate>(
     ensures sink_count { K.faults out.old ≤ K.faults out.new }
     ensures store_count { P.faults store.old ≤ P.faults store.new }
 {
-    let request = match asked(alloc, words) {
-        Ok(request) => request,
+    let asked = match asked(alloc, words) {
+        Ok(asked) => asked,
         Err(NoMemory) => return Exit::Memory,
     };
-    match answer(rt, alloc, &request, src, store) {
+    let quoter = SplitQuoter::new(asked.workers, &OpenGate);
+    match answer(rt, alloc, &quoter, &asked.request, src, store) {
         Ok(text) => written(out, text.as_slice()),
         Err(exit) => exit,
     }
