@@ -1,29 +1,25 @@
 -- What the statements that write make of the table.
-use Rattle.std.proofs.Common.{◌≡◌, ◌⊎◌, ◌∙◌, inl, inr, ℕ, ℤ, pos, List, [], ◌∷◌, map, drop, Bool, true, false, not, ◌&&◌, cond, Option, Some, None, Result, Ok, Err, refl, sym, ap, subst}
+use Rattle.std.proofs.Common.{◌≡◌, ◌⊎◌, ◌∙◌, inl, inr, ℕ, ℤ, pos, List, [], ◌∷◌, Bool, true, false, not, ◌&&◌, cond, Option, None, Result, Ok, Err, refl, sym, ap, subst}
 use Rattle.std.specs.List.{filter}
 use Rattle.sqlite_value.specs.declared.value.Value.{Value}
 use Rattle.sqlite_value.specs.declared.value.Value.TheVariants.{Null, Int, Blob}
-use Rattle.sqlite_value.specs.Order.{Row, column}
+use Rattle.sqlite_value.specs.Order.{Row}
 use Rattle.sqlite_trees.specs.Tree.{Trees, put_row, rowid, without_rowid}
 use Rattle.sqlite_sql.specs.Ops.{unary}
-use Rattle.sqlite_sql.specs.Program.{overlay}
 use Rattle.sqlite_schema.specs.declared.command.Command.TheVariants.{CreateTable, Insert, Update}
 use Rattle.sqlite_schema.specs.declared.command.Source.TheVariants.{Values}
 use Rattle.sqlite_schema.specs.declared.schema.Kind.TheVariants.{Integer}
-use Rattle.sqlite_schema.specs.declared.schema.Schema.{Schema}
 use Rattle.sqlite_rules.specs.Cast.{cast}
 use Rattle.sqlite_rules.specs.declared.error.Rowids.TheVariants.{Chosen, Given}
 use Rattle.sqlite_rules.specs.Edit.{Edit, edit_of, edited, is_taken, are_fresh, left_by}
 use Rattle.sqlite_rules.specs.Calls.{ids_of}
-use Rattle.sqlite_catalog.specs.Change.{created, next_tree}
-use Rattle.sqlite_resolve.specs.Compile.{table_defined_by}
+use Rattle.sqlite_catalog.specs.Change.{created}
 use Rattle.sqlite.specs.declared.run.Mode.{Mode}
 use Rattle.sqlite.specs.Does.{Does, Tally, lacks_sequence}
 use Rattle.sqlite.specs.Effect.{Database}
 use Rattle.sqlite.specs.Rows.{Written}
 use Rattle.sqlite.proofs.Callers.{one_step}
 use Rattle.fare_sqlite.specs.EditionTable.{blank_schema, edition_schema, edition_table}
-use Rattle.fare_sqlite.specs.Bodies.{body_of, rows_at}
 use Rattle.fare_sqlite.proofs.Queries.{at_place, passes, row_query, shows}
 use Rattle.fare_sqlite.proofs.StatementForms.{create_is, create_text, inserted_terms, updated_terms}
 

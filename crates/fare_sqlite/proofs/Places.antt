@@ -1,5 +1,5 @@
 -- The bodies of rows, place by place.
-use Rattle.std.proofs.Common.{◌≡◌, ◌≢◌, ◌∙◌, ℕ, zero, suc, ◌+◌, ◌-◌, ◌<◌, ◌≤◌, pos, List, [], ◌∷◌, ◌++◌, length, get_or, slice_get, slice_set, set, Option, Some, None, Bool, true, false, not, ◌||◌, inl, inr, refl, sym, ap, arith, length-append, add-zero, add-suc}
+use Rattle.std.proofs.Common.{◌≡◌, ◌≢◌, ℕ, zero, suc, ◌+◌, ◌-◌, ◌<◌, ◌≤◌, pos, List, [], ◌∷◌, ◌++◌, length, get_or, slice_set, set, Option, Some, None, Bool, true, false, ◌||◌, inl, inr, refl, ap, arith, length-append, add-zero}
 use Rattle.std.specs.List.{filter, All}
 use Rattle.std.proofs.lemmas.List.{nil_from_length, length-set, get_or-set_same, get_or-set_other}
 use Rattle.std.proofs.lemmas.List.Elements.{All-filter}

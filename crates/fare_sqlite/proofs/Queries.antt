@@ -1,8 +1,8 @@
 -- What the queries answer.
-use Rattle.std.proofs.Common.{◌≡◌, ◌∙◌, ℕ, ◌-◌, ℤ, pos, negsuc, List, [], ◌∷◌, ◌++◌, length, map, codes, min, Option, Some, None, Bool, true, false, not, ◌&&◌, ◌||◌, cond, refl, sym, ap, subst, Ordering}
+use Rattle.std.proofs.Common.{◌≡◌, ◌∙◌, ℕ, ℤ, pos, negsuc, List, [], ◌∷◌, ◌++◌, length, map, codes, Some, None, Bool, true, false, ◌&&◌, ◌||◌, cond, refl, sym, ap, subst}
 use Rattle.std.specs.List.{filter, flat_map, list_all, AllZip}
 use Rattle.std.specs.List.Sorted.{IsPermutation}
-use Rattle.std.specs.Ordering.{is_eq, is_ne}
+use Rattle.std.specs.Ordering.{is_eq}
 use Rattle.std.proofs.lemmas.List.{length-map}
 use Rattle.std.proofs.lemmas.List.Sorted.{length_permutation}
 use Rattle.sqlite_value.specs.declared.value.Value.{Value}
@@ -19,12 +19,12 @@ use Rattle.sqlite_sql.specs.Aggregate.{count}
 use Rattle.sqlite_sql.specs.Group.{Aggregate, Grouping, IsSummary, Summarizes, value_over}
 use Rattle.sqlite_sql.specs.Ops.{binary, from_truth, is_true, unary}
 use Rattle.sqlite_sql.specs.Program.{overlay}
-use Rattle.sqlite_sql.specs.Query.{IsAnswer, Join, Output, Query, end, inner, matches_as, output, page}
+use Rattle.sqlite_sql.specs.Query.{IsAnswer, Output, Query, end, inner, matches_as, output, page}
 use Rattle.sqlite_sql.specs.Term.{Env, Term, col, eval, eval_all, holds, lit, op1, op2}
 use Rattle.sqlite_schema.specs.declared.command.Command.TheVariants.{Select}
 use Rattle.sqlite.specs.Effect.{Database, ReadsFirst}
 use Rattle.sqlite.proofs.Callers.{one_permutation}
-use Rattle.fare_sqlite.specs.Bodies.{has_no_body, is_no_blob, is_no_int, rows_at}
+use Rattle.fare_sqlite.specs.Bodies.{has_no_body, is_no_blob, is_no_int}
 
 -- the rows are counted
 abbrev pub rows_counted : Aggregate

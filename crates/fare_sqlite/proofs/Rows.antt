@@ -1,7 +1,7 @@
 -- Rows by their places, after a row is put or taken out.
-use Rattle.std.proofs.Common.{◌≡◌, ◌≢◌, ◌∙◌, ℕ, ℤ, ◌+◌, pos, int_cmp, List, [], ◌∷◌, ◌++◌, length, Bool, true, false, not, ◌||◌, cond, refl, sym, ap, arith, length-append, Ordering, Less, Equal, Greater}
-use Rattle.std.specs.List.{filter, list_any}
-use Rattle.std.specs.Ordering.{is_eq, match_ordering}
+use Rattle.std.proofs.Common.{◌≡◌, ◌≢◌, ◌∙◌, ℕ, ℤ, ◌+◌, pos, int_cmp, List, [], ◌∷◌, ◌++◌, length, Bool, true, false, not, ◌||◌, refl, sym, ap, arith, length-append, Ordering, Less, Equal, Greater}
+use Rattle.std.specs.List.{filter}
+use Rattle.std.specs.Ordering.{is_eq}
 use Rattle.std.proofs.lemmas.List.Elements.{filter-append}
 use Rattle.std.proofs.lemmas.List.Filters.{length-filter_both}
 use Rattle.std.proofs.lemmas.Bool.Decides.{nat_tests}

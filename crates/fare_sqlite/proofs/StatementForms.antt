@@ -1,5 +1,5 @@
 -- What the statements on the table are.
-use Rattle.std.proofs.Common.{◌≡◌, refl, ℕ, List, [], ◌∷◌, codes, Ok, true, false}
+use Rattle.std.proofs.Common.{◌≡◌, refl, ℕ, List, [], ◌∷◌, codes, Ok, false}
 use Rattle.sqlite_value.specs.declared.value.Value.TheVariants.{Null}
 use Rattle.sqlite_schema.specs.declared.command.Command.TheVariants.{CreateTable, Insert, Select, Update}
 use Rattle.sqlite_schema.specs.declared.command.Source.TheVariants.{Values}

@@ -1,24 +1,21 @@
 -- What a statement leaves of a connection.
-use Rattle.std.proofs.Common.{◌≡◌, ◌⊎◌, ◌∙◌, inl, inr, ℕ, pos, List, [], ◌∷◌, Bool, true, false, not, ◌&&◌, cond, ◌≤◌, arith, Option, Some, None, Result, Ok, Err, MatchBool, IfOk, OnOk, OnErr, IsTrue, IsSome, refl, sym, ap, subst}
+use Rattle.std.proofs.Common.{◌≡◌, ◌⊎◌, ◌∙◌, inl, inr, ℕ, List, [], Bool, true, false, not, ◌&&◌, cond, arith, Option, Some, None, Result, Ok, Err, MatchBool, IfOk, OnOk, OnErr, IsTrue, refl, sym, ap, subst}
 use Rattle.sqlite_value.specs.Order.{Row}
 use Rattle.sqlite_trees.specs.Tree.{Trees}
-use Rattle.sqlite_trees.specs.View.{doubt}
 use Rattle.sqlite_trees.proofs.Doubt.{no_doubt}
 use Rattle.sqlite_schema.specs.declared.command.Returning.{Returning}
-use Rattle.sqlite_schema.specs.declared.schema.Schema.{Schema}
 use Rattle.sqlite_resolve.specs.declared.compiled.Compiled.{Compiled}
 use Rattle.sqlite_resolve.specs.declared.error.CompileError.{CompileError}
 use Rattle.sqlite.specs.declared.error.Error.{Error}
 use Rattle.sqlite.specs.Effect.{Database}
 use Rattle.sqlite.specs.Listing.{understood}
-use Rattle.sqlite.specs.State.{Executes, ExecutesIn, FailsToQuery, FailsToShow, HasCleanDisk, IsNotRun, IsRolledBack, IsUnchanged, QueriesRow, RunsAlone, RunsCommand, Shown, ShowsRows, State, Survives, CommitsShowing, shows_rows}
+use Rattle.sqlite.specs.State.{Executes, ExecutesIn, FailsToQuery, FailsToShow, HasCleanDisk, IsNotRun, IsRolledBack, IsUnchanged, QueriesRow, RunsCommand, Shown, ShowsRows, State, Survives, CommitsShowing, shows_rows}
 use Rattle.sqlite.proofs.Callers.{IsPlain, never_commits}
 use Rattle.fare_sqlite.specs.Bodies.{bodies_in}
-use Rattle.fare_sqlite.specs.EditionTable.{blank_schema, edition_schema}
 use Rattle.fare_outside.specs.Keeper.{BodiesStay, MayAppend, ToldAfter, WhereTold}
 use Rattle.fare_sqlite.specs.Kept.{HasBodies, HasTable, IsSettled, LeavesAsBefore, Speaks, Stays, bodies_of, kept}
 use Rattle.fare_sqlite.specs.Ours.{is_blank, is_ours}
-use Rattle.fare_sqlite.proofs.Schemas.{blank_is, edition_is_ours, ours_is}
+use Rattle.fare_sqlite.proofs.Schemas.{edition_is_ours, ours_is}
 
 -- the bodies of a keeper, where they are told
 abbrev pub Told : Type 0

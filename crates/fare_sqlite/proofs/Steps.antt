@@ -1,5 +1,5 @@
 -- What the statements leave of a connection that keeps bodies.
-use Rattle.std.proofs.Common.{◌≡◌, ◌⊎◌, ◌∙◌, ◌≤◌, ◌<◌, ◌+◌, ◌-◌, inl, inr, ℕ, ℤ, pos, min, List, [], ◌∷◌, ◌++◌, length, get_or, Bool, true, false, not, cond, Option, Some, None, Result, Ok, Err, MatchBool, IfSome, OnOk, IsTrue, IsSome, refl, sym, ap, subst, subst₂, append-nil, arith, slice_set}
+use Rattle.std.proofs.Common.{◌≡◌, ◌⊎◌, ◌∙◌, ◌<◌, ◌+◌, ◌-◌, inl, inr, ℕ, ℤ, pos, min, List, [], ◌∷◌, ◌++◌, length, get_or, Bool, true, false, Option, Some, None, Result, Ok, Err, MatchBool, IfSome, OnOk, IsTrue, refl, sym, ap, subst, subst₂, append-nil, arith, slice_set}
 use Rattle.std.specs.List.{All, filter}
 use Rattle.std.specs.Option.{ForSome}
 use Rattle.std.proofs.lemmas.Option.{slice_get-get_or}
@@ -20,25 +20,23 @@ use Rattle.sqlite_schema.specs.declared.command.Source.TheVariants.{Values}
 use Rattle.sqlite_schema.specs.declared.schema.Schema.{Schema}
 use Rattle.sqlite_sql.specs.Aggregate.{count}
 use Rattle.sqlite_sql.specs.Term.{col}
-use Rattle.sqlite.specs.declared.error.Error.{Error}
 use Rattle.sqlite.specs.declared.error.Error.TheVariants.{ExecuteReturnedResults}
-use Rattle.sqlite.specs.Clock.{timed}
 use Rattle.sqlite.specs.Does.{Does, Tally}
 use Rattle.sqlite.specs.Effect.{Database}
 use Rattle.sqlite.specs.Listing.{understood}
-use Rattle.sqlite.specs.State.{CommitsBy, CommitsShowing, Executes, HasCleanDisk, MayCommit, MayWrite, QueriesRow, State, Writes, mode_of, text_of, ExecutesIn, IsUnchanged, Runs, RunsCommand, shows_rows}
-use Rattle.sqlite.proofs.Callers.{IsPlain, command_of, first_as, never_commits, runs_as, statement_of}
+use Rattle.sqlite.specs.State.{CommitsBy, Executes, HasCleanDisk, MayCommit, MayWrite, QueriesRow, State, Writes, mode_of, text_of, ExecutesIn, IsUnchanged, Runs, RunsCommand, shows_rows}
+use Rattle.sqlite.proofs.Callers.{IsPlain, command_of, first_as, runs_as, statement_of}
 use Rattle.fare_sqlite.specs.Bodies.{blob_of, bodies_in, body_of, has_no_body, placed_body, rows_at}
 use Rattle.fare_sqlite.specs.EditionTable.{blank_schema, edition_schema}
-use Rattle.fare_outside.specs.Keeper.{BodiesStay, BodyAppended, BodyReplaced, HasPlace, ToldAfter, WhereTold, body_at}
+use Rattle.fare_outside.specs.Keeper.{BodiesStay, HasPlace, ToldAfter, WhereTold, body_at}
 use Rattle.fare_sqlite.specs.Kept.{HasBodies, HasTable, IsSettled, LeavesAsBefore, LeavesJust, LeavesOr, Speaks, Stays, bodies_of, kept, rows_of}
 use Rattle.fare_sqlite.specs.Ours.{is_blank, is_ours}
 use Rattle.fare_sqlite.proofs.Changes.{Puts, create_does, given, insert_does, stored, update_does}
-use Rattle.fare_sqlite.proofs.Places.{StandFor, appended, bodies_are, counted_out, replaced, row_there, stand_for}
-use Rattle.fare_sqlite.proofs.Queries.{at_place, count_query, counts, no_body, passes, passes_at, passes_no_body, picks, row_query}
+use Rattle.fare_sqlite.proofs.Places.{appended, bodies_are, counted_out, replaced, row_there, stand_for}
+use Rattle.fare_sqlite.proofs.Queries.{at_place, counts, no_body, passes, passes_at, passes_no_body, picks, row_query}
 use Rattle.fare_sqlite.proofs.Rows.{same_place}
 use Rattle.fare_sqlite.proofs.Schemas.{blank_is, edition_is_ours, ours_is}
-use Rattle.fare_sqlite.proofs.States.{Told, Tells, open_is_clean, still_table, table_bodies, tells, tells_bodies, told, told_onwards, told_stays_back}
+use Rattle.fare_sqlite.proofs.States.{Told, open_is_clean, still_table, tells, tells_bodies, told, told_onwards, told_stays_back}
 use Rattle.fare_sqlite.proofs.StatementForms.{body_name, count_at_is, count_at_plain, count_at_text, count_is, count_name, count_plain, count_text, create_is, create_plain, create_text, insert_is, insert_plain, insert_text, inserted_terms, others_is, others_plain, others_text, select_is, select_plain, select_text, update_is, update_plain, update_text, updated_terms}
 
 -- a statement is understood alike under one schema

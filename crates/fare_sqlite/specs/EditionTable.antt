@@ -1,5 +1,5 @@
 -- The table of editions.
-use Rattle.std.specs.Prelude.{true, false, [], ◌∷◌, Some, codes, List, ℕ}
+use Rattle.std.specs.Prelude.{true, false, [], ◌∷◌, Some, codes}
 use Rattle.sqlite_value.specs.declared.keys.Collation.TheVariants.{Binary}
 use Rattle.sqlite_value.specs.declared.value.Value.TheVariants.{Null}
 use Rattle.sqlite_schema.specs.declared.schema.Table.{Table}

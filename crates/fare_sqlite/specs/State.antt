@@ -1,5 +1,5 @@
 -- What is known of the keepers over a table.
-use Rattle.std.specs.Prelude.{ℕ, Bool, false, List, Option, Some, None}
+use Rattle.std.specs.Prelude.{ℕ, Bool}
 use Rattle.std.specs.Coded.{Coded, code_by, coded×, coded_ℕ, coded_bool}
 use Rattle.std.specs.Prelude.{refl}
 use Rattle.sqlite.specs.Held.{Held, held_code}

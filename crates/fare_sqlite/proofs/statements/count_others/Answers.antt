@@ -1,4 +1,4 @@
-use Rattle.std.proofs.Common.{[], ◌∷◌, ◌++◌}
+use Rattle.std.proofs.Common.{[]}
 use Rattle.sqlite.specs.Held.{state}
 use Rattle.fare_sqlite.proofs.States.{ok_then, query_stays}
 use Rattle.fare_sqlite.proofs.Steps.{plain_table, others_told}

@@ -1,4 +1,4 @@
-use Rattle.std.proofs.Common.{[], ◌∷◌, ◌++◌}
+use Rattle.std.proofs.Common.{[]}
 use Rattle.sqlite.specs.Held.{state}
 use Rattle.fare_sqlite.proofs.States.{ok_then, on_ok, query_leaves, query_stays, row_open}
 use Rattle.fare_sqlite.proofs.Steps.{plain_table, rows_told}

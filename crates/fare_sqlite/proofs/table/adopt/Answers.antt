@@ -1,6 +1,6 @@
 use Rattle.sqlite.specs.Held.{state}
 use Rattle.fare_sqlite.specs.Kept.{kept}
-use Rattle.fare_sqlite.proofs.States.{kept_stays, still_speaks, told_same, where_then}
+use Rattle.fare_sqlite.proofs.States.{kept_stays, still_speaks, where_then}
 use Rattle.fare_sqlite.proofs.table.adopt.Goals as goal
 
 pub returns-clause-told : goal.returns-clause-told

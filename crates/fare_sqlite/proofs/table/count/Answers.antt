@@ -1,4 +1,3 @@
-use Rattle.std.proofs.Common.{IfSome}
 use Rattle.sqlite.specs.Held.{state}
 use Rattle.fare_sqlite.proofs.States.{kept_stays, ok_then, still_speaks}
 use Rattle.fare_sqlite.proofs.Steps.{many_told}
