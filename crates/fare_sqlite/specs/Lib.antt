@@ -1,1 +1,6 @@
+pub mod EditionTable
+pub mod Bodies
+pub mod Ours
+pub mod Kept
 pub mod State
+pub mod FileState

@@ -1,4 +1,5 @@
 ghost use Rattle.std.specs.Prelude.{◌≡◌, ◌||◌, None, false, is_ok};
+ghost use Rattle.fare_outside.specs.Keeper.{BodiesStay, WhereTold};
 
 use crate::SqliteKeeper;
 use crate::count::{counted, fault_of};
@@ -8,7 +9,7 @@ use std::alloc::Global;
 use std::marker::Model;
 
 /// A keeper over the database file of a name, which `open` opens, and makes where there is none. It
-/// doesn't tell its bodies.
+/// tells the bodies of the table there once `open` has answered Ok, and nothing before.
 ///
 /// The file is locked for this keeper alone from `open` until the keeper is dropped, for readers as
 /// for writers. Nothing waits for a lock: where another process or keeper has the file open, `open`
@@ -22,17 +23,17 @@ pub struct FileKeeper {
 }
 
 impl Model for FileKeeper {
-    ghost use Rattle.fare_sqlite.specs.State.{KeeperState, is_there_and_ready};
+    ghost use Rattle.fare_sqlite.specs.FileState.{FileState, is_there_and_ready, told_of};
 
-    ghost Value = { KeeperState };
+    ghost Value = { FileState };
 
-    ghost view = { λ k. record { is_ready = is_there_and_ready k.table; faults = k.faults } };
+    ghost view = { λ k. record { bodies = told_of k.table; is_ready = is_there_and_ready k.table; faults = k.faults } };
 }
 
 impl FileKeeper {
     /// A keeper of this process, over no file yet.
     pub fn new(rt: &HostRuntime) -> FileKeeper
-        ensures { result ≡ record { is_ready = false; faults = 0 } }
+        ensures { result ≡ record { bodies = None; is_ready = false; faults = 0 } }
     {
         FileKeeper {
             runtime: *rt,
@@ -42,7 +43,9 @@ impl FileKeeper {
     }
 
     fn open_table(&mut self, alloc: Global, name: &str) -> Result<(), KeepFault>
-        ensures { self.new ≡ record self.old { is_ready = self.old.is_ready || is_ok result } }
+        ensures told { WhereTold self.old.bodies self.new.bodies BodiesStay }
+        ensures ready { self.new.is_ready ≡ (self.old.is_ready || is_ok result) }
+        ensures faults { self.new.faults ≡ self.old.faults }
     {
         if let Some(table) = &mut self.table {
             return table.open(alloc, name);
@@ -55,7 +58,7 @@ impl FileKeeper {
 }
 
 impl Keeper for FileKeeper {
-    ghost bodies = { λ _. None };
+    ghost bodies = { λ keeper. keeper.bodies };
 
     ghost faults = { λ keeper. keeper.faults };
 

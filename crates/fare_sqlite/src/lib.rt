@@ -2,7 +2,7 @@
 //!
 //! - `sqlite_keeper`: the keeper over any connection, in memory or on a disk;
 //! - `file_keeper`: the keeper that opens the database file of a name;
-//! - `table`: the statements on the table, each a call of its own;
+//! - `table`: what a keeper does to the table; `statements`: the statements on it, each a call of its own;
 //! - `form`: whether a database holds just that table, or nothing yet;
 //! - `count`: what a refused statement means to a keeper, and how its failures are counted.
 #![tactic(auto)]
@@ -11,6 +11,7 @@ mod count;
 mod file_keeper;
 mod form;
 mod sqlite_keeper;
+mod statements;
 mod table;
 
 pub use file_keeper::FileKeeper;

@@ -1,4 +1,11 @@
-ghost use Rattle.std.specs.Prelude.{◌≡◌, None, false};
+ghost use Rattle.std.specs.Prelude.{◌≡◌, ◌≤◌, ◌-◌, ◌++◌, ◌∷◌, [], false, slice_set, OnOk, IsErrOf, IsTrue, None};
+ghost use Rattle.std.specs.Option.{ForSome};
+ghost use Rattle.sqlite.specs.Held.{state};
+ghost use Rattle.sqlite.specs.State.{HasCleanDisk};
+ghost use Rattle.fare_outside.specs.Cause.{Rose};
+ghost use Rattle.fare_outside.specs.Keeper.{BodiesStay, BodyAppended, BodyReplaced, HasPlace, MayAppend, MayReplace};
+ghost use Rattle.fare_outside.specs.Keeper.{ToldAfter};
+ghost use Rattle.fare_sqlite.specs.Kept.{LeavesJust, LeavesOr, kept};
 
 use crate::count::counted;
 use crate::table;
@@ -7,10 +14,13 @@ use sqlite::{Alter, Connection};
 use std::alloc::Global;
 use std::marker::Model;
 
-/// A keeper over a database: its bodies are the rows of one table, by place. It doesn't tell them.
+/// A keeper over a database: its bodies are the rows of one table, by place, and none where there is no table yet. It
+/// tells them while the connection is open and outside a transaction, and falls silent where a failure of the disk shut
+/// it.
 ///
-/// Each call is committed by itself. Where a statement is refused for another cause than want of
-/// memory, the call fails and is counted; the count stays at the last value of a u64.
+/// Each call is committed by itself. Where a statement is refused for another cause than want of memory, the call fails
+/// and is counted; the count stays at the last value of a u64. What is said of bodies and crashes rests on this: nobody
+/// else writes the database, and the disk returns what was written.
 #[derive(Drop)]
 pub struct SqliteKeeper<S: Alter> {
     conn: Connection<S>,
@@ -19,17 +29,24 @@ pub struct SqliteKeeper<S: Alter> {
 }
 
 impl<S: Alter> Model for SqliteKeeper<S> {
-    ghost use Rattle.fare_sqlite.specs.State.{KeeperState};
+    ghost use Rattle.std.specs.Prelude.{IsTrue};
+    ghost use Rattle.sqlite.specs.Held.{state};
+    ghost use Rattle.fare_sqlite.specs.Kept.{Speaks};
+    ghost use Rattle.fare_sqlite.specs.State.{KeeperState, keeper_code};
 
-    ghost Value = { KeeperState };
+    ghost Value = { KeeperState S };
 
-    ghost view = { λ k. record { is_ready = k.is_ready; faults = k.faults } };
+    ghost coded = { keeper_code S.code };
+
+    ghost view = { λ k. record { conn = k.conn; is_ready = k.is_ready; faults = k.faults } };
+
+    ghost invariant = { λ k. IsTrue k.is_ready → Speaks (state S.Store k.conn) };
 }
 
 impl<S: Alter> SqliteKeeper<S> {
     /// A keeper over that connection, not opened yet.
     pub fn over(conn: Connection<S>) -> SqliteKeeper<S>
-        ensures { result ≡ record { is_ready = false; faults = 0 } }
+        ensures { result ≡ record { conn = conn; is_ready = false; faults = 0 } }
     {
         SqliteKeeper {
             conn,
@@ -39,13 +56,15 @@ impl<S: Alter> SqliteKeeper<S> {
     }
 
     /// The connection that it was over.
-    pub fn into_connection(self) -> Connection<S> {
+    pub fn into_connection(self) -> Connection<S>
+        ensures { result ≡ self.conn }
+    {
         self.conn
     }
 }
 
 impl<S: Alter> Keeper for SqliteKeeper<S> {
-    ghost bodies = { λ _. None };
+    ghost bodies = { λ keeper. kept (state S.Store keeper.conn) };
 
     ghost faults = { λ keeper. keeper.faults };
 
@@ -71,12 +90,50 @@ impl<S: Alter> Keeper for SqliteKeeper<S> {
         counted(&mut self.faults, answer)
     }
 
-    fn append(&mut self, _alloc: Global, body: &[u8]) -> Result<(), KeepFault> {
+    /// Adds a body at the end. After Ok a crash leaves just the bodies that are kept then; otherwise it leaves what it
+    /// could leave before, or those.
+    fn append(&mut self, _alloc: Global, body: &[u8]) -> Result<(), KeepFault>
+        requires { IsTrue self.old.is_ready }
+        ensures ok { OnOk result (ToldAfter (kept (state S.Store self.old.conn)) (kept (state S.Store self.new.conn))
+            (BodyAppended body.now)) }
+        ensures memory { IsErrOf result KeepFault.Memory →
+            ToldAfter (kept (state S.Store self.old.conn)) (kept (state S.Store self.new.conn)) BodiesStay }
+        ensures failed { IsErrOf result KeepFault.Failed →
+            ToldAfter (kept (state S.Store self.old.conn)) (kept (state S.Store self.new.conn)) (MayAppend body.now) }
+        ensures just { OnOk result (HasCleanDisk (state S.Store self.new.conn) →
+            ForSome (kept (state S.Store self.old.conn))
+            (λ bodies. LeavesJust (state S.Store self.new.conn) (bodies ++ body.now ∷ []))) }
+        ensures crash { HasCleanDisk (state S.Store self.new.conn) → ForSome (kept (state S.Store self.old.conn))
+            (λ bodies. LeavesOr (state S.Store self.old.conn) (state S.Store self.new.conn) (bodies ++ body.now ∷ [])) }
+        ensures ready { IsTrue self.new.is_ready }
+        ensures never_falls { self.old.faults ≤ self.new.faults }
+        ensures cause { IsErrOf result KeepFault.Failed → Rose self.old.faults self.new.faults }
+    {
         let answer = table::append(&mut self.conn, body);
         counted(&mut self.faults, answer)
     }
 
-    fn replace(&mut self, _alloc: Global, place: u32, body: &[u8]) -> Result<(), KeepFault> {
+    /// Puts another body at that place. After Ok a crash leaves just the bodies that are kept then; otherwise it leaves
+    /// what it could leave before, or those.
+    fn replace(&mut self, _alloc: Global, place: u32, body: &[u8]) -> Result<(), KeepFault>
+        requires ready { IsTrue self.old.is_ready }
+        requires place { ForSome (kept (state S.Store self.old.conn)) (HasPlace place) }
+        ensures ok { OnOk result (ToldAfter (kept (state S.Store self.old.conn)) (kept (state S.Store self.new.conn))
+            (BodyReplaced place body.now)) }
+        ensures memory { IsErrOf result KeepFault.Memory →
+            ToldAfter (kept (state S.Store self.old.conn)) (kept (state S.Store self.new.conn)) BodiesStay }
+        ensures failed { IsErrOf result KeepFault.Failed → ToldAfter (kept (state S.Store self.old.conn))
+            (kept (state S.Store self.new.conn)) (MayReplace place body.now) }
+        ensures just { OnOk result (HasCleanDisk (state S.Store self.new.conn) →
+            ForSome (kept (state S.Store self.old.conn)) (λ bodies. LeavesJust (state S.Store self.new.conn)
+            (slice_set bodies (place - 1) body.now))) }
+        ensures crash { HasCleanDisk (state S.Store self.new.conn) → ForSome (kept (state S.Store self.old.conn))
+            (λ bodies. LeavesOr (state S.Store self.old.conn) (state S.Store self.new.conn)
+            (slice_set bodies (place - 1) body.now)) }
+        ensures ready { IsTrue self.new.is_ready }
+        ensures never_falls { self.old.faults ≤ self.new.faults }
+        ensures cause { IsErrOf result KeepFault.Failed → Rose self.old.faults self.new.faults }
+    {
         let answer = table::replace(&mut self.conn, place, body);
         counted(&mut self.faults, answer)
     }
