@@ -1,0 +1,10 @@
+pub use Rattle.fare_trip.specs.Itinerary
+pub use Rattle.fare_tariff.specs.Tariff
+pub use Rattle.fare_line.specs.Line
+pub mod Legs
+pub mod Filing
+pub mod Determined
+pub mod Figures
+pub mod Verdict
+pub mod VerdictText
+pub mod AuditText

@@ -1,0 +1,145 @@
+//! The five steps of an audit.
+
+ghost use Rattle.std.specs.Prelude.{◌≡◌, ◌≤◌, IfOk, None, Ok, length};
+ghost use Rattle.fare_rules.specs.Best.{IsBest};
+ghost use Rattle.fare_rules.specs.Lawful.{lawful_price};
+ghost use Rattle.fare_units.specs.Advance.{Advances};
+ghost use Rattle.fare_calc.specs.LineOf.{line_of};
+ghost use Rattle.fare_audit.specs.Filing.{bare_parts};
+ghost use Rattle.fare_audit.specs.Verdict.{IsFiguresVerdict, IsPriceVerdict, IsRecordsVerdict, IsRulesVerdict};
+ghost use Rattle.fare_audit.specs.Verdict.{IsVerdict};
+
+use crate::differing::{difference, parts_advance};
+use crate::figures::{first_figure, is_same_line};
+use crate::filing::{construction_of, unrecorded};
+use crate::verdict::Verdict;
+use fare_calc::line_of;
+use fare_line::Line;
+use fare_outside::NoMemory;
+use fare_tariff::Edition;
+use fare_trip::Trip;
+use fare_units::{Construction, Quoter, lawful_price, price_is_of_unbroken};
+use std::alloc::Global;
+use std::thread::Threads;
+
+/// The verdict on a line that is presented for a trip in an edition: the first that applies of another trip, a part
+/// without a record, a broken rule, other figures, and lawful, where the quoter gives the least price.
+pub fn audit<R: Threads + Sync, Q: Quoter>(
+    rt: &R,
+    alloc: Global,
+    quoter: &Q,
+    edition: &Edition,
+    trip: &Trip,
+    line: &Line,
+) -> Result<Verdict, NoMemory>
+    ensures { IfOk result (IsVerdict edition.now trip.now line.now) }
+{
+    match difference(trip, line) {
+        Some(number) => Ok(Verdict::OtherTrip(number)),
+        None => {
+            parts_advance(trip, line);
+            audit_records(rt, alloc, quoter, edition, trip, line)
+        }
+    }
+}
+
+/// The verdict on a line of the trip.
+fn audit_records<R: Threads + Sync, Q: Quoter>(
+    rt: &R,
+    alloc: Global,
+    quoter: &Q,
+    edition: &Edition,
+    trip: &Trip,
+    line: &Line,
+) -> Result<Verdict, NoMemory>
+    requires advances { Advances trip.now (bare_parts line.now) }
+    requires few { length line.now.parts ≤ 16 }
+    ensures { IfOk result (IsRecordsVerdict edition.now trip.now line.now) }
+{
+    match unrecorded(edition, trip, line) {
+        Some(place) => Ok(Verdict::NoRecord(place)),
+        None => {
+            let parts = construction_of(edition, trip, line);
+            audit_rules(rt, alloc, quoter, edition, trip, line, &parts)
+        }
+    }
+}
+
+/// The verdict on a line that has a record for each part.
+fn audit_rules<R: Threads + Sync, Q: Quoter>(
+    rt: &R,
+    alloc: Global,
+    quoter: &Q,
+    edition: &Edition,
+    trip: &Trip,
+    line: &Line,
+    parts: &Construction,
+) -> Result<Verdict, NoMemory>
+    ensures { IfOk result (IsRulesVerdict edition.now trip.now line.now parts.now) }
+{
+    match lawful_price(edition, trip, parts) {
+        Err(broken) => Ok(Verdict::Broken(broken)),
+        Ok(price) => audit_figures(rt, alloc, quoter, edition, trip, line, parts, price),
+    }
+}
+
+/// The verdict on a line of a lawful construction.
+fn audit_figures<R: Threads + Sync, Q: Quoter>(
+    rt: &R,
+    alloc: Global,
+    quoter: &Q,
+    edition: &Edition,
+    trip: &Trip,
+    line: &Line,
+    parts: &Construction,
+    price: u64,
+) -> Result<Verdict, NoMemory>
+    requires { lawful_price edition.now trip.now parts.now ≡ Ok price }
+    ensures { IfOk result
+        (IsFiguresVerdict edition.now trip.now line.now (line_of edition.now trip.now parts.now) price) }
+{
+    price_is_of_unbroken(edition, trip, parts, price);
+    let made = line_of(edition, trip, parts);
+    if is_same_line(alloc, line, &made)? {
+        audit_price(rt, alloc, quoter, edition, trip, parts, price)
+    } else {
+        Ok(Verdict::Figures(first_figure(line.parts.as_slice(), made.parts.as_slice())))
+    }
+}
+
+/// The verdict on a lawful construction: its price, and by how much that is above the least price.
+fn audit_price<R: Threads + Sync, Q: Quoter>(
+    rt: &R,
+    alloc: Global,
+    quoter: &Q,
+    edition: &Edition,
+    trip: &Trip,
+    parts: &Construction,
+    price: u64,
+) -> Result<Verdict, NoMemory>
+    requires { lawful_price edition.now trip.now parts.now ≡ Ok price }
+    ensures { IfOk result (IsPriceVerdict edition.now trip.now price) }
+{
+    match quoter.quote(rt, alloc, edition, trip)? {
+        // This construction is lawful, so there is a best one.
+        None => Ok(Verdict::Lawful { price, over: 0 }),
+        Some((best, least)) => Ok(verdict_beside(edition, trip, parts, price, &best, least)),
+    }
+}
+
+/// The verdict on a lawful construction beside the best one.
+fn verdict_beside(
+    edition: &Edition,
+    trip: &Trip,
+    parts: &Construction,
+    price: u64,
+    best: &Construction,
+    least: u64,
+) -> Verdict
+    requires lawful { lawful_price edition.now trip.now parts.now ≡ Ok price }
+    requires best { IsBest edition.now trip.now best.now least }
+    ensures { IsPriceVerdict edition.now trip.now price result }
+{
+    let over = price - least;
+    Verdict::Lawful { price, over }
+}
