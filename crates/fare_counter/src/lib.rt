@@ -11,3 +11,6 @@ mod entries;
 mod listing;
 
 pub use listing::best_text;
+
+#[cfg(test)]
+mod tests;
