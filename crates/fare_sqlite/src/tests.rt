@@ -1,3 +1,5 @@
+ghost use Rattle.std.specs.Prelude.{IsTrue};
+
 use crate::*;
 use fare_outside::{KeepFault, Keeper};
 use sqlite::{Connection, Error, MemStore};
@@ -33,9 +35,51 @@ fn publish(
     store.len(alloc)
 }
 
-fn first_body(store: &mut FileKeeper, alloc: Global, name: &str) -> Result<Vec<u8>, KeepFault> {
+/// Whether that body stands at a place.
+fn is_at<P: Keeper>(
+    store: &mut P,
+    alloc: Global,
+    place: u32,
+    body: &[u8],
+) -> Result<bool, KeepFault>
+    requires { IsTrue (P.ready store.old) }
+    ensures { IsTrue (P.ready store.new) }
+{
+    let count = store.len(alloc)?;
+    if place == 0 || place as u64 > count {
+        return Ok(false);
+    }
+    let kept = store.load(alloc, place)?;
+    Ok(kept.as_slice() == body)
+}
+
+/// Puts another body at a place, and answers whether one stood there.
+fn put_at<P: Keeper>(
+    store: &mut P,
+    alloc: Global,
+    place: u32,
+    body: &[u8],
+) -> Result<bool, KeepFault>
+    requires { IsTrue (P.ready store.old) }
+    ensures { IsTrue (P.ready store.new) }
+{
+    let count = store.len(alloc)?;
+    if place == 0 || place as u64 > count {
+        return Ok(false);
+    }
+    store.replace(alloc, place, body)?;
+    Ok(true)
+}
+
+/// Opens the store, and answers whether its first body is that one.
+fn is_first(
+    store: &mut FileKeeper,
+    alloc: Global,
+    name: &str,
+    body: &[u8],
+) -> Result<bool, KeepFault> {
     store.open(alloc, name)?;
-    store.load(alloc, 1)
+    is_at(store, alloc, 1, body)
 }
 
 #[test]
@@ -46,11 +90,10 @@ fn a_table_keeps_bodies_by_place(rt: HostRuntime) -> Result<(), Fail> {
     store.append(alloc, b"one")?;
     store.append(alloc, b"two")?;
     assert_eq!(rt; store.len(alloc)?, 2);
-    assert_eq!(rt; store.load(alloc, 2)?.as_slice(), b"two".as_slice());
-    store.replace(alloc, 1, b"")?;
-    assert_eq!(rt; store.load(alloc, 1)?.as_slice(), b"".as_slice());
-    assert_eq!(rt; store.load(alloc, 3).err(), Some(KeepFault::Failed));
-    assert_eq!(rt; store.replace(alloc, 3, b"three"), Err(KeepFault::Failed));
+    assert!(rt; is_at(&mut store, alloc, 2, b"two")?);
+    assert!(rt; put_at(&mut store, alloc, 1, b"")?);
+    assert!(rt; is_at(&mut store, alloc, 1, b"")?);
+    assert!(rt; !put_at(&mut store, alloc, 3, b"three")?);
     store.open(alloc, "editions")?;
     assert_eq!(rt; store.len(alloc)?, 2);
     Ok(())
@@ -102,10 +145,7 @@ fn a_file_keeps_bodies_for_one_keeper_at_a_time(rt: HostRuntime) -> Result<(), F
     assert_eq!(rt; beside_the_first, Err(KeepFault::Failed));
     drop(first);
     assert_eq!(rt; publish(&mut second, alloc, name, b"two")?, 2);
-    assert_eq!(rt;
-        first_body(&mut second, alloc, name)?.as_slice(),
-        b"one".as_slice()
-    );
+    assert!(rt; is_first(&mut second, alloc, name, b"one")?);
     drop(second);
     fs::remove_dir_all(&rt, FOLDER)?;
     Ok(())
