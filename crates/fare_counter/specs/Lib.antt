@@ -3,3 +3,7 @@ pub use Rattle.fare_tariff.specs.Tariff
 pub use Rattle.fare_rules.specs.FirstK
 pub use Rattle.fare_desk.specs.Answers
 pub mod BestText
+pub mod Routes
+pub mod BestReply
+pub mod AuditReply
+pub mod Counter

@@ -87,6 +87,13 @@ impl<'k, P: Keeper, Q: Quoter + Drop> Desk<'k, P, Q> {
         &self.book
     }
 
+    /// What finds its best constructions.
+    pub fn quoter(&self) -> &Q
+        ensures { result.now ≡ self.now.quoter }
+    {
+        &self.quoter
+    }
+
     /// What it answers that changes nothing.
     pub fn front(&self) -> DeskFront<'_, Q>
         ensures { result.book.now ≡ self.now.book }

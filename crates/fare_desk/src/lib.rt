@@ -27,7 +27,9 @@ pub use desk::Desk;
 pub use front::DeskFront;
 pub use list::list_text;
 pub use quote_fault::QuoteFault;
+pub use quotes::{fault_reply, refusal_reply};
 pub use quoting::quote_text;
+pub use replies::{is_method, line_reply, method_reply, no_route_reply, text_reply};
 pub use routes::{Route, Routes};
 
 #[cfg(test)]

@@ -49,7 +49,7 @@ pub(crate) fn trip_reply<R: Threads + Sync, Q: Quoter>(
 }
 
 /// The reply to a trip that isn't quoted. Want of memory has none.
-fn refusal_reply(alloc: Global, fault: &QuoteFault) -> Result<Reply, NoMemory>
+pub fn refusal_reply(alloc: Global, fault: &QuoteFault) -> Result<Reply, NoMemory>
     ensures reply { IfOk result (λ reply. reply ≡ quotation_reply (Err fault.now)) }
     ensures memory { fault.now ≡ QuoteFault.Memory → IsErr result }
 {
@@ -66,7 +66,7 @@ fn refusal_reply(alloc: Global, fault: &QuoteFault) -> Result<Reply, NoMemory>
 }
 
 /// The reply to an itinerary that stands for no trip.
-pub(crate) fn fault_reply(alloc: Global, fault: &TripFault) -> Result<Reply, NoMemory>
+pub fn fault_reply(alloc: Global, fault: &TripFault) -> Result<Reply, NoMemory>
     ensures { IfOk result (λ reply. reply ≡ fault_reply fault.now) }
 {
     line_reply(alloc, Status::BadRequest, fault.text().as_str().as_bytes())

@@ -9,7 +9,7 @@ use http::Method;
 use std::alloc::Global;
 
 /// A reply of one line.
-pub(crate) fn line_reply(alloc: Global, status: Status, words: &[u8]) -> Result<Reply, NoMemory>
+pub fn line_reply(alloc: Global, status: Status, words: &[u8]) -> Result<Reply, NoMemory>
     ensures { IfOk result (λ reply. reply ≡ says status (line words.now)) }
 {
     let mut text = Vec::from_slice(alloc, words)?;
@@ -33,7 +33,7 @@ pub(crate) fn named_reply(
 }
 
 /// A reply of this text.
-pub(crate) fn text_reply(status: Status, text: Vec<u8>) -> Reply
+pub fn text_reply(status: Status, text: Vec<u8>) -> Reply
     ensures { result ≡ says status text.items }
 {
     Reply {
@@ -44,14 +44,14 @@ pub(crate) fn text_reply(status: Status, text: Vec<u8>) -> Reply
 }
 
 /// The reply to a path that has no route.
-pub(crate) fn no_route_reply(alloc: Global) -> Result<Reply, NoMemory>
+pub fn no_route_reply(alloc: Global) -> Result<Reply, NoMemory>
     ensures { IfOk result (λ reply. reply ≡ no_route) }
 {
     line_reply(alloc, Status::NotFound, b"NO ROUTE")
 }
 
 /// The reply to a method that a route doesn't take.
-pub(crate) fn method_reply(alloc: Global, allow: Allow) -> Result<Reply, NoMemory>
+pub fn method_reply(alloc: Global, allow: Allow) -> Result<Reply, NoMemory>
     ensures { IfOk result (λ reply. reply ≡ not_allowed allow) }
 {
     let reply = line_reply(alloc, Status::MethodNotAllowed, b"METHOD")?;
@@ -63,7 +63,7 @@ pub(crate) fn method_reply(alloc: Global, allow: Allow) -> Result<Reply, NoMemor
 }
 
 /// Whether a request's method is this one.
-pub(crate) fn is_method(method: &Method, wanted: &str) -> bool
+pub fn is_method(method: &Method, wanted: &str) -> bool
     ensures { IsTrue result ↔ (method.now ≡ wanted.now) }
 {
     method.as_str() == wanted
