@@ -1,1 +1,2 @@
 pub mod PublicationLemmas
+pub mod ServeLemmas

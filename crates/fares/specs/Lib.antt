@@ -11,3 +11,4 @@ pub mod Ends
 pub mod Steps
 pub mod StoreSteps
 pub mod Run
+pub mod Serve
