@@ -1,13 +1,14 @@
 //! The desk that `serve` lets connections ask.
 
-ghost use Rattle.std.specs.Prelude.{◌≡◌, IsTrue};
+ghost use Rattle.std.specs.Prelude.{◌≡◌, ◌≤◌, IsTrue};
+ghost use Rattle.fare_split.specs.declared.pieces.TheConstants.{MOST_WORKERS};
 
 use fare_book::Book;
-use fare_branch::BranchQuoter;
 use fare_desk::{Desk, Routes};
 use fare_http::{Handler, Reply};
-use fare_outside::{Keeper, NoMemory};
+use fare_outside::{Keeper, NoMemory, OpenGate};
 use fare_rounds::{Round, RoundHandler};
+use fare_split::SplitQuoter;
 use http::Method;
 use std::alloc::Global;
 use std::thread::Threads;
@@ -16,19 +17,22 @@ use std::thread::Threads;
 #[derive(Drop)]
 pub struct ServedDesk<'k, P: Keeper> {
     /// What answers.
-    pub desk: Desk<'k, P, BranchQuoter>,
+    pub desk: Desk<'k, P, SplitQuoter<'k, OpenGate>>,
 }
 
 impl<'k, P: Keeper> ServedDesk<'k, P> {
-    /// A desk over a book and a keeper that is ready, with routes that were made before. It takes no memory.
-    pub fn over(routes: Routes, book: Book, keeper: &'k mut P) -> ServedDesk<'k, P>
-        requires { IsTrue (P.ready keeper.old) }
+    /// A desk over a book and a keeper that is ready, whose searches are shared out among 1 to `MOST_WORKERS` workers,
+    /// with routes that were made before. It takes no memory.
+    pub fn over(routes: Routes, book: Book, keeper: &'k mut P, workers: u32) -> ServedDesk<'k, P>
+        requires ready { IsTrue (P.ready keeper.old) }
+        requires some { 1 ≤ workers }
+        requires few { workers ≤ MOST_WORKERS }
         ensures book { result.desk.book ≡ book }
         ensures keeper { result.desk.keeper.now ≡ keeper.old }
         ensures same_reference { result.desk.keeper.ghost_name ≡ keeper.entry.ghost_name }
     {
         ServedDesk {
-            desk: Desk::over(routes, book, keeper, BranchQuoter),
+            desk: Desk::over(routes, book, keeper, SplitQuoter::new(workers, &OpenGate)),
         }
     }
 

@@ -7,4 +7,6 @@ pub struct Service {
     pub count: u32,
     /// The most connections of a round.
     pub round: u32,
+    /// How many workers share a search.
+    pub workers: u32,
 }

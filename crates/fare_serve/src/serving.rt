@@ -2,6 +2,7 @@
 
 ghost use Rattle.std.specs.Prelude.{◌≡◌, ◌≤◌, [], Err, vec_capacity, IsTrue, OnErr};
 ghost use Rattle.fare_outside.specs.Cause.{Rose};
+ghost use Rattle.fare_split.specs.declared.pieces.TheConstants.{MOST_WORKERS};
 ghost use Rattle.fare_serve.specs.Desk.{ServesBook, world_of};
 ghost use Rattle.fare_serve.specs.Service.{ServesPort, door_state, summary};
 
@@ -31,6 +32,8 @@ pub fn serve<R: Threads + Sync, P: Keeper, D: Door>(
 ) -> Result<Vec<u8>, ServeFault>
     requires some { 1 ≤ service.round }
     requires few { service.round ≤ 8 }
+    requires some_workers { 1 ≤ service.workers }
+    requires few_workers { service.workers ≤ MOST_WORKERS }
     requires none_held { D.held door.old ≡ [] }
     requires ready { IsTrue (P.ready keeper.old) }
     ensures serves { ServesBook service.count service.round book
@@ -50,7 +53,7 @@ pub fn serve<R: Threads + Sync, P: Keeper, D: Door>(
     let Ok(room) = Vec::with_capacity(alloc, MOST_SUMMARY) else {
         return Err(ServeFault::Memory);
     };
-    let mut served = ServedDesk::over(routes, book, keeper);
+    let mut served = ServedDesk::over(routes, book, keeper, service.workers);
     let text = serve_desk(rt, alloc, door, &mut served, service, room);
     let _keeper = served.into_keeper();
     text

@@ -10,7 +10,8 @@
 //! - `threads`: the runs of all workers, each in a thread of its own;
 //! - `earliest`: the earliest of what they found;
 //! - `opening`: the word, with its first seat;
-//! - `prepared`: all that a search on some workers needs, and the search.
+//! - `prepared`: all that a search on some workers needs, and the search;
+//! - `quoter`: the quoter that shares its search out.
 //!
 //! Each of these stands on those above it.
 #![tactic(auto)]
@@ -20,6 +21,7 @@ mod lane;
 mod opening;
 mod pieces;
 mod prepared;
+mod quoter;
 mod running;
 mod seating;
 mod threads;
@@ -28,3 +30,7 @@ mod worker;
 
 pub use pieces::MOST_WORKERS;
 pub use prepared::Prepared;
+pub use quoter::SplitQuoter;
+
+#[cfg(test)]
+mod tests;

@@ -1,5 +1,5 @@
 -- What `serve` makes of its store and its door, from the opening of the store on.
-use Rattle.std.proofs.Common.{◌≡◌, ◌⊎◌, inl, inr, ℕ, List, Option, Some, None, Bool, true, Result, Ok, Err, Vec, IfErr, refl, ap, subst, sym}
+use Rattle.std.proofs.Common.{◌≡◌, ◌⊎◌, ◌∙◌, inl, inr, ℕ, List, Option, Some, None, Bool, true, Result, Ok, Err, Vec, IfErr, IfSome, refl, ap, subst, sym}
 use Rattle.std.specs.Prelude.{⊤}
 use Rattle.std.specs.Io.KnownBytes.{Appends}
 use Rattle.fare_outside.specs.Keeper.{BodiesStay, WhereTold}
@@ -9,7 +9,7 @@ use Rattle.fares.specs.declared.exit.Exit.{Exit}
 use Rattle.fares.specs.declared.exit.Exit.TheVariants as ended
 use Rattle.fares.specs.declared.words.Request.{Request}
 use Rattle.fares.specs.declared.words.Request.TheVariants as request
-use Rattle.fares.specs.Answer.{Answer}
+use Rattle.fares.specs.Answer.{Answer, serve_end}
 use Rattle.fares.specs.Ends.{IsRefusalOf, IsRefusalOfServe}
 use Rattle.fares.specs.Run.{PublishesNothing, ServesNobodyAt}
 use Rattle.fares.specs.Steps.{Answers}
@@ -24,7 +24,7 @@ use Rattle.fares.specs.StoreSteps.{AreStored, IsEndOfOpening}
 -- a store that wasn't opened serves nobody
 pub unopened : {A : Type 0} → (count most : ℕ) (old new : World) (exit : Exit) → new.door ≡ old.door
     → WhereTold old.bodies new.bodies BodiesStay → IsEndOfOpening new.bodies exit → ServesStore count most old new {A = A} (Err exit)
-unopened count most old new ended.DoorFault same stay ends = let no : ended.DoorFault ≡ ended.Damaged ends.0 ends.1 = ends.2 in absurd (cc)
+unopened count most old new ended.DoorFault same stay ends = absurd (cc)
 unopened count most old new exit same stay ends = (record { door = same; bodies = stay }, ends)
 
 -- an open store serves as its book does
@@ -56,6 +56,21 @@ opened-failure count most old between new book same stay settled stored serves =
   stored = stored;
   serves = rw (← same) serves;
 }
+
+-- an open store of which nothing is served to the end
+pub opened-refusal : {A B : Type 0} → (count most : ℕ) (old between new : World) (book : BookState) (wrong : ServeFault) (exit : Exit)
+    → exit ≡ serve_end wrong → between.door ≡ old.door → WhereTold old.bodies between.bodies BodiesStay → book.settled ≡ true
+    → AreStored between.bodies book.editions → ServesBook count most book between new {A = A} (Err wrong)
+    → ServesStore count most old new {A = B} (Err exit)
+opened-refusal {B = B} count most old between new book fault.Door exit is same stay settled stored serves =
+    subst (λ (end : Exit). ServesStore count most old new {A = B} (Err end)) (sym is)
+    (opened-failure {A = B} count most old between new book same stay settled stored serves)
+opened-refusal {B = B} count most old between new book fault.Memory exit is same stay settled stored serves =
+    subst (λ (end : Exit). ServesStore count most old new {A = B} (Err end)) (sym is)
+    (record {
+      door = ap (λ (world : World). world.door) serves ∙ same;
+      bodies = subst (λ (world : World). WhereTold old.bodies world.bodies BodiesStay) (sym serves) stay;
+    }, tt)
 
 -- a text that is written, or of which a write fails
 pub written : {A : Type 0} → (asked : Request) (old new : World) (text : Vec ℕ A) (exit : Exit) (before after : Option (List ℕ))
@@ -97,6 +112,21 @@ answers-serve (Err (ended.Damaged place damage)) ends = inr (tt, tt)
 answers-serve (Err ended.DoorFault) ends = inl tt
 answers-serve (Err ended.Memory) ends = inl tt
 answers-serve (Err exit) ends = absurd ends
+
+-- what holds of all bytes holds of those that are told
+pub some-anyway : {P : List ℕ → Type 0} → (told : Option (List ℕ)) → ((source : List ℕ) → P source) → IfSome told P
+some-anyway None all = tt
+some-anyway (Some source) all = all source
+
+-- bodies that nobody touches stay
+pub stay-same : (told : Told) → WhereTold told told BodiesStay
+stay-same None = tt
+stay-same (Some bodies) = refl
+
+-- where memory is wanting for the words, nothing is done
+pub wordless : (asked : Request) (world : World) (before : Option (List ℕ)) → EndsServing asked world world ended.Memory before before
+wordless (request.Serve store port count round) world before = (record { door = refl; bodies = stay-same world.bodies }, tt)
+wordless other world before = tt
 
 -- whatever is done to bodies
 pub told-anyway : (before after : Told) → WhereTold before after (λ old new. ⊤)

@@ -2,6 +2,7 @@ pub mod Exit
 pub mod FaultText
 pub mod Answer
 pub mod Request
+pub mod Sharing
 pub mod Limits
 pub mod Input
 pub mod StoreOutcome

@@ -22,8 +22,9 @@ use crate::publish::publish;
 use crate::serve::serve;
 use crate::stored_quote::stored_quote;
 use crate::words::Request;
-use fare_outside::{Door, Keeper, Source};
+use fare_outside::{Door, Keeper, OpenGate, Source};
 use fare_serve::Service;
+use fare_split::SplitQuoter;
 use std::alloc::Global;
 use std::thread::Threads;
 
@@ -31,6 +32,7 @@ use std::thread::Threads;
 pub fn answer<R: Threads + Sync, S: Source, P: Keeper, D: Door>(
     rt: &R,
     alloc: Global,
+    quoter: &SplitQuoter<'_, OpenGate>,
     request: &Request<'_>,
     src: &mut S,
     store: &mut P,
@@ -67,19 +69,21 @@ pub fn answer<R: Threads + Sync, S: Source, P: Keeper, D: Door>(
     ensures cuts { D.cuts door.old ≤ D.cuts door.new }
 {
     match request {
-        Request::Price => price(rt, alloc, src),
+        Request::Price => price(rt, alloc, quoter, src),
         Request::Publish { store: name } => publish(rt, alloc, src, store, name.as_str()),
         Request::List { store: name } => list(rt, alloc, store, name.as_str()),
         Request::Export {
             store: name,
             edition,
         } => export(rt, alloc, store, name.as_str(), *edition),
-        Request::Quote { store: name } => stored_quote(rt, alloc, src, store, name.as_str()),
+        Request::Quote { store: name } => {
+            stored_quote(rt, alloc, quoter, src, store, name.as_str())
+        }
         Request::Drill {
             seed,
             sectors,
             extra,
-        } => drill(rt, alloc, *seed, *sectors, *extra),
+        } => drill(rt, alloc, quoter, *seed, *sectors, *extra),
         Request::Serve {
             store: name,
             port,
@@ -90,6 +94,7 @@ pub fn answer<R: Threads + Sync, S: Source, P: Keeper, D: Door>(
                 port: *port,
                 count: *count,
                 round: *round,
+                workers: quoter.workers,
             };
             serve(rt, alloc, store, door, name.as_str(), service)
         }

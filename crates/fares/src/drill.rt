@@ -7,16 +7,16 @@ ghost use Rattle.fares.specs.Ends.{IsRefusalOfDrill};
 ghost use Rattle.fares.specs.Steps.{Answers};
 
 use crate::exit::Exit;
-use fare_branch::BranchQuoter;
 use fare_drill::{drill_input, drill_text};
 use fare_units::Quoter;
 use std::alloc::Global;
 use std::thread::Threads;
 
 /// Quotes the generated trip of a seed in its generated edition, and sums that up.
-pub fn drill<R: Threads + Sync>(
+pub fn drill<R: Threads + Sync, Q: Quoter>(
     rt: &R,
     alloc: Global,
+    quoter: &Q,
     seed: u32,
     sectors: u32,
     extra: u32,
@@ -30,6 +30,6 @@ pub fn drill<R: Threads + Sync>(
 {
     let (edition, trip) = drill_input(rt, alloc, seed, sectors, extra)?;
     let records = edition.records().len() as u32;
-    let best = BranchQuoter.quote(rt, alloc, &edition, &trip)?;
+    let best = quoter.quote(rt, alloc, &edition, &trip)?;
     Ok(drill_text(alloc, seed, sectors, records, best.as_ref())?)
 }

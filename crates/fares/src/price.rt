@@ -12,6 +12,7 @@ use crate::quote::quote;
 use crate::source::source_up_to;
 use fare_book::Book;
 use fare_outside::Source;
+use fare_units::Quoter;
 use std::alloc::Global;
 use std::thread::Threads;
 
@@ -19,9 +20,10 @@ use std::thread::Threads;
 const PRICE_LIMIT: usize = 16_842_752;
 
 /// Quotes the itinerary of the source's first line in the tariff behind it.
-pub fn price<R: Threads + Sync, S: Source>(
+pub fn price<R: Threads + Sync, Q: Quoter, S: Source>(
     rt: &R,
     alloc: Global,
+    quoter: &Q,
     src: &mut S,
 ) -> Result<Vec<u8>, Exit>
     ensures answer { IfSome (S.left src.old) (λ source. Answers (AnswersPrice source) result) }
@@ -30,12 +32,17 @@ pub fn price<R: Threads + Sync, S: Source>(
         (S.left src.old) (S.left src.new) (S.faults src.old) (S.faults src.new) }
 {
     let source = source_up_to(alloc, src, PRICE_LIMIT)?;
-    price_of(rt, alloc, source.as_slice())
+    price_of(rt, alloc, quoter, source.as_slice())
 }
 
 /// The answer to the bytes of a source.
 #[tactic(auto, unfolding(crate::specs::Outcome::AnswersSource))]
-fn price_of<R: Threads + Sync>(rt: &R, alloc: Global, source: &[u8]) -> Result<Vec<u8>, Exit>
+fn price_of<R: Threads + Sync, Q: Quoter>(
+    rt: &R,
+    alloc: Global,
+    quoter: &Q,
+    source: &[u8],
+) -> Result<Vec<u8>, Exit>
     ensures answer { Answers (AnswersSource source.now) result }
     ensures ends { IfErr result (IsEndOnceRead IsRefusalOfPrice) }
 {
@@ -43,5 +50,5 @@ fn price_of<R: Threads + Sync>(rt: &R, alloc: Global, source: &[u8]) -> Result<V
     let edition = edition_in(rt, alloc, tariff)?;
     let trip = itinerary_in(alloc, itinerary)?;
     let book = Book::of(alloc, edition)?;
-    quote(rt, alloc, &book, &trip)
+    quote(rt, alloc, quoter, &book, &trip)
 }

@@ -16,7 +16,8 @@ ghost use Rattle.fares.specs.Serve.{EndsServing};
 use crate::answer::answer;
 use crate::exit::Exit;
 use crate::words::asked;
-use fare_outside::{Door, Gate, Keeper, NoMemory, Sink, Source, write_all};
+use fare_outside::{Door, Gate, Keeper, NoMemory, OpenGate, Sink, Source, write_all};
+use fare_split::SplitQuoter;
 use std::alloc::Global;
 use std::thread::Threads;
 
@@ -83,11 +84,12 @@ pub fn run<R: Threads + Sync, S: Source, K: Sink, P: Keeper, D: Door, G: Gate>(
     ensures door_count { D.faults door.old ≤ D.faults door.new }
     ensures cut_count { D.cuts door.old ≤ D.cuts door.new }
 {
-    let request = match asked(alloc, words) {
-        Ok(request) => request,
+    let asked = match asked(alloc, words) {
+        Ok(asked) => asked,
         Err(NoMemory) => return Exit::Memory,
     };
-    match answer(rt, alloc, &request, src, store, door) {
+    let quoter = SplitQuoter::new(asked.workers, &OpenGate);
+    match answer(rt, alloc, &quoter, &asked.request, src, store, door) {
         Ok(text) => written(out, text.as_slice()),
         Err(exit) => exit,
     }

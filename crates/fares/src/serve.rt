@@ -2,6 +2,7 @@
 
 ghost use Rattle.std.specs.Prelude.{◌≡◌, ◌≤◌, [], IfErr, IsErrOf};
 ghost use Rattle.fare_outside.specs.Cause.{Rose};
+ghost use Rattle.fare_split.specs.declared.pieces.TheConstants.{MOST_WORKERS};
 ghost use Rattle.fare_serve.specs.Desk.{world_of};
 ghost use Rattle.fare_serve.specs.Service.{door_state};
 ghost use Rattle.fares.specs.Ends.{IsRefusalOfServe};
@@ -28,6 +29,8 @@ pub fn serve<R: Threads + Sync, P: Keeper, D: Door>(
 ) -> Result<Vec<u8>, Exit>
     requires some { 1 ≤ service.round }
     requires few { service.round ≤ 8 }
+    requires some_workers { 1 ≤ service.workers }
+    requires few_workers { service.workers ≤ MOST_WORKERS }
     requires none_held { D.held door.old ≡ [] }
     ensures serves { ServesStore service.count service.round
         (world_of (door_state (D.waiting door.old) (D.sent door.old) (D.faults door.old) (D.cuts door.old))

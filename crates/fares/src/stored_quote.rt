@@ -13,6 +13,7 @@ use crate::quote::quote;
 use crate::source::source_up_to;
 use crate::store::book_of;
 use fare_outside::{Keeper, Source};
+use fare_units::Quoter;
 use std::alloc::Global;
 use std::thread::Threads;
 
@@ -20,9 +21,10 @@ use std::thread::Threads;
 const QUOTE_LIMIT: usize = 65_536;
 
 /// Quotes the itinerary of the source over a store.
-pub fn stored_quote<R: Threads + Sync, S: Source, P: Keeper>(
+pub fn stored_quote<R: Threads + Sync, Q: Quoter, S: Source, P: Keeper>(
     rt: &R,
     alloc: Global,
+    quoter: &Q,
     src: &mut S,
     store: &mut P,
     name: &str,
@@ -37,13 +39,14 @@ pub fn stored_quote<R: Threads + Sync, S: Source, P: Keeper>(
     ensures keeping { IsKeeping result (P.faults store.old) (P.faults store.new) }
 {
     let source = source_up_to(alloc, src, QUOTE_LIMIT)?;
-    quote_of(rt, alloc, source.as_slice(), store, name)
+    quote_of(rt, alloc, quoter, source.as_slice(), store, name)
 }
 
 /// The quotation of an itinerary text over a store.
-fn quote_of<R: Threads + Sync, P: Keeper>(
+fn quote_of<R: Threads + Sync, Q: Quoter, P: Keeper>(
     rt: &R,
     alloc: Global,
+    quoter: &Q,
     source: &[u8],
     store: &mut P,
     name: &str,
@@ -58,5 +61,5 @@ fn quote_of<R: Threads + Sync, P: Keeper>(
 {
     let trip = trip_in(alloc, source)?;
     let book = book_of(rt, alloc, store, name)?;
-    quote(rt, alloc, &book, &trip)
+    quote(rt, alloc, quoter, &book, &trip)
 }

@@ -6,6 +6,7 @@ mod cases;
 mod serving;
 mod stores;
 mod tariffs;
+mod workers;
 
 use crate::exit::Exit;
 use crate::fault_line::fault_text;
@@ -218,21 +219,5 @@ fn missing_commands_and_options_are_told(rt: HostRuntime) -> Result<(), Fail> {
     assert!(rt; status_of(&rt, alloc, &["migrate", "--store", "editions"])? == 30);
     assert!(rt; status_of(&rt, alloc, &["quote", "--store", "editions", "--best", "2"])? == 30);
     assert!(rt; status_of(&rt, alloc, &["price", "--best=3"])? == 30);
-    Ok(())
-}
-
-#[test]
-fn workers_are_taken(rt: HostRuntime) -> Result<(), Fail> {
-    let alloc = rt.alloc();
-    let mut source = PlainSource::new(one_sector(alloc)?);
-    let mut sink = PlainSink::new(alloc, 4096)?;
-    let exit = ended(
-        &rt,
-        alloc,
-        &["price", "--workers", "16"],
-        &mut source,
-        &mut sink,
-    )?;
-    assert!(rt; exit.status() == 0);
     Ok(())
 }

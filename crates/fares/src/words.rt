@@ -1,8 +1,10 @@
 //! What the words of a command line ask for.
 
-ghost use Rattle.std.specs.Prelude.{◌≡◌, IfOk, IfSome, map, string_bytes};
+ghost use Rattle.std.specs.Prelude.{◌≡◌, ◌≤◌, IfOk, IfSome, map, string_bytes};
+ghost use Rattle.fare_words.specs.Limits.{most_workers};
 ghost use Rattle.fare_words.specs.WithinLimits.{IsWithinLimits};
 ghost use Rattle.fares.specs.Request.{asked, request_of, IsWithin};
+ghost use Rattle.fares.specs.Sharing.{workers_asked, workers_of};
 
 use fare_outside::NoMemory;
 use fare_words::{Command, StoreName, read_words};
@@ -49,13 +51,48 @@ pub enum Request<'a> {
     Nothing,
 }
 
+/// What words ask for, and how many workers share a search of theirs.
+#[derive(Debug, Drop)]
+pub struct Asking<'a> {
+    /// What is asked for.
+    pub request: Request<'a>,
+    /// How many workers share a search.
+    pub workers: u32,
+}
+
 /// What words ask for.
-pub fn asked<'a>(alloc: Global, words: &'a [String]) -> Result<Request<'a>, NoMemory>
-    ensures asked { IfOk result (λ request. request ≡ asked (map string_bytes words.entry.now)) }
-    ensures within { IfOk result IsWithin }
+pub fn asked<'a>(alloc: Global, words: &'a [String]) -> Result<Asking<'a>, NoMemory>
+    ensures asked { IfOk result (λ found. found.request ≡ asked (map string_bytes words.entry.now)) }
+    ensures within { IfOk result (λ found. IsWithin found.request) }
+    ensures workers { IfOk result (λ found. found.workers ≡ workers_asked (map string_bytes words.entry.now)) }
+    ensures some { IfOk result (λ found. 1 ≤ found.workers) }
+    ensures few { IfOk result (λ found. found.workers ≤ most_workers) }
 {
     let taken = read_words(alloc, words)?;
-    Ok(request_of(taken))
+    let workers = workers_of(&taken);
+    Ok(Asking {
+        request: request_of(taken),
+        workers,
+    })
+}
+
+/// How many workers share a search of the command that words give: one where it searches nothing.
+#[tactic(auto, unfolding(fare_words::specs::WithinLimits::IsWithinLimits))]
+fn workers_of(taken: &Option<Command<'_>>) -> u32
+    requires { IfSome taken.now IsWithinLimits }
+    ensures workers { result ≡ workers_of taken.now }
+    ensures some { 1 ≤ result }
+    ensures few { result ≤ most_workers }
+{
+    match taken {
+        Some(
+            Command::Price { workers, .. }
+            | Command::Quote { workers, .. }
+            | Command::Serve { workers, .. }
+            | Command::Drill { workers, .. },
+        ) => *workers,
+        _ => 1,
+    }
 }
 
 /// What the command that words give asks for, or their refusal.

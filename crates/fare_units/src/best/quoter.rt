@@ -1,4 +1,5 @@
 ghost use Rattle.std.specs.Prelude.{IfOk, IsOk};
+ghost use Rattle.std.specs.Thread.{IsSync};
 ghost use Rattle.fare_rules.specs.Best.{IsBestAnswer};
 
 use crate::best::plain::plain_best;
@@ -12,7 +13,7 @@ use std::thread::Threads;
 /// What finds the best construction of a trip, with its price, or nothing exactly where none is lawful. Its one refusal
 /// is want of memory.
 pub trait Quoter {
-    /// The best construction of a trip in an edition.
+    /// The best construction of a trip in an edition. It may start threads, so these may share the runtime.
     fn quote<R: Threads + Sync>(
         &self,
         rt: &R,
@@ -20,6 +21,7 @@ pub trait Quoter {
         edition: &Edition,
         trip: &Trip,
     ) -> Result<Option<(Construction, u64)>, NoMemory>
+        requires { IsSync R.row }
         ensures { IfOk result (IsBestAnswer edition.now trip.now) };
 }
 

@@ -1,0 +1,69 @@
+//! The quoter that shares its search out among workers.
+
+ghost use Rattle.std.specs.Prelude.{◌≡◌, ◌≤◌, IfOk};
+ghost use Rattle.fare_rules.specs.Best.{IsBestAnswer};
+ghost use Rattle.fare_split.specs.declared.pieces.TheConstants.{MOST_WORKERS};
+
+use crate::pieces::MOST_WORKERS;
+use crate::prepared::Prepared;
+use fare_branch::BranchQuoter;
+use fare_outside::{Gate, NoMemory, OpenGate};
+use fare_tariff::Edition;
+use fare_trip::Trip;
+use fare_units::{Construction, Quoter};
+use std::alloc::Global;
+use std::thread::Threads;
+
+/// The quoter whose search is shared out among 1 to `MOST_WORKERS` workers.
+#[derive(Drop)]
+pub struct SplitQuoter<'g, G: Gate> {
+    /// How many workers share a search.
+    pub workers: u32,
+    /// Where each worker stops for a moment before it starts.
+    pub gate: &'g G,
+    pub ghost some: { 1 ≤ workers },
+    pub ghost few: { workers ≤ MOST_WORKERS },
+}
+
+impl<'g, G: Gate> SplitQuoter<'g, G> {
+    /// A quoter of so many workers, each of which goes through a gate before it starts.
+    pub fn new(workers: u32, gate: &'g G) -> SplitQuoter<'g, G>
+        requires some { 1 ≤ workers }
+        requires few { workers ≤ MOST_WORKERS }
+        ensures workers { result.workers ≡ workers }
+        ensures gate { result.gate.now ≡ gate.now }
+    {
+        SplitQuoter { workers, gate }
+    }
+
+    /// The best construction of a trip in an edition, with its price, or nothing exactly where none is lawful, whatever
+    /// the gate. One worker starts no thread and shares no word, nor does a trip of one sector.
+    pub fn best<R: Threads + Sync>(
+        &self,
+        rt: &R,
+        alloc: Global,
+        edition: &Edition,
+        trip: &Trip,
+    ) -> Result<Option<(Construction, u64)>, NoMemory>
+        ensures { IfOk result (IsBestAnswer edition.now trip.now) }
+    {
+        if self.workers == 1 || trip.count() == 1 {
+            self.gate.begin(0);
+            return BranchQuoter.quote(rt, alloc, edition, trip);
+        }
+        let mut prepared = Prepared::new(alloc, edition, trip, self.workers)?;
+        Ok(prepared.solve(rt, self.gate))
+    }
+}
+
+impl Quoter for SplitQuoter<'_, OpenGate> {
+    fn quote<R: Threads + Sync>(
+        &self,
+        rt: &R,
+        alloc: Global,
+        edition: &Edition,
+        trip: &Trip,
+    ) -> Result<Option<(Construction, u64)>, NoMemory> {
+        self.best(rt, alloc, edition, trip)
+    }
+}
