@@ -1,2 +1,1 @@
 pub mod PublicationLemmas
-pub mod ServeLemmas
