@@ -21,6 +21,7 @@ published_nothing : (exit : Exit) → IsRefusal exit → PublishesNothing exit
 published_nothing ended.Done refusal = refusal
 published_nothing ended.WriteFault refusal = refusal
 published_nothing ended.KeeperFault refusal = refusal
+published_nothing ended.DoorFault refusal = refusal
 published_nothing exit refusal = tt
 
 -- the answer to an edition that is offered to an opened book is that to its text

@@ -13,6 +13,8 @@ use Rattle.fare_outside.specs.declared.keeper.KeepFault.{KeepFault}
 use Rattle.fare_outside.specs.declared.keeper.KeepFault.TheVariants as keeping
 use Rattle.fare_outside.specs.declared.reading.ReadEnd.{ReadEnd}
 use Rattle.fare_outside.specs.declared.reading.ReadEnd.TheVariants as reading
+use Rattle.fare_serve.specs.declared.serve_fault.ServeFault.{ServeFault}
+use Rattle.fare_serve.specs.declared.serve_fault.ServeFault.TheVariants as serving
 use Rattle.fares.specs.declared.exit.Exit.{Exit}
 use Rattle.fares.specs.declared.exit.Exit.TheVariants as ended
 
@@ -56,6 +58,11 @@ publish_end (publishing.Differs number) = ended.Differs number
 publish_end publishing.Full = ended.BookFull
 publish_end publishing.KeeperFault = ended.KeeperFault
 publish_end (publishing.Damaged place damage) = ended.Damaged place damage
+
+-- the end of a run for connections that aren't served to the end
+abbrev pub serve_end : ServeFault → Exit
+serve_end serving.Memory = ended.Memory
+serve_end serving.Door = ended.DoorFault
 
 -- the text of what an edition was published as
 abbrev pub published_text : Published → List ℕ

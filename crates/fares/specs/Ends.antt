@@ -61,6 +61,14 @@ abbrev pub IsRefusalOfDrill : Exit → Type 0
 IsRefusalOfDrill ended.Memory = ⊤
 IsRefusalOfDrill other = ⊥
 
+-- an end of `serve` without its text
+abbrev pub IsRefusalOfServe : Exit → Type 0
+IsRefusalOfServe ended.KeeperFault = ⊤
+IsRefusalOfServe (ended.Damaged place damage) = ⊤
+IsRefusalOfServe ended.DoorFault = ⊤
+IsRefusalOfServe ended.Memory = ⊤
+IsRefusalOfServe other = ⊥
+
 -- an end of a command that is missing
 abbrev pub IsRefusalOfMissing : Exit → Type 0
 IsRefusalOfMissing ended.NotYet = ⊤
@@ -81,6 +89,7 @@ IsRefusalOf (request.List store) exit = IsRefusalOfList exit
 IsRefusalOf (request.Export store number) exit = IsRefusalOfExport exit
 IsRefusalOf (request.Quote store) exit = IsRefusalOfQuote exit
 IsRefusalOf (request.Drill seed sectors extra) exit = IsRefusalOfDrill exit
+IsRefusalOf (request.Serve store port count round) exit = IsRefusalOfServe exit
 IsRefusalOf request.Missing exit = IsRefusalOfMissing exit
 IsRefusalOf request.Nothing exit = IsRefusalOfNothing exit
 

@@ -12,3 +12,4 @@ pub mod Ends
 pub mod Steps
 pub mod StoreSteps
 pub mod Run
+pub mod Serve

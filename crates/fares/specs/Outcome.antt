@@ -1,7 +1,7 @@
 -- What a run answers to its words, the bytes of its source and the bodies of its store. Each definition looks at one
 -- thing, in the order in which the refusals come: the words, the length of the source, its tariff, its itinerary, and
 -- its quotation.
-use Rattle.std.specs.Prelude.{◌≡◌, ℕ, List, [], ◌∷◌, Result, Ok, Err, MatchResult, MatchBool, nat_lt, length}
+use Rattle.std.specs.Prelude.{◌≡◌, ℕ, List, [], ◌∷◌, Result, Ok, Err, MatchResult, MatchBool, nat_lt, length, ⊤}
 use Rattle.fare_trip.specs.Itinerary.{Itinerary}
 use Rattle.fare_trip.specs.declared.fault.TripFault.{TripFault}
 use Rattle.fare_tariff.specs.Tariff.{Tariff}
@@ -35,7 +35,7 @@ AnswersPrice source answer =
     MatchBool (nat_lt price_limit (length source)) (answer ≡ Err ended.Limit) (AnswersSource source answer)
 
 -- the answer to a request, with the bodies of the store that are told before and after: `NotYet` where that is missing,
--- and `Usage` where the words aren't taken
+-- and `Usage` where the words aren't taken. What `serve` answers depends on its door too, and is said by `EndsServing`
 abbrev pub AnswersRequest : Request → List ℕ → Told → Told → Answer → Type 0
 AnswersRequest request.Price source before after answer = AnswersPrice source answer
 AnswersRequest (request.Publish store) source before after answer =
@@ -47,6 +47,7 @@ AnswersRequest (request.Export store number) source before after answer =
 AnswersRequest (request.Quote store) source before after answer =
     ReadsStore before after (λ bodies. AnswersQuote source bodies answer)
 AnswersRequest (request.Drill seed sectors extra) source before after answer = Drills seed sectors extra answer
+AnswersRequest (request.Serve store port count round) source before after answer = ⊤
 AnswersRequest request.Missing source before after answer = answer ≡ Err ended.NotYet
 AnswersRequest request.Nothing source before after answer = answer ≡ Err ended.Usage
 

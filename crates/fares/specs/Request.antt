@@ -1,5 +1,5 @@
 -- What the words of a command line ask for.
-use Rattle.std.specs.Prelude.{ℕ, List, Option, Some, None, ⊤}
+use Rattle.std.specs.Prelude.{ℕ, ◌≤◌, List, Option, Some, None, ⊤}
 use Rattle.fare_words.specs.Words.{command_of}
 use Rattle.fare_words.specs.declared.command.Command.{Command}
 use Rattle.fare_words.specs.declared.command.Command.TheVariants as command
@@ -7,8 +7,8 @@ use Rattle.fares.specs.DrillOutcome.{IsDrill}
 use Rattle.fares.specs.declared.words.Request.{Request}
 use Rattle.fares.specs.declared.words.Request.TheVariants as request
 
--- what a command asks for: `price`, `publish`, `list`, `export`, `quote` and `drill` are there, for any number of workers
--- and without `--best`, and every other one is missing
+-- what a command asks for: `price`, `publish`, `list`, `export`, `quote`, `drill` and `serve` are there, for any number of
+-- workers and without `--best`, and every other one is missing
 abbrev pub request_of : Option Command → Request
 request_of None = request.Nothing
 request_of (Some (command.Price workers None)) = request.Price
@@ -17,6 +17,7 @@ request_of (Some (command.List store)) = request.List store
 request_of (Some (command.Export store edition)) = request.Export store edition
 request_of (Some (command.Quote store workers None)) = request.Quote store
 request_of (Some (command.Drill seed sectors extra workers)) = request.Drill seed sectors extra
+request_of (Some (command.Serve store port count workers round)) = request.Serve store port count round
 request_of (Some other) = request.Missing
 
 -- what words ask for: the command that they give, or nothing where they aren't taken
@@ -36,11 +37,23 @@ LeavesStore (request.Publish store) = ⊥
 LeavesStore (request.List store) = ⊥
 LeavesStore (request.Export store edition) = ⊥
 LeavesStore (request.Quote store) = ⊥
+LeavesStore (request.Serve store port count round) = ⊥
 LeavesStore other = ⊤
+
+-- a request lets connections in: only `serve` does
+abbrev pub UsesDoor : Request → Type 0
+UsesDoor (request.Serve store port count round) = ⊤
+UsesDoor other = ⊥
+
+-- a request doesn't touch the door
+abbrev pub LeavesDoor : Request → Type 0
+LeavesDoor (request.Serve store port count round) = ⊥
+LeavesDoor other = ⊤
 
 -- the numbers of a request are within their limits, where it calls for that
 abbrev pub IsWithin : Request → Type 0
 IsWithin (request.Drill seed sectors extra) = IsDrill seed sectors extra
+IsWithin (request.Serve store port count round) = (1 ≤ round) × (round ≤ 8)
 IsWithin other = ⊤
 
 -- a request has a text for an answer: the words are taken, and the command is there

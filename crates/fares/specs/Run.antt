@@ -18,14 +18,15 @@ abbrev pub WritesNothing : Option (List ℕ) → Option (List ℕ) → Type 0
 WritesNothing old new = Appends old new []
 
 -- a run ended in its answer: it wrote the text of the answer whole, or wrote nothing and ended as the answer says.
--- Where memory was wanting, or a read or a call of the store failed, it wrote nothing, and where a write failed a
--- prefix of the text, and not all
+-- Where memory was wanting, or a read or a call of the store or the door failed, it wrote nothing, and where a write
+-- failed a prefix of the text, and not all
 abbrev pub EndsIn : (Answer → Type 0) → Exit → Option (List ℕ) → Option (List ℕ) → Type 0
 EndsIn outcome ended.Done old new = (text : List ℕ) × outcome (Ok text) × Appends old new text
 EndsIn outcome ended.WriteFault old new = (text : List ℕ) × outcome (Ok text) × AppendsPrefix old new text
 EndsIn outcome ended.Memory old new = WritesNothing old new
 EndsIn outcome ended.ReadFault old new = WritesNothing old new
 EndsIn outcome ended.KeeperFault old new = WritesNothing old new
+EndsIn outcome ended.DoorFault old new = WritesNothing old new
 EndsIn outcome exit old new = outcome (Err exit) × WritesNothing old new
 
 -- an end on which nothing is written: every one but `Done` and `WriteFault`
@@ -34,11 +35,19 @@ IsSilent ended.Done = ⊥
 IsSilent ended.WriteFault = ⊥
 IsSilent other = ⊤
 
--- an end on which nothing is published: every one but `Done`, `WriteFault` and `KeeperFault`
+-- an end on which nobody is served: every one but `Done`, `WriteFault` and `DoorFault`
+abbrev pub ServesNobodyAt : Exit → Type 0
+ServesNobodyAt ended.Done = ⊥
+ServesNobodyAt ended.WriteFault = ⊥
+ServesNobodyAt ended.DoorFault = ⊥
+ServesNobodyAt other = ⊤
+
+-- an end on which nothing is published: every one but `Done`, `WriteFault`, `KeeperFault` and `DoorFault`
 abbrev pub PublishesNothing : Exit → Type 0
 PublishesNothing ended.Done = ⊥
 PublishesNothing ended.WriteFault = ⊥
 PublishesNothing ended.KeeperFault = ⊥
+PublishesNothing ended.DoorFault = ⊥
 PublishesNothing other = ⊤
 
 -- the bodies are as before, or have the canonical text of the source's edition at the end
@@ -47,9 +56,10 @@ MayPublish source old new =
     BodiesStay old new
     ⊎ ((edition : Tariff) × (edition_of source ≡ Ok edition) × BodyAppended (canonical_text edition) old new)
 
--- what a request does to the bodies: `publish` may add the text of the edition of its source, where that is told, and
--- every other one leaves them
+-- what a request does to the bodies: `publish` may add the text of the edition of its source, where that is told, what
+-- `serve` may add is said by `EndsServing`, and every other one leaves them
 abbrev pub LeavesBodies : Request → Option (List ℕ) → Bodies → Bodies → Type 0
 LeavesBodies (request.Publish store) None old new = ⊤
 LeavesBodies (request.Publish store) (Some source) old new = MayPublish source old new
+LeavesBodies (request.Serve store port count round) source old new = ⊤
 LeavesBodies other source old new = BodiesStay old new

@@ -13,13 +13,15 @@ IsRefusal ended.Done = ⊥
 IsRefusal ended.ReadFault = ⊥
 IsRefusal ended.WriteFault = ⊥
 IsRefusal ended.KeeperFault = ⊥
+IsRefusal ended.DoorFault = ⊥
 IsRefusal ended.Memory = ⊥
 IsRefusal other = ⊤
 
--- memory was wanting, or a read or a call of the store failed
+-- memory was wanting, or a read or a call of the store or the door failed
 abbrev pub IsCutOff : Exit → Type 0
 IsCutOff ended.ReadFault = ⊤
 IsCutOff ended.KeeperFault = ⊤
+IsCutOff ended.DoorFault = ⊤
 IsCutOff ended.Memory = ⊤
 IsCutOff other = ⊥
 

@@ -1,12 +1,16 @@
 //! What a request is answered.
 
-ghost use Rattle.std.specs.Prelude.{◌≡◌, IfErr, IfSome, OnOk};
+ghost use Rattle.std.specs.Prelude.{◌≡◌, ◌≤◌, [], IfErr, IfSome, IsErrOf, OnOk};
+ghost use Rattle.fare_outside.specs.Cause.{Rose};
 ghost use Rattle.fare_outside.specs.Keeper.{BodiesStay, WhereTold};
+ghost use Rattle.fare_serve.specs.Desk.{world_of};
+ghost use Rattle.fare_serve.specs.Service.{door_state};
 ghost use Rattle.fares.specs.Ends.{IsRefusalOf};
 ghost use Rattle.fares.specs.Limits.{limit_of};
 ghost use Rattle.fares.specs.Outcome.{AnswersRequest};
-ghost use Rattle.fares.specs.Request.{HasText, IsWithin, LeavesSource, LeavesStore};
-ghost use Rattle.fares.specs.Run.{LeavesBodies, PublishesNothing};
+ghost use Rattle.fares.specs.Request.{HasText, IsWithin, LeavesDoor, LeavesSource, LeavesStore, UsesDoor};
+ghost use Rattle.fares.specs.Run.{LeavesBodies, PublishesNothing, ServesNobodyAt};
+ghost use Rattle.fares.specs.Serve.{ServesRequest};
 ghost use Rattle.fares.specs.Steps.{Answers, IsKeeping, IsReading};
 
 use crate::drill::drill;
@@ -15,23 +19,27 @@ use crate::export::export;
 use crate::list::list;
 use crate::price::price;
 use crate::publish::publish;
+use crate::serve::serve;
 use crate::stored_quote::stored_quote;
 use crate::words::Request;
-use fare_outside::{Keeper, Source};
-use fare_units::Quoter;
+use fare_outside::{Door, Keeper, OpenGate, Source};
+use fare_serve::Service;
+use fare_split::SplitQuoter;
 use std::alloc::Global;
 use std::thread::Threads;
 
 /// The text that answers a request, or what the run ends in without it.
-pub fn answer<R: Threads + Sync, Q: Quoter, S: Source, P: Keeper>(
+pub fn answer<R: Threads + Sync, S: Source, P: Keeper, D: Door>(
     rt: &R,
     alloc: Global,
-    quoter: &Q,
+    quoter: &SplitQuoter<'_, OpenGate>,
     request: &Request<'_>,
     src: &mut S,
     store: &mut P,
+    door: &mut D,
 ) -> Result<Vec<u8>, Exit>
-    requires { IsWithin request.now }
+    requires within { IsWithin request.now }
+    requires none_held { UsesDoor request.now → D.held door.old ≡ [] }
     ensures answer { IfSome (S.left src.old) (λ source.
         Answers (AnswersRequest request.now source (P.bodies store.old) (P.bodies store.new)) result) }
     ensures text { OnOk result (HasText request.now) }
@@ -47,6 +55,18 @@ pub fn answer<R: Threads + Sync, Q: Quoter, S: Source, P: Keeper>(
     ensures refused { IfErr result (λ exit. PublishesNothing exit →
         WhereTold (P.bodies store.old) (P.bodies store.new) BodiesStay) }
     ensures keeping { IsKeeping result (P.faults store.old) (P.faults store.new) }
+
+    ensures serving { ServesRequest request.now
+        (world_of (door_state (D.waiting door.old) (D.sent door.old) (D.faults door.old) (D.cuts door.old))
+        (P.bodies store.old) (P.faults store.old))
+        (world_of (door_state (D.waiting door.new) (D.sent door.new) (D.faults door.new) (D.cuts door.new))
+        (P.bodies store.new) (P.faults store.new))
+        result }
+    ensures door { LeavesDoor request.now → door.new ≡ door.old }
+    ensures nobody { IfErr result (λ exit. ServesNobodyAt exit → door.new ≡ door.old) }
+    ensures door_cause { IsErrOf result Exit.DoorFault → Rose (D.faults door.old) (D.faults door.new) }
+    ensures faults { D.faults door.old ≤ D.faults door.new }
+    ensures cuts { D.cuts door.old ≤ D.cuts door.new }
 {
     match request {
         Request::Price => price(rt, alloc, quoter, src),
@@ -64,6 +84,20 @@ pub fn answer<R: Threads + Sync, Q: Quoter, S: Source, P: Keeper>(
             sectors,
             extra,
         } => drill(rt, alloc, quoter, *seed, *sectors, *extra),
+        Request::Serve {
+            store: name,
+            port,
+            count,
+            round,
+        } => {
+            let service = Service {
+                port: *port,
+                count: *count,
+                round: *round,
+                workers: quoter.workers,
+            };
+            serve(rt, alloc, store, door, name.as_str(), service)
+        }
         Request::Missing => Err(Exit::NotYet),
         Request::Nothing => Err(Exit::Usage),
     }

@@ -4,7 +4,7 @@
 //! - `words`: what the words of the command line ask for;
 //! - `source`, `input`: the bytes of the source, and the itinerary and the tariff in them;
 //! - `store`: the book of a store; `quote`: the quotation of a trip over a book;
-//! - `price`, `publish`, `list`, `export`, `stored_quote`, `drill`: the commands, a file each;
+//! - `price`, `publish`, `list`, `export`, `stored_quote`, `drill`, `serve`: the commands, a file each;
 //! - `answer`, `run`: what a request is answered, and the whole program, from its words to what it ends in;
 //! - `exit`, `refused`, `fault_line`: what a run ends in, the ends for what the crates below refuse, and the status and
 //!   the line on standard error of each.
@@ -22,6 +22,7 @@ mod publish;
 mod quote;
 mod refused;
 mod run;
+mod serve;
 mod source;
 mod store;
 mod stored_quote;
@@ -32,8 +33,8 @@ mod words;
 use crate::exit::Exit;
 use crate::fault_line::fault_text;
 use crate::run::run;
-use fare_devices::{StdSink, StdSource};
-use fare_outside::{NoMemory, OpenGate, PlainDoor};
+use fare_devices::{StdSink, StdSource, TcpDoor};
+use fare_outside::{NoMemory, OpenGate};
 use fare_sqlite::FileKeeper;
 use std::io::{ErrorKind, Write};
 use std::process::ExitCode;
@@ -44,7 +45,7 @@ fn main(rt: HostRuntime) -> ExitCode {
     let mut source = StdSource::new(&rt);
     let mut sink = StdSink::new(&rt);
     let mut store = FileKeeper::new(&rt);
-    let mut door = PlainDoor::new();
+    let mut door = TcpDoor::new(&rt);
     let exit = match words_after_the_first(&rt) {
         Ok(words) => run(
             &rt,

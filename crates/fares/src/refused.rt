@@ -4,6 +4,7 @@ use crate::exit::Exit;
 use fare_book::{PublishFault, RestoreFault};
 use fare_desk::QuoteFault;
 use fare_outside::{KeepFault, NoMemory, ReadEnd};
+use fare_serve::ServeFault;
 
 impl From<NoMemory> for Exit {
     ghost use Rattle.std.specs.Prelude.{◌≡◌};
@@ -94,6 +95,21 @@ impl From<PublishFault> for Exit {
             PublishFault::Full => Exit::BookFull,
             PublishFault::KeeperFault => Exit::KeeperFault,
             PublishFault::Damaged(place, damage) => Exit::Damaged(place, damage),
+        }
+    }
+}
+
+/// Connections that aren't served to the end end the run with the same reason.
+impl From<ServeFault> for Exit {
+    ghost use Rattle.std.specs.Prelude.{◌≡◌};
+    ghost use Rattle.fares.specs.Answer.{serve_end};
+
+    ghost from_gives = { λ fault exit. exit ≡ serve_end fault };
+
+    fn from(fault: ServeFault) -> Exit {
+        match fault {
+            ServeFault::Memory => Exit::Memory,
+            ServeFault::Door => Exit::DoorFault,
         }
     }
 }

@@ -1,14 +1,17 @@
-ghost use Rattle.std.specs.Prelude.{◌≡◌, ◌⊎◌, ◌+◌, ◌≤◌, map, string_bytes, IfSome};
+ghost use Rattle.std.specs.Prelude.{◌≡◌, ◌⊎◌, ◌+◌, ◌≤◌, [], map, string_bytes, IfSome};
 ghost use Rattle.std.specs.Io.KnownBytes.{Appends};
 ghost use Rattle.fare_outside.specs.Cause.{Rose};
 ghost use Rattle.fare_outside.specs.Keeper.{BodiesStay, WhereTold};
 ghost use Rattle.fare_outside.specs.Source.{TakesUpTo, TakesJust};
 ghost use Rattle.fare_outside.specs.Sink.{AppendsPrefix};
+ghost use Rattle.fare_serve.specs.Desk.{world_of};
+ghost use Rattle.fare_serve.specs.Service.{door_state};
 ghost use Rattle.fares.specs.Ends.{IsEndOf};
 ghost use Rattle.fares.specs.Limits.{limit_of};
 ghost use Rattle.fares.specs.Outcome.{IsOutcome};
-ghost use Rattle.fares.specs.Request.{asked, LeavesSource, LeavesStore};
-ghost use Rattle.fares.specs.Run.{EndsIn, IsSilent, LeavesBodies, PublishesNothing};
+ghost use Rattle.fares.specs.Request.{asked, LeavesDoor, LeavesSource, LeavesStore, UsesDoor};
+ghost use Rattle.fares.specs.Run.{EndsIn, IsSilent, LeavesBodies, PublishesNothing, ServesNobodyAt};
+ghost use Rattle.fares.specs.Serve.{EndsServing};
 
 use crate::answer::answer;
 use crate::exit::Exit;
@@ -24,7 +27,13 @@ use std::thread::Threads;
 /// define, or in want of memory, `ReadFault`, `KeeperFault` or `WriteFault`; these three come only where the source's,
 /// the store's and the sink's count rose in this call. All text is built before the first write, so the sink is left
 /// alone on every end but `Done` and `WriteFault`, which leave the same store. Only `publish` changes the bodies of the
-/// store, by the text of one edition, and a run that ends in want of memory has stored nothing.
+/// store, by the text of one edition, and `serve`, by the publications that it answers; a run that ends in want of memory
+/// has stored nothing.
+///
+/// `serve` lets connections in by the door, which may hold none, and answers them in rounds over the book of the store.
+/// It is the only command that touches the door, and lets nobody in where it ends in anything but `Done`, `WriteFault`
+/// and `DoorFault`, which comes only where the door's count rose. On the first two all connections that were asked for
+/// were taken, or none waits, and its text says how many were served and how many cut off.
 pub fn run<R: Threads + Sync, S: Source, K: Sink, P: Keeper, D: Door, G: Gate>(
     rt: &R,
     alloc: Global,
@@ -35,21 +44,30 @@ pub fn run<R: Threads + Sync, S: Source, K: Sink, P: Keeper, D: Door, G: Gate>(
     door: &mut D,
     gate: &G,
 ) -> Exit
+    requires none_held { UsesDoor (asked (map string_bytes words.now)) → D.held door.old ≡ [] }
     ensures answer { IfSome (S.left src.old) (λ source.
         EndsIn (IsOutcome (map string_bytes words.now) source (P.bodies store.old) (P.bodies store.new)) result
         (K.taken out.old) (K.taken out.new)) }
+    ensures serving { EndsServing (asked (map string_bytes words.now))
+        (world_of (door_state (D.waiting door.old) (D.sent door.old) (D.faults door.old) (D.cuts door.old))
+        (P.bodies store.old) (P.faults store.old))
+        (world_of (door_state (D.waiting door.new) (D.sent door.new) (D.faults door.new) (D.cuts door.new))
+        (P.bodies store.new) (P.faults store.new))
+        result (K.taken out.old) (K.taken out.new) }
 
     // The ends, whether the source tells its bytes or not, and the store its bodies.
     ensures ends { IsEndOf (asked (map string_bytes words.now)) result }
     ensures read_fault { result ≡ Exit.ReadFault → Rose (S.faults src.old) (S.faults src.new) }
     ensures write_fault { result ≡ Exit.WriteFault → Rose (K.faults out.old) (K.faults out.new) }
     ensures keeper_fault { result ≡ Exit.KeeperFault → Rose (P.faults store.old) (P.faults store.new) }
+    ensures door_fault { result ≡ Exit.DoorFault → Rose (D.faults door.old) (D.faults door.new) }
 
     // What is left alone.
     ensures untouched { LeavesSource (asked (map string_bytes words.now)) → src.new ≡ src.old }
     ensures silent { IsSilent result → out.new ≡ out.old }
     ensures store { LeavesStore (asked (map string_bytes words.now)) → store.new ≡ store.old }
-    ensures door { door.new ≡ door.old }
+    ensures door { LeavesDoor (asked (map string_bytes words.now)) → door.new ≡ door.old }
+    ensures nobody { ServesNobodyAt result → door.new ≡ door.old }
 
     // What the store is left with.
     ensures bodies { WhereTold (P.bodies store.old) (P.bodies store.new)
@@ -63,13 +81,15 @@ pub fn run<R: Threads + Sync, S: Source, K: Sink, P: Keeper, D: Door, G: Gate>(
     ensures source_count { S.faults src.old ≤ S.faults src.new }
     ensures sink_count { K.faults out.old ≤ K.faults out.new }
     ensures store_count { P.faults store.old ≤ P.faults store.new }
+    ensures door_count { D.faults door.old ≤ D.faults door.new }
+    ensures cut_count { D.cuts door.old ≤ D.cuts door.new }
 {
     let asked = match asked(alloc, words) {
         Ok(asked) => asked,
         Err(NoMemory) => return Exit::Memory,
     };
     let quoter = SplitQuoter::new(asked.workers, &OpenGate);
-    match answer(rt, alloc, &quoter, &asked.request, src, store) {
+    match answer(rt, alloc, &quoter, &asked.request, src, store, door) {
         Ok(text) => written(out, text.as_slice()),
         Err(exit) => exit,
     }

@@ -16,15 +16,35 @@ pub enum Request<'a> {
     /// The command `price`, without `--best`.
     Price,
     /// The command `publish`.
-    Publish { store: StoreName<'a> },
+    Publish {
+        store: StoreName<'a>,
+    },
     /// The command `list`.
-    List { store: StoreName<'a> },
+    List {
+        store: StoreName<'a>,
+    },
     /// The command `export`, of the edition of a number.
-    Export { store: StoreName<'a>, edition: u32 },
+    Export {
+        store: StoreName<'a>,
+        edition: u32,
+    },
     /// The command `quote`, without `--best`.
-    Quote { store: StoreName<'a> },
+    Quote {
+        store: StoreName<'a>,
+    },
     /// The command `drill`.
-    Drill { seed: u32, sectors: u32, extra: u32 },
+    Drill {
+        seed: u32,
+        sectors: u32,
+        extra: u32,
+    },
+    /// The command `serve`: at most `count` connections of the port, in rounds of at most `round`.
+    Serve {
+        store: StoreName<'a>,
+        port: u16,
+        count: u32,
+        round: u32,
+    },
     /// A command, or an option, that the program doesn't have yet.
     Missing,
     /// Nothing: the words aren't taken.
@@ -106,6 +126,20 @@ fn request_of(taken: Option<Command<'_>>) -> Request<'_>
             seed,
             sectors,
             extra,
+        },
+        Some(
+            Command::Serve {
+                store,
+                port,
+                count,
+                round,
+                ..
+            },
+        ) => Request::Serve {
+            store,
+            port,
+            count,
+            round,
         },
         Some(_) => Request::Missing,
     }

@@ -1,0 +1,90 @@
+//! Rounds of connections, one after the other.
+
+ghost use Rattle.std.specs.Prelude.{◌≡◌, ◌<◌, ◌≤◌, ◌+◌, [], List};
+ghost use Rattle.fare_outside.specs.Cause.{Rose};
+ghost use Rattle.fare_outside.specs.Door.{NoneWaits};
+ghost use Rattle.fare_rounds.specs.Rounds.{Exchanged};
+ghost use Rattle.fare_serve.specs.Service.{AreRounds, IsNextRound, door_state, standing};
+
+use fare_outside::Door;
+use fare_rounds::{Counts, DoorEnd, RoundHandler, serve_round};
+use std::alloc::Global;
+use std::cmp::min;
+use std::thread::Threads;
+
+/// Serves rounds of at most `most` connections until `count` were taken, the door answers that none will come, or it
+/// fails. Says how the door ended, and how many exchanges ended in which way.
+pub fn serve_rounds<R: Threads + Sync, D: Door, H: RoundHandler>(
+    rt: &R,
+    alloc: Global,
+    door: &mut D,
+    handler: &mut H,
+    count: u32,
+    most: u32,
+) -> (DoorEnd, Counts)
+    requires some { 1 ≤ most }
+    requires few { most ≤ 8 }
+    requires none_held { D.held door.old ≡ [] }
+    ensures rounds { (rounds : List (List Exchanged))
+        × AreRounds H.step count most
+        (standing handler.old
+        (door_state (D.waiting door.old) (D.sent door.old) (D.faults door.old) (D.cuts door.old)) 0 0)
+        rounds
+        (standing handler.new
+        (door_state (D.waiting door.new) (D.sent door.new) (D.faults door.new) (D.cuts door.new))
+        result.1.served result.1.cut) }
+    ensures within { result.1.served + result.1.cut ≤ count }
+    ensures open { result.0 ≡ DoorEnd.Open → result.1.served + result.1.cut ≡ count }
+    ensures no_more { result.0 ≡ DoorEnd.NoMore → NoneWaits (D.waiting door.new) }
+    ensures failed { result.0 ≡ DoorEnd.Failed → Rose (D.faults door.old) (D.faults door.new) }
+    ensures faults { D.faults door.old ≤ D.faults door.new }
+    ensures cuts { D.cuts door.old ≤ D.cuts door.new }
+{
+    let mut counts = Counts { served: 0, cut: 0 };
+    'rounds: while counts.served + counts.cut < count {
+        let end = serve_next(rt, alloc, door, handler, &mut counts, count, most);
+        if end != DoorEnd::Open {
+            return (end, counts);
+        }
+    }
+    (DoorEnd::Open, counts)
+}
+
+/// Serves one round more, and counts its exchanges.
+fn serve_next<R: Threads + Sync, D: Door, H: RoundHandler>(
+    rt: &R,
+    alloc: Global,
+    door: &mut D,
+    handler: &mut H,
+    counts: &mut Counts,
+    count: u32,
+    most: u32,
+) -> DoorEnd
+    requires some { 1 ≤ most }
+    requires few { most ≤ 8 }
+    requires none_held { D.held door.old ≡ [] }
+    requires wanted { counts.old.served + counts.old.cut < count }
+    ensures round { (round : List Exchanged)
+        × IsNextRound H.step count most
+        (standing handler.old
+        (door_state (D.waiting door.old) (D.sent door.old) (D.faults door.old) (D.cuts door.old))
+        counts.old.served counts.old.cut)
+        (standing handler.new
+        (door_state (D.waiting door.new) (D.sent door.new) (D.faults door.new) (D.cuts door.new))
+        counts.new.served counts.new.cut)
+        round }
+    ensures within { counts.new.served + counts.new.cut ≤ count }
+    ensures open { result ≡ DoorEnd.Open →
+        counts.old.served + counts.old.cut < counts.new.served + counts.new.cut }
+    ensures no_more { result ≡ DoorEnd.NoMore → NoneWaits (D.waiting door.new) }
+    ensures failed { result ≡ DoorEnd.Failed → Rose (D.faults door.old) (D.faults door.new) }
+    ensures none_held { D.held door.new ≡ [] }
+    ensures faults { D.faults door.old ≤ D.faults door.new }
+    ensures cuts { D.cuts door.old ≤ D.cuts door.new }
+{
+    let wanted = count - (counts.served + counts.cut);
+    let (end, round) = serve_round(rt, alloc, door, handler, min(most, wanted));
+    counts.served += round.served;
+    counts.cut += round.cut;
+    end
+}

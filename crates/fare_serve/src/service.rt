@@ -1,0 +1,12 @@
+/// What is asked for of a service.
+#[derive(Clone, Copy, Debug)]
+pub struct Service {
+    /// The port at which it listens.
+    pub port: u16,
+    /// The most connections that it takes.
+    pub count: u32,
+    /// The most connections of a round.
+    pub round: u32,
+    /// How many workers share a search.
+    pub workers: u32,
+}
