@@ -57,7 +57,7 @@ pub text-of-desk : {H : Type 0} → (first last : H) (view : H → DeskState)
     {step : H → List ℕ → List ℕ → List ℕ → Option Reply → H → Type 0} {count most : ℕ} {before after : DoorState} {text : List ℕ}
     → ServesAll step count most first last before after text
     → ((old : H) (method path body : List ℕ) (reply : Option Reply) (new : H) → step old method path body reply new
-        → DeskStep (view old) method path body reply (view new))
+    → DeskStep (view old) method path body reply (view new))
     → DeskServesAll count most (view first).book (world_of before (view first).bodies (view first).faults)
     (world_of after (view last).bodies (view last).faults) text
 text-of-desk first last view {step = step} {count = count} {most = most} {before = before} {after = after} {text = text} serves shows =
