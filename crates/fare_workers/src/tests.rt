@@ -1,0 +1,130 @@
+//! The best construction by every number of workers.
+
+mod cases;
+
+ghost use Rattle.std.specs.Prelude.{◌≤◌};
+ghost use Rattle.fare_drill.specs.declared.limits.TheConstants.{LAST_SEED};
+ghost use Rattle.fare_split.specs.declared.pieces.TheConstants.{MOST_WORKERS};
+
+use cases::{CASES, Case};
+use fare_branch::BranchQuoter;
+use fare_csv::read_edition;
+use fare_drill::drill_input;
+use fare_outside::OpenGate;
+use fare_rules::Part;
+use fare_split::{MOST_WORKERS, SplitQuoter};
+use fare_tariff::Edition;
+use fare_trip::{Trip, read_trip};
+use fare_units::{Construction, Quoter};
+use std::alloc::Global;
+use std::process::Abort;
+use std::test::Fail;
+use std::thread::Threads;
+
+/// The best construction of a trip by a number of workers.
+fn best_by<R: Threads + Sync>(
+    rt: &R,
+    alloc: Global,
+    edition: &Edition,
+    trip: &Trip,
+    workers: u32,
+) -> Result<(Construction, u64), Fail>
+    requires some { 1 ≤ workers }
+    requires few { workers ≤ MOST_WORKERS }
+{
+    let quoter = SplitQuoter::new(workers, &OpenGate);
+    match quoter.quote(rt, alloc, edition, trip)? {
+        None => Err(Fail::from("no fare")),
+        Some(best) => Ok(best),
+    }
+}
+
+/// Whether two lists have the same parts.
+fn is_same(parts: &[Part], others: &[Part]) -> bool {
+    if parts.len() != others.len() {
+        return false;
+    }
+    for i in 0..parts.len() {
+        let (part, other) = (&parts[i], &others[i]);
+        if part.end != other.end || part.unit != other.unit || part.fare != other.fare {
+            return false;
+        }
+    }
+    true
+}
+
+/// Compares the best construction by every number of workers with what is known.
+fn is_found_by_all<R: Threads + Sync + Abort>(
+    rt: &R,
+    alloc: Global,
+    edition: &Edition,
+    trip: &Trip,
+    price: u64,
+    parts: &[Part],
+) -> Result<(), Fail> {
+    for workers in 1..MOST_WORKERS + 1 {
+        let (best, least) = best_by(rt, alloc, edition, trip, workers)?;
+        assert!(rt; least == price, "{workers} workers: {least}");
+        assert!(rt; is_same(best.parts(), parts), "{workers} workers");
+    }
+    Ok(())
+}
+
+/// Compares the best construction of a case with what is known.
+fn case_is_found<R: Threads + Sync + Abort>(
+    rt: &R,
+    alloc: Global,
+    case: &Case,
+) -> Result<(), Fail> {
+    let edition = match read_edition(rt, alloc, case.tariff.as_bytes()) {
+        Ok(edition) => edition,
+        Err(_) => return Err(Fail::from("no edition")),
+    };
+    let trip = match read_trip(alloc, case.itinerary.as_bytes()) {
+        Ok(trip) => trip,
+        Err(_) => return Err(Fail::from("no trip")),
+    };
+    is_found_by_all(rt, alloc, &edition, &trip, case.price, case.parts)
+}
+
+#[test]
+fn trips_of_outside(rt: HostRuntime) -> Result<(), Fail> {
+    for case in &CASES {
+        case_is_found(&rt, rt.alloc(), case)?;
+    }
+    Ok(())
+}
+
+#[test]
+fn generated_trip_of_one_sector(rt: HostRuntime) -> Result<(), Fail> {
+    let (edition, trip) = drill_input(&rt, rt.alloc(), 1, 1, 0)?;
+    let parts = [Part {
+        end: 1,
+        unit: 1,
+        fare: 9,
+    }];
+    is_found_by_all(&rt, rt.alloc(), &edition, &trip, 23_113, &parts)
+}
+
+/// Compares what all numbers of workers find of a generated trip of sixteen sectors with what one search alone does.
+fn long_trip_is_found<R: Threads + Sync + Abort>(
+    rt: &R,
+    alloc: Global,
+    seed: u32,
+) -> Result<(), Fail>
+    requires { seed ≤ LAST_SEED }
+{
+    let (edition, trip) = drill_input(rt, alloc, seed, 16, 0)?;
+    match BranchQuoter.quote(rt, alloc, &edition, &trip)? {
+        None => Err(Fail::from("no fare")),
+        Some((best, price)) => is_found_by_all(rt, alloc, &edition, &trip, price, best.parts()),
+    }
+}
+
+#[test]
+fn generated_trips_of_sixteen_sectors(rt: HostRuntime) -> Result<(), Fail> {
+    for seed in 1..3 {
+        long_trip_is_found(&rt, rt.alloc(), seed)?;
+    }
+    Ok(())
+}
