@@ -16,19 +16,19 @@ const FIRST: &[u8] = b"HEAD,2,1,2025-01-01\nEND\n";
 
 const SECOND: &[u8] = b"HEAD,2,2,2025-02-01\nEND\n";
 
-/// More calls of a file than two publications make.
-const MOST_CALLS: u64 = 200;
+/// More calls of a file than two publications make, or two replacements.
+pub const MOST_CALLS: u64 = 200;
 
 /// A database and its log, on disks that stop.
-type Stopping = Files<Fuse<Memory>>;
+pub type Stopping = Files<Fuse<Memory>>;
 
-type Database = Connection<FileStore<Fuse<Memory>>>;
+pub type Database = Connection<FileStore<Fuse<Memory>>>;
 
-/// What two publications were answered, and the disks that they leave.
+/// How many publications or replacements were acknowledged, and the disks that they leave.
 #[derive(Drop)]
-struct Left {
-    acknowledged: usize,
-    files: Stopping,
+pub struct Left {
+    pub acknowledged: usize,
+    pub files: Stopping,
 }
 
 /// How many of the two editions were published before a call was refused.
@@ -85,7 +85,7 @@ fn published<R: Threads + Sync>(rt: &R, alloc: Global, conn: Database) -> Left {
 }
 
 /// The machine stops and comes back: what wasn't synced may be lost.
-fn crashed(left: Left) -> Stopping {
+pub fn crashed(left: Left) -> Stopping {
     let Left { mut files, .. } = left;
     files.log.crash();
     files.db.crash();

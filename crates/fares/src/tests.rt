@@ -1,8 +1,12 @@
 //! The program over objects in memory: what it writes and ends in for sources known from outside.
 
+ghost use Rattle.std.specs.Prelude.{◌≡◌, []};
+
 mod cases;
+mod serving;
 mod stores;
 mod tariffs;
+mod workers;
 
 use crate::exit::Exit;
 use crate::fault_line::fault_text;
@@ -15,8 +19,8 @@ use cases::refusals::REFUSALS;
 use cases::units::UNITS;
 use cases::{Quotation, Refusal};
 use fare_outside::{
-    Bodies, Keeper, MemSink, MemSource, OpenGate, PlainDoor, PlainKeeper, PlainSink, PlainSource,
-    Sink, Source,
+    Bodies, Door, Keeper, MemSink, MemSource, OpenGate, PlainDoor, PlainKeeper, PlainSink,
+    PlainSource, Sink, Source,
 };
 use std::alloc::Global;
 use std::process::Abort;
@@ -45,11 +49,25 @@ fn ended_over<R: Threads + Sync, S: Source, K: Sink, P: Keeper>(
     sink: &mut K,
     store: &mut P,
 ) -> Result<Exit, Fail> {
+    ended_at(rt, alloc, words, source, sink, store, &mut PlainDoor::new())
+}
+
+/// Runs words over a source, a sink, a store and a door that holds no connection.
+fn ended_at<R: Threads + Sync, S: Source, K: Sink, P: Keeper, D: Door>(
+    rt: &R,
+    alloc: Global,
+    words: &[&str],
+    source: &mut S,
+    sink: &mut K,
+    store: &mut P,
+    door: &mut D,
+) -> Result<Exit, Fail>
+    requires { D.held door.old ≡ [] }
+{
     let mut owned = Vec::new(alloc);
     for word in words {
         owned.push(String::from_str(alloc, word)?)?;
     }
-    let mut door = PlainDoor::new();
     Ok(run(
         rt,
         alloc,
@@ -57,7 +75,7 @@ fn ended_over<R: Threads + Sync, S: Source, K: Sink, P: Keeper>(
         source,
         sink,
         store,
-        &mut door,
+        door,
         &OpenGate,
     ))
 }
@@ -201,21 +219,5 @@ fn missing_commands_and_options_are_told(rt: HostRuntime) -> Result<(), Fail> {
     assert!(rt; status_of(&rt, alloc, &["migrate", "--store", "editions"])? == 30);
     assert!(rt; status_of(&rt, alloc, &["quote", "--store", "editions", "--best", "2"])? == 30);
     assert!(rt; status_of(&rt, alloc, &["price", "--best=3"])? == 30);
-    Ok(())
-}
-
-#[test]
-fn workers_are_taken(rt: HostRuntime) -> Result<(), Fail> {
-    let alloc = rt.alloc();
-    let mut source = PlainSource::new(one_sector(alloc)?);
-    let mut sink = PlainSink::new(alloc, 4096)?;
-    let exit = ended(
-        &rt,
-        alloc,
-        &["price", "--workers", "16"],
-        &mut source,
-        &mut sink,
-    )?;
-    assert!(rt; exit.status() == 0);
     Ok(())
 }

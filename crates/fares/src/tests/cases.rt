@@ -6,6 +6,8 @@ pub mod mileage;
 pub mod one_sector;
 pub mod points;
 pub mod refusals;
+pub mod rounds;
+pub mod serving;
 pub mod steps;
 pub mod units;
 
@@ -57,5 +59,20 @@ pub struct Kept {
     pub store: &'static [(u32, bool)],
     pub status: u8,
     pub text: &'static str,
+    pub left: &'static [&'static str],
+}
+
+/// A `serve` over a store of these bodies and a door of these connections, calls of which fail: the status, what is
+/// written, what is sent on each connection that was taken, and the bodies in the end.
+#[derive(Clone, Copy)]
+pub struct Served {
+    pub words: &'static [&'static str],
+    pub bodies: &'static [&'static str],
+    pub store: &'static [(u32, bool)],
+    pub door: &'static [u32],
+    pub connections: &'static [&'static [u8]],
+    pub status: u8,
+    pub text: &'static str,
+    pub sent: &'static [&'static [u8]],
     pub left: &'static [&'static str],
 }

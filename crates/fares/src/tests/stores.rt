@@ -72,7 +72,7 @@ fn a_refused_source_opens_no_store(rt: HostRuntime) -> Result<(), Fail> {
 }
 
 /// A keeper whose listed calls fail.
-fn failing(alloc: Global, bodies: Bodies, calls: &[(u32, bool)]) -> Result<MemKeeper, Fail> {
+pub fn failing(alloc: Global, bodies: Bodies, calls: &[(u32, bool)]) -> Result<MemKeeper, Fail> {
     let mut fail = Vec::new(alloc);
     for &(call, kept) in calls {
         fail.push(FailAt { call, kept })?;

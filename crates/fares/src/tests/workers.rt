@@ -1,0 +1,105 @@
+//! The program by any number of workers: it writes the same bytes.
+
+use super::cases::Quotation;
+use super::cases::points::POINTS;
+use super::cases::units::UNITS;
+use super::{ended, joined};
+use fare_outside::{PlainSink, PlainSource};
+use std::alloc::Global;
+use std::process::Abort;
+use std::test::Fail;
+use std::thread::Threads;
+
+/// Compares what words write over a source with a text.
+fn writes<R: Threads + Sync + Abort>(
+    rt: &R,
+    alloc: Global,
+    words: &[&str],
+    source: Vec<u8>,
+    text: &str,
+) -> Result<(), Fail> {
+    let mut source = PlainSource::new(source);
+    let mut sink = PlainSink::new(alloc, 4096)?;
+    let exit = ended(rt, alloc, words, &mut source, &mut sink)?;
+    assert!(rt; exit.status() == 0, "{}", text);
+    assert!(rt; sink.bytes() == text.as_bytes(), "{}", text);
+    Ok(())
+}
+
+/// Compares each answer of a table with what some workers write.
+fn answers_all<R: Threads + Sync + Abort>(
+    rt: &R,
+    alloc: Global,
+    workers: &str,
+    cases: &[Quotation],
+) -> Result<(), Fail> {
+    for case in cases {
+        let source = joined(alloc, case.source)?;
+        writes(
+            rt,
+            alloc,
+            &["price", "--workers", workers],
+            source,
+            case.text,
+        )?;
+    }
+    Ok(())
+}
+
+#[test]
+fn two_workers_quote(rt: HostRuntime) -> Result<(), Fail> {
+    answers_all(&rt, rt.alloc(), "2", UNITS.as_slice())?;
+    answers_all(&rt, rt.alloc(), "2", POINTS.as_slice())
+}
+
+#[test]
+fn sixteen_workers_quote(rt: HostRuntime) -> Result<(), Fail> {
+    answers_all(&rt, rt.alloc(), "16", UNITS.as_slice())?;
+    answers_all(&rt, rt.alloc(), "16", POINTS.as_slice())
+}
+
+/// What `drill` writes of a generated trip of so many sectors.
+fn drilled<R: Threads + Sync + Abort>(
+    rt: &R,
+    alloc: Global,
+    sectors: &str,
+    workers: &str,
+) -> Result<Vec<u8>, Fail> {
+    let words = [
+        "drill",
+        "--seed",
+        "1",
+        "--sectors",
+        sectors,
+        "--workers",
+        workers,
+    ];
+    let mut source = PlainSource::new(Vec::new(alloc));
+    let mut sink = PlainSink::new(alloc, 4096)?;
+    let exit = ended(rt, alloc, &words, &mut source, &mut sink)?;
+    assert!(rt; exit.status() == 0, "{}", workers);
+    let mut text = Vec::new(alloc);
+    text.extend_from_slice(sink.bytes())?;
+    Ok(text)
+}
+
+#[test]
+fn a_generated_sector_is_quoted(rt: HostRuntime) -> Result<(), Fail> {
+    let text = drilled(&rt, rt.alloc(), "1", "16")?;
+    assert_eq!(rt;
+        text.as_slice(),
+        b"DRILL seed 1 sectors 1 records 23\nTOTAL NUC 231.13\nPARTS 1 UNITS 1\n".as_slice()
+    );
+    Ok(())
+}
+
+#[test]
+fn sixteen_generated_sectors_are_quoted_alike(rt: HostRuntime) -> Result<(), Fail> {
+    let one = drilled(&rt, rt.alloc(), "16", "1")?;
+    let two = drilled(&rt, rt.alloc(), "16", "2")?;
+    let sixteen = drilled(&rt, rt.alloc(), "16", "16")?;
+    assert!(rt; one.starts_with(b"DRILL seed 1 sectors 16 records 2179\nTOTAL NUC "));
+    assert!(rt; two.as_slice() == one.as_slice());
+    assert!(rt; sixteen.as_slice() == one.as_slice());
+    Ok(())
+}
