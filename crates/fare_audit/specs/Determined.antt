@@ -20,6 +20,7 @@ FilesPart tariff trip line k number =
     (λ part. FilesFareOn tariff (key_of tariff trip line k part) (season_day trip line k) number)
 
 -- a list of parts has the ends and units of a line, and for each part a record that files its FARE
-pub record IsConstructionOf (tariff : Tariff) (trip : Itinerary) (line : CalculationLine) (parts : List Part) : Type 0 where
+pub record IsConstructionOf (tariff : Tariff) (trip : Itinerary) (line : CalculationLine) (parts : List Part)
+    : Type 0 where
   pub bare : map without_fare parts ≡ bare_parts line
   pub filed : (k : ℕ) → 1 ≤ k → k ≤ length parts → FilesPart tariff trip line k (part_at parts k).fare

@@ -1,5 +1,6 @@
 -- The figures of a line beside those of the line of its construction.
-use Rattle.std.specs.Prelude.{ℕ, ◌+◌, ◌-◌, Bool, true, false, not, List, length, find, Option, Some, None, unwrap_or, slice_get, bytes_eq, ◌==◌, ◌&&◌}
+use Rattle.std.specs.Prelude.{ℕ, ◌+◌, ◌-◌, Bool, true, false, not, List, length, find, Option, Some, None, unwrap_or}
+use Rattle.std.specs.Prelude.{slice_get, bytes_eq, ◌==◌, ◌&&◌}
 use Rattle.fare_codes.specs.declared.city.City.{City}
 use Rattle.fare_rules.specs.Numbers.{numbers}
 use Rattle.fare_line.specs.declared.line.part.Letter.{Letter}

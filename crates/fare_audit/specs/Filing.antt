@@ -1,5 +1,6 @@
 -- The records of a line's parts: each part's FARE, and the construction of all of them.
-use Rattle.std.specs.Prelude.{ℕ, ◌-◌, Bool, not, List, map, find, Option, option_and_then, is_none, unwrap_or, slice_get, ◌==◌, ◌&&◌, if◌then◌else◌}
+use Rattle.std.specs.Prelude.{ℕ, ◌-◌, Bool, not, List, map, find, Option, option_and_then, is_none, unwrap_or}
+use Rattle.std.specs.Prelude.{slice_get, ◌==◌, ◌&&◌, if◌then◌else◌}
 use Rattle.std.specs.List.{list_any}
 use Rattle.fare_codes.specs.declared.kind.Kind.TheVariants.{OW}
 use Rattle.fare_codes.specs.declared.month_day.MonthDay.{MonthDay}

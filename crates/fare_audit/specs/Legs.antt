@@ -1,5 +1,6 @@
 -- The sectors of a line in the order of travel, and the first of them at which the line and a trip differ.
-use Rattle.std.specs.Prelude.{ℕ, ◌+◌, Bool, not, List, [], ◌∷◌, ◌++◌, map, take, drop, Option, Some, None, ◌==◌, ◌&&◌, ◌||◌, nat_le, nat_lt, bytes_eq, if◌then◌else◌}
+use Rattle.std.specs.Prelude.{ℕ, ◌+◌, Bool, not, List, [], ◌∷◌, ◌++◌, map, take, drop, Option, Some, None, ◌==◌, ◌&&◌}
+use Rattle.std.specs.Prelude.{◌||◌, nat_le, nat_lt, bytes_eq, if◌then◌else◌}
 use Rattle.fare_codes.specs.declared.city.City.{City}
 use Rattle.fare_trip.specs.Itinerary.{Itinerary, count, sector}
 use Rattle.fare_rules.specs.Span.{is_surface, is_transfer}

@@ -1,9 +1,11 @@
 -- Lists whose members stand in an order, and the first constructions that a walk has found.
-use Rattle.std.specs.Prelude.{ℕ, suc, ◌-◌, Bool, true, false, not, List, [], ◌∷◌, take, Option, Some, None, nat_lt, slice_get, if◌then◌else◌}
+use Rattle.std.specs.Prelude.{ℕ, suc, ◌-◌, Bool, true, false, not, List, [], ◌∷◌, take, Option, Some, None, nat_lt}
+use Rattle.std.specs.Prelude.{slice_get, if◌then◌else◌}
 use Rattle.fare_rules.specs.FirstK.{Priced}
 use Rattle.fare_rules.specs.Order.{is_before}
 
--- a list with one more member, where it stands by an order; a member that is neither before it nor behind it stays alone
+-- a list with one more member, where it stands by an order; a member that is neither before it nor behind it stays
+-- alone
 abbrev pub ranked_with : {A : Type 0} → (A → A → Bool) → A → List A → List A
 ranked_with before one [] = one ∷ []
 ranked_with before one (next ∷ rest) =

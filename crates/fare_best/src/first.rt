@@ -15,8 +15,8 @@ use fare_tariff::Edition;
 use fare_trip::Trip;
 use std::alloc::Global;
 
-/// First k: the first `k` lawful constructions of a trip in an edition by Order, each with its price, or all where fewer
-/// are lawful. It takes memory for the table of the trip and for the list.
+/// First k: the first `k` lawful constructions of a trip in an edition by Order, each with its price, or all where
+/// fewer are lawful. It takes memory for the table of the trip and for the list.
 pub fn first_k(alloc: Global, edition: &Edition, trip: &Trip, k: u32) -> Result<BestList, NoMemory>
     requires some { 1 ≤ k }
     requires few { k ≤ MOST_BEST }

@@ -1,5 +1,5 @@
-//! The walk over the constructions that begin with some parts, which keeps the first k that it finds. What costs more than
-//! the k-th found is left out.
+//! The walk over the constructions that begin with some parts, which keeps the first k that it finds. What costs more
+//! than the k-th found is left out.
 
 ghost use Rattle.std.specs.Prelude.{◌≡◌, ◌+◌, ◌<◌, ◌≤◌, length};
 ghost use Rattle.fare_trip.specs.Itinerary.{count};

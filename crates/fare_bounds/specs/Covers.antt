@@ -1,5 +1,6 @@
 -- Covers: ways to cover the air sectors of a trip behind a point by entries of its table, and the least that one costs.
-use Rattle.std.specs.Prelude.{◌≡◌, ℕ, ◌≤◌, List, [], ◌∷◌, Option, Some, None, Contains, min, option_map, slice_index_or, sum_by}
+use Rattle.std.specs.Prelude.{◌≡◌, ℕ, ◌≤◌, List, [], ◌∷◌, Option, Some, None, Contains, min, option_map, slice_index_or}
+use Rattle.std.specs.Prelude.{sum_by}
 use Rattle.std.specs.Option.{option_or}
 use Rattle.fare_trip.specs.Itinerary.{Itinerary, count}
 use Rattle.fare_tariff.specs.Tariff.{Tariff}

@@ -1,5 +1,6 @@
 -- Floors: what a list of parts costs at least, over all its completions.
-use Rattle.std.specs.Prelude.{◌≡◌, ℕ, ◌+◌, ◌≤◌, Bool, true, nat_lt, nat_le, ◌&&◌, List, ◌∷◌, [], ◌++◌, Option, Some, None}
+use Rattle.std.specs.Prelude.{◌≡◌, ℕ, ◌+◌, ◌≤◌, Bool, true, nat_lt, nat_le, ◌&&◌, List, ◌∷◌, [], ◌++◌, Option, Some}
+use Rattle.std.specs.Prelude.{None}
 use Rattle.fare_trip.specs.Itinerary.{Itinerary, count}
 use Rattle.fare_tariff.specs.Tariff.{Tariff}
 use Rattle.fare_rules.specs.declared.part.Part.{Part}
@@ -33,8 +34,8 @@ may_follow trip first part =
     nat_lt (next_start trip first) part.end && nat_le part.end (count trip)
     && nat_le part.unit (greatest_unit first (places first) + 1)
 
--- an answer is a list of parts with one more at its end, made with the same table, or nothing where that longer list has
--- no completion
+-- an answer is a list of parts with one more at its end, made with the same table, or nothing where that longer list
+-- has no completion
 abbrev pub IsNext : Pricing → List Part → Part → Option (List Part) → Type 0
 IsNext table first part None = HasNoCompletion table.edition table.trip (first ++ part ∷ [])
 IsNext table first part (Some longer) = (longer ≡ first ++ part ∷ []) × IsMadeWith table longer

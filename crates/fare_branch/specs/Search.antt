@@ -1,5 +1,6 @@
 -- Search: pieces of the first-part choices, the least price of all, and what a search of a piece finds.
-use Rattle.std.specs.Prelude.{◌≡◌, ℕ, ◌<◌, ◌≤◌, ◌⊎◌, false, List, ◌∷◌, Option, Some, None, slice_get, nat_le, if◌then◌else◌}
+use Rattle.std.specs.Prelude.{◌≡◌, ℕ, ◌<◌, ◌≤◌, ◌⊎◌, false, List, ◌∷◌, Option, Some, None, slice_get, nat_le}
+use Rattle.std.specs.Prelude.{if◌then◌else◌}
 use Rattle.fare_trip.specs.Itinerary.{Itinerary}
 use Rattle.fare_tariff.specs.Tariff.{Tariff}
 use Rattle.fare_rules.specs.declared.part.Part.{Part}
@@ -29,8 +30,8 @@ pub record BeginsIn (tariff : Tariff) (trip : Itinerary) (piece : Piece) (parts 
   pub below : number < piece.past
   pub by : BeginsBy tariff trip number parts
 
--- a construction with its price is lawful, begins in a piece and costs the least price known, and none that begins there
--- and is lawful is before it
+-- a construction with its price is lawful, begins in a piece and costs the least price known, and none that begins
+-- there and is lawful is before it
 pub record IsFirstIn (tariff : Tariff) (trip : Itinerary) (piece : Piece) (least : ℕ) (parts : List Part) (price : ℕ) :
     Type 0 where
   pub lawful : IsLawful tariff trip parts price

@@ -23,8 +23,8 @@ IsAmong D None = ⊥
 IsAmong D (Some best) = D best.0
 
 -- from a least price and a best a walk over some lists came to others: the least price has not risen; what is found is
--- lawful and told where it was before; what was passed stays so; each lawful list of those walked is passed; and the best
--- is the one before, or one of those walked
+-- lawful and told where it was before; what was passed stays so; each lawful list of those walked is passed; and the
+-- best is the one before, or one of those walked
 pub record IsWalk (tariff : Tariff) (trip : Itinerary) (D : List Part → Type 0) (before : ℕ)
     (best : Option (List Part × ℕ)) (after : ℕ) (found : Option (List Part × ℕ)) : Type 0 where
   pub falls : after ≤ before

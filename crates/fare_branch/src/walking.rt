@@ -4,7 +4,8 @@
 ghost use Rattle.std.specs.Prelude.{◌≡◌, ◌+◌, ◌<◌, ◌≤◌, length};
 ghost use Rattle.fare_trip.specs.Itinerary.{count};
 ghost use Rattle.fare_rules.specs.Construction.{greatest_unit, places};
-ghost use Rattle.fare_units.specs.Walk.{Completes, GoesOn, AnyPart, EndsAt, HasFare, IsPart, IsList, TakesBetter, next_start};
+ghost use Rattle.fare_units.specs.Walk.{Completes, GoesOn, AnyPart, EndsAt, HasFare, IsPart, IsList, TakesBetter};
+ghost use Rattle.fare_units.specs.Walk.{next_start};
 ghost use Rattle.fare_bounds.specs.Covers.{AreRests};
 ghost use Rattle.fare_branch.specs.Floors.{IsMadeWith};
 ghost use Rattle.fare_branch.specs.Walked.{IsWalk, IsUnderAll, is_beaten};
@@ -146,8 +147,8 @@ fn walk_units<B: Bound>(
     requires within { end ≤ count table.now.trip }
     requires under { IsUnderAll table.now.edition table.now.trip (B.fixed bound.old) }
     ensures fixed { B.fixed bound.new ≡ B.fixed bound.old }
-    ensures walk { IsWalk table.now.edition table.now.trip (GoesOn front.now (HasFare end fare)) (B.least bound.old) best
-        (B.least bound.new) result }
+    ensures walk { IsWalk table.now.edition table.now.trip (GoesOn front.now (HasFare end fare)) (B.least bound.old)
+        best (B.least bound.new) result }
 {
     let sectors = table.trip().count();
     prove!(end <= sectors);

@@ -14,7 +14,8 @@ edition_line tariff = codes "EDITION " ++ decimal tariff.number ++ codes " " ++ 
 -- the line of the best construction and its worksheet, or that there is no fare
 abbrev pub best_text : Tariff → Itinerary → Option (List Part) → List ℕ
 best_text tariff trip None = codes "NO FARE\n"
-best_text tariff trip (Some parts) = line_text (line_of tariff trip parts) ++ codes "\n" ++ worksheet_text tariff trip parts
+best_text tariff trip (Some parts) =
+    line_text (line_of tariff trip parts) ++ codes "\n" ++ worksheet_text tariff trip parts
 
 -- the answer for the best construction, or for none, in an edition
 unfoldable pub answer_text : Tariff → Itinerary → Option (List Part) → List ℕ

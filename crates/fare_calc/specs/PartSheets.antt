@@ -1,5 +1,6 @@
 -- How the parts of a construction are priced, as the line and the worksheet tell it.
-use Rattle.std.specs.Prelude.{ℕ, ◌+◌, ◌-◌, Bool, List, Option, Some, None, option_map, option_and_then, nat_le, if◌then◌else◌}
+use Rattle.std.specs.Prelude.{ℕ, ◌+◌, ◌-◌, Bool, List, Option, Some, None, option_map, option_and_then, nat_le}
+use Rattle.std.specs.Prelude.{if◌then◌else◌}
 use Rattle.fare_codes.specs.declared.city.City.{City}
 use Rattle.fare_codes.specs.declared.nuc.Nuc.{Nuc}
 use Rattle.fare_trip.specs.Itinerary.{Itinerary, point}
@@ -28,12 +29,14 @@ gap_before trip parts k = if nat_le k 1 then None else gap_after trip (end_of pa
 -- a higher intermediate point as its two cities in fare direction, the later one first where the part is priced back
 abbrev pub in_fare_direction : Itinerary → Bool → Compared → City × City × Nuc
 in_fare_direction trip back found =
-    if back then (point trip found.1, point trip found.0, found.2) else (point trip found.0, point trip found.1, found.2)
+    if back then (point trip found.1, point trip found.0, found.2)
+    else (point trip found.0, point trip found.1, found.2)
 
 -- the mileage of a part, for the indicator of its sectors
 abbrev pub part_mileage : Tariff → Itinerary → List Part → ℕ → Mileage
 part_mileage tariff trip parts k =
-    mileage tariff trip (start_of trip parts k) (end_of parts k) (indicator tariff trip (start_of trip parts k) (end_of parts k))
+    mileage tariff trip (start_of trip parts k) (end_of parts k)
+    (indicator tariff trip (start_of trip parts k) (end_of parts k))
 
 -- the higher intermediate point of a part for a fare, in fare direction
 abbrev pub part_higher : Tariff → Itinerary → List Part → ℕ → FareRecord → Option (City × City × Nuc)

@@ -1,5 +1,6 @@
 -- The worksheet of a construction: how its parts, its units and its total come about.
-use Rattle.std.specs.Prelude.{ℕ, ◌+◌, zero, suc, Bool, true, false, List, [], ◌++◌, flat_map, Option, Some, None, codes, decimal}
+use Rattle.std.specs.Prelude.{ℕ, ◌+◌, zero, suc, Bool, true, false, List, [], ◌++◌, flat_map, Option, Some, None, codes}
+use Rattle.std.specs.Prelude.{decimal}
 use Rattle.fare_codes.specs.declared.city.City.{City}
 use Rattle.fare_codes.specs.declared.nuc.Nuc.{Nuc}
 use Rattle.fare_codes.specs.Amounts.{converted}
@@ -33,8 +34,8 @@ direction_text false = codes "OUT"
 -- the line of a part: its number, its cities in travel order, its unit and its direction
 abbrev pub part_line : PartSheet → List ℕ
 part_line sheet =
-    codes "PART " ++ decimal sheet.place ++ codes " " ++ way_text sheet.from sheet.to ++ codes " UNIT " ++ decimal sheet.unit
-    ++ codes " " ++ direction_text sheet.back ++ codes "\n"
+    codes "PART " ++ decimal sheet.place ++ codes " " ++ way_text sheet.from sheet.to
+    ++ codes " UNIT " ++ decimal sheet.unit ++ codes " " ++ direction_text sheet.back ++ codes "\n"
 
 -- the line of a fare: its record number, its tag and the filed amount
 abbrev pub filed_line : ℕ → FareRecord → List ℕ
@@ -45,8 +46,8 @@ filed_line number fare =
 -- miles as the ticketed sum, the allowance, the net and what is permitted
 unfoldable pub miles_text : Miles → List ℕ
 miles_text miles =
-    codes "MILES TPM " ++ decimal miles.sum ++ codes " EMA " ++ decimal miles.allowance ++ codes " NET " ++ decimal miles.net
-    ++ codes " MPM " ++ decimal miles.mpm
+    codes "MILES TPM " ++ decimal miles.sum ++ codes " EMA " ++ decimal miles.allowance
+    ++ codes " NET " ++ decimal miles.net ++ codes " MPM " ++ decimal miles.mpm
 
 -- the line of miles with a letter
 abbrev pub measured_line : Miles → List ℕ → List ℕ
@@ -120,7 +121,8 @@ local_text (suc less) amount = decimal_text (less + 1) amount
 unfoldable pub currency_lines : ℕ → CurrencyRecord → List ℕ
 currency_lines price currency =
     codes "ROE " ++ rate_text currency.roe ++ codes "\nLOCAL " ++ currency.currency ++ codes " "
-    ++ local_text currency.decimals (converted price currency.roe currency.decimals currency.unit currency.mode) ++ codes "\n"
+    ++ local_text currency.decimals (converted price currency.roe currency.decimals currency.unit currency.mode)
+    ++ codes "\n"
 
 -- the lines of a currency, where there is one
 abbrev pub currency_lines_of : ℕ → Option CurrencyRecord → List ℕ
@@ -131,8 +133,8 @@ currency_lines_of price (Some currency) = currency_lines price currency
 abbrev pub total_lines : ℕ → Option CurrencyRecord → List ℕ
 total_lines price currency = codes "TOTAL NUC " ++ nuc_text price ++ codes "\n" ++ currency_lines_of price currency
 
--- the worksheet of a construction: the lines of its parts in their order, those of its units by their numbers, and those of
--- its price in the currency of the country where the trip begins
+-- the worksheet of a construction: the lines of its parts in their order, those of its units by their numbers, and
+-- those of its price in the currency of the country where the trip begins
 unfoldable pub worksheet_text : Tariff → Itinerary → List Part → List ℕ
 worksheet_text tariff trip parts =
     flat_map (part_lines_of tariff trip parts) (places parts) ++ flat_map (unit_line_of tariff trip parts) (units parts)

@@ -1,5 +1,6 @@
 -- Days and days of the year, as their texts.
-use Rattle.std.specs.Prelude.{ℕ, ◌+◌, ◌*◌, ◌-◌, ◌/◌, Bool, List, length, Option, ◌==◌, ◌&&◌, nat_le, slice_index, drop, ℤ, pos}
+use Rattle.std.specs.Prelude.{ℕ, ◌+◌, ◌*◌, ◌-◌, ◌/◌, Bool, List, length, Option, ◌==◌, ◌&&◌, nat_le, slice_index, drop}
+use Rattle.std.specs.Prelude.{ℤ, pos}
 use Rattle.std.specs.Char.{is_ascii_digit}
 use Rattle.jiff_core.specs.Calendar.{days_in_month, day_of_year, days_from_civil}
 use Rattle.fare_codes.specs.Codes.{in_form}

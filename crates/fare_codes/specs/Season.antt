@@ -3,7 +3,8 @@ use Rattle.std.specs.Prelude.{ℕ, Bool, List, ◌&&◌, ◌||◌, nat_le, codes
 use Rattle.fare_codes.specs.declared.season.Season.{Season}
 use Rattle.fare_codes.specs.Day.{place_in_year}
 
--- where first isn't after last a season holds the days from first to last; else those from first on and those up to last
+-- where first isn't after last a season holds the days from first to last; else those from first on and those up to
+-- last
 unfoldable pub season_holds : Season → List ℕ → Bool
 season_holds season on =
     if nat_le (place_in_year season.first) (place_in_year season.last)

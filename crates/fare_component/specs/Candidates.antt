@@ -1,5 +1,6 @@
 -- The fares that may serve a span by their cities and its indicator, walked in record order.
-use Rattle.std.specs.Prelude.{◌≡◌, ℕ, ◌+◌, ◌<◌, ◌≤◌, Bool, false, length, Option, Some, None, IfSome, OnSome, min, slice_get, unwrap_or}
+use Rattle.std.specs.Prelude.{◌≡◌, ℕ, ◌+◌, ◌<◌, ◌≤◌, Bool, false, length, Option, Some, None, IfSome, OnSome, min}
+use Rattle.std.specs.Prelude.{slice_get, unwrap_or}
 use Rattle.fare_codes.specs.declared.city.City.{City}
 use Rattle.fare_codes.specs.declared.indicator.Indicator.{Indicator}
 use Rattle.fare_tariff.specs.declared.limits.TheConstants.{MOST_FARES_BETWEEN}

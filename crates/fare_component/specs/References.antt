@@ -11,8 +11,8 @@ use Rattle.fare_rules.specs.Span.{first_day}
 use Rattle.fare_component.specs.declared.table.references.Form.{Form}
 use Rattle.fare_component.specs.declared.table.references.References.{References}
 
--- a fare has the same references in a direction on a day as the fare of a form: their carriers, classes, kinds and rules
--- are the same, and so are the direction and the day
+-- a fare has the same references in a direction on a day as the fare of a form: their carriers, classes, kinds and
+-- rules are the same, and so are the direction and the day
 pub record IsOfForm (fare : FareRecord) (back : Bool) (on : Day) (form : Form) : Type 0 where
   pub carrier : form.fare.carrier ≡ fare.carrier
   pub class : form.fare.class ≡ fare.class

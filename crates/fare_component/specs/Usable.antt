@@ -8,7 +8,8 @@ use Rattle.fare_codes.specs.declared.nuc.TheConstants.{FARE_LIMIT}
 use Rattle.fare_rules.specs.declared.limits.TheConstants.{MOST_AMOUNT, MOST_SURCHARGE}
 use Rattle.fare_rules.specs.Span.{holds_surface}
 use Rattle.fare_rules.specs.Terms.{stops_hold, transfers_hold, advance_holds}
-use Rattle.fare_rules.specs.ComponentAmount.{repeats_city, runs_between, may_be_priced, has_indicator, covers_cabins, covers_carriers, in_season}
+use Rattle.fare_rules.specs.ComponentAmount.{repeats_city, runs_between, may_be_priced, has_indicator, covers_cabins}
+use Rattle.fare_rules.specs.ComponentAmount.{covers_carriers, in_season}
 
 -- a fare is for a span: the span can be a component, and the fare runs between its ends, has its indicator and covers
 -- its cabins, its carriers and its day

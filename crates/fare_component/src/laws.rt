@@ -15,14 +15,16 @@ pub fn fares_with_amounts_are_entries()
 
 /// Each entry of a span is that of its fare, which has an amount there in some direction.
 pub fn entries_are_of_fares()
-    ensures { (tariff : Tariff) (trip : Itinerary) (a b : ℕ) (entry : Entry) → Contains (entries_of tariff trip a b) entry
+    ensures { (tariff : Tariff) (trip : Itinerary) (a b : ℕ) (entry : Entry)
+        → Contains (entries_of tariff trip a b) entry
         → IsEntry tariff trip a b entry }
 {}
 
 /// An entry has an amount in one direction alone, since its fare runs from one end of the span and no city stands twice
 /// in it.
 pub fn entries_have_one_direction()
-    ensures { (tariff : Tariff) (trip : Itinerary) (a b : ℕ) (entry : Entry) → Contains (entries_of tariff trip a b) entry
+    ensures { (tariff : Tariff) (trip : Itinerary) (a b : ℕ) (entry : Entry)
+        → Contains (entries_of tariff trip a b) entry
         → (entry.out ≡ None) ⊎ (entry.back ≡ None) }
 {}
 

@@ -1,7 +1,8 @@
 -- The text of the first lawful constructions of a trip over a book of editions. Each definition looks at one thing, in
 -- the order in which the refusals come: the edition that the sale day selects, the points of the trip, and the
 -- constructions.
-use Rattle.std.specs.Prelude.{◌≡◌, ℕ, suc, List, [], ◌∷◌, ◌++◌, Option, Some, None, Ok, Err, MatchOption, codes, decimal}
+use Rattle.std.specs.Prelude.{◌≡◌, ℕ, suc, List, [], ◌∷◌, ◌++◌, Option, Some, None, Ok, Err, MatchOption, codes}
+use Rattle.std.specs.Prelude.{decimal}
 use Rattle.fare_codes.specs.Numbers.{nuc_text}
 use Rattle.fare_trip.specs.Itinerary.{Itinerary}
 use Rattle.fare_tariff.specs.Tariff.{Tariff}

@@ -39,13 +39,14 @@ city_row r = codes "CITY" ∷ r.code ∷ r.country ∷ area_text r.area ∷ []
 
 -- the fields of a CUR
 abbrev pub currency_row : CurrencyRecord → Fields
-currency_row r = codes "CUR" ∷ r.country ∷ r.currency ∷ rate_text r.roe ∷ decimal r.decimals ∷ decimal r.unit ∷ mode_text r.mode ∷ []
+currency_row r =
+    codes "CUR" ∷ r.country ∷ r.currency ∷ rate_text r.roe ∷ decimal r.decimals ∷ decimal r.unit ∷ mode_text r.mode ∷ []
 
 -- the fields of a RULE
 abbrev pub rule_row : RuleRecord → Fields
 rule_row r =
-    codes "RULE" ∷ r.id ∷ decimal r.stops ∷ decimal r.transfers ∷ decimal r.advance ∷ decimal r.min_stay ∷ decimal r.max_stay
-    ∷ excess_text r.excess ∷ names_text r.units ∷ names_text r.ends ∷ []
+    codes "RULE" ∷ r.id ∷ decimal r.stops ∷ decimal r.transfers ∷ decimal r.advance ∷ decimal r.min_stay
+    ∷ decimal r.max_stay ∷ excess_text r.excess ∷ names_text r.units ∷ names_text r.ends ∷ []
 
 -- the fields of a FARE
 abbrev pub fare_row : FareRecord → Fields

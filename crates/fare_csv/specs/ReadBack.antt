@@ -23,7 +23,8 @@ pub record ReadsBack (one : Record) : Type 0 where
 -- HEAD needs no quotes, and is read as version 2 with the number and the effective day
 pub record HeadReadsBack (number : ℕ) (effective : Day) : Type 0 where
   pub plain : is_plain_row (head_row number effective) ≡ true
-  pub reads : head_of (head_row number effective) ≡ Ok (record { version = Two; number = number; effective = effective })
+  pub reads : head_of (head_row number effective)
+      ≡ Ok (record { version = Two; number = number; effective = effective })
 
 -- a name of a list is the free rule, or a rule's id in its form
 abbrev pub is_name : Option (List ℕ) → Bool

@@ -1,5 +1,6 @@
 -- The records of a tariff text: what the fields of each kind spell.
-use Rattle.std.specs.Prelude.{ℕ, Bool, true, false, List, Option, Some, None, option_map, Result, Ok, ◌==◌, length, codes, nat_lt, if◌then◌else◌}
+use Rattle.std.specs.Prelude.{ℕ, Bool, true, false, List, Option, Some, None, option_map, Result, Ok, ◌==◌, length}
+use Rattle.std.specs.Prelude.{codes, nat_lt, if◌then◌else◌}
 use Rattle.std.specs.Str.{bytes_eq}
 use Rattle.fare_codes.specs.Codes.{read_city, read_country, read_currency, read_carrier, read_rule_id}
 use Rattle.fare_codes.specs.Words.{read_area, read_indicator, read_mode, read_cabin, read_kind}
@@ -84,7 +85,8 @@ read_excess bytes =
     if bytes_eq bytes (codes "Y") then Some true
     else (if bytes_eq bytes (codes "N") then Some false else None)
 
--- RULE: the id, the greatest stops and transfers, the least advance, the least and the greatest stay, the excess and the lists of units and ends
+-- RULE: the id, the greatest stops and transfers, the least advance, the least and the greatest stay, the excess and
+-- the lists of units and ends
 unfoldable pub rule_of : ℕ → Fields → Result RuleRecord TextFault
 rule_of number fields = do
   _ ← counted number 10 fields
@@ -97,7 +99,17 @@ rule_of number fields = do
   excess ← in_form number 8 (read_excess (field fields 7))
   units ← in_form number 9 (read_names (field fields 8))
   ends ← in_form number 10 (read_names (field fields 9))
-  Ok (record { id = id; stops = stops; transfers = transfers; advance = advance; min_stay = min_stay; max_stay = max_stay; excess = excess; units = units; ends = ends })
+  Ok (record {
+    id = id;
+    stops = stops;
+    transfers = transfers;
+    advance = advance;
+    min_stay = min_stay;
+    max_stay = max_stay;
+    excess = excess;
+    units = units;
+    ends = ends;
+  })
 
 -- an amount below 10,000,000.00
 abbrev pub below_ten_million : Option ℕ → Option ℕ
@@ -126,7 +138,17 @@ fare_key_of number fields = do
 
 -- a fare of a key, a season and an amount
 abbrev pub fare_with : FareKey → Season → ℕ → FareRecord
-fare_with key season amount = record { from = key.from; to = key.to; ind = key.ind; carrier = key.carrier; class = key.class; kind = key.kind; rule = key.rule; season = season; amount = amount }
+fare_with key season amount = record {
+  from = key.from;
+  to = key.to;
+  ind = key.ind;
+  carrier = key.carrier;
+  class = key.class;
+  kind = key.kind;
+  rule = key.rule;
+  season = season;
+  amount = amount;
+}
 
 -- FARE in version 1: the amount behind the rule, and the whole year
 unfoldable pub fare_one_of : ℕ → Fields → Result FareRecord TextFault

@@ -1,7 +1,8 @@
 -- What a reader of a text in memory has left.
 use Rattle.std.specs.Prelude.{ℕ, ◌≡◌, true, false, List, Option, Some}
 use Rattle.std.specs.Borrow.{Bor}
-use Rattle.csv.specs.Reading.{Ready, default_config, has_failed, is_flexible, reader_config, reader_state, reader_trim, source_of}
+use Rattle.csv.specs.Reading.{Ready, default_config, has_failed, is_flexible, reader_config, reader_state, reader_trim}
+use Rattle.csv.specs.Reading.{source_of}
 use Rattle.csv.specs.declared.reader.Reader.{Reader}
 use Rattle.csv.specs.declared.reader.Trim.TheVariants as trim
 use Rattle.fare_csv.specs.Rows.{Fields, rows_if_known}

@@ -23,6 +23,7 @@ abbrev pub not_allowed : Allow → Reply
 not_allowed allow = record { status = MethodNotAllowed; allow = allow; body = line (codes "METHOD") }
 
 -- a route is asked by its method, and then this holds of the reply; by any other it is not allowed
-pub record IsAskedBy (wanted : List ℕ) (allow : Allow) (method : List ℕ) (reply : Reply) (Answered : Type 0) : Type 0 where
+pub record IsAskedBy (wanted : List ℕ) (allow : Allow) (method : List ℕ) (reply : Reply) (Answered : Type 0)
+    : Type 0 where
   pub by_method : method ≡ wanted → Answered
   pub by_other : method ≢ wanted → reply ≡ not_allowed allow

@@ -3,7 +3,8 @@
 ghost use Rattle.std.specs.Prelude.{◌≡◌, ◌≤◌, ◌++◌, IfOk, OnOk, length, option_map};
 ghost use Rattle.serde_json.specs.View.{items_view, view};
 ghost use Rattle.fare_trip.specs.ItineraryText.{json_of, trip_of};
-ghost use Rattle.fare_desk.specs.Viewing.{IsArrayReply, IsBatchReply, IsBatchText, IsItemsReply, IsQuoteReply, item_text};
+ghost use Rattle.fare_desk.specs.Viewing.{IsArrayReply, IsBatchReply, IsBatchText, IsItemsReply, IsQuoteReply};
+ghost use Rattle.fare_desk.specs.Viewing.{item_text};
 
 use crate::quotes::{fault_reply, trip_reply};
 use crate::replies::{line_reply, text_reply};

@@ -33,8 +33,8 @@ impl<'k, P: Keeper, Q: Quoter + Drop> Desk<'k, P, Q> {
     ghost use Rattle.std.specs.Result.{result_ok};
     ghost use Rattle.fare_desk.specs.Publishing.{IsPublication, state};
 
-    /// A desk over a book and a keeper that is ready. A caller that has to know what the keeper is after a refusal makes
-    /// the routes first, and then a desk by `over`.
+    /// A desk over a book and a keeper that is ready. A caller that has to know what the keeper is after a refusal
+    /// makes the routes first, and then a desk by `over`.
     pub fn new<R: Threads + Sync>(
         _rt: &R,
         alloc: Global,

@@ -1,7 +1,7 @@
-//! The desk: what a book of published editions answers to a trip, and to the requests of clients. The quotation of a trip
-//! is defined in `specs/` (`Quotation`): the answer text of the best construction in the edition that the sale day selects.
-//! So are the routes of requests (`Routes`), what is answered without a change (`Viewing`), and what a desk does
-//! (`Publishing`).
+//! The desk: what a book of published editions answers to a trip, and to the requests of clients. The quotation of a
+//! trip is defined in `specs/` (`Quotation`): the answer text of the best construction in the edition that the sale day
+//! selects. So are the routes of requests (`Routes`), what is answered without a change (`Viewing`), and what a desk
+//! does (`Publishing`).
 //!
 //! - `quote_fault`, `quoting`: the text of a quotation, or why a trip isn't quoted;
 //! - `list`: the text that lists the editions of a book, which is defined in `specs/` (`List`);

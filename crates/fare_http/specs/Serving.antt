@@ -43,8 +43,8 @@ module _ {H : Type 0} (step : H → List ℕ → List ℕ → List ℕ → Optio
         → IsServed connection old answer new
     wanting : answer ≡ no_memory_bytes → new ≡ old → IsServed connection old answer new
 
-  -- the exchange is cut off after these bytes were sent: no byte, with the handler as before, where the connection ended
-  -- before its request was whole or a read failed, and some first bytes of the answer where a write failed
+  -- the exchange is cut off after these bytes were sent: no byte, with the handler as before, where the connection
+  -- ended before its request was whole or a read failed, and some first bytes of the answer where a write failed
   pub data IsCutOff (connection : Option (List ℕ)) (old : H) (sent : List ℕ) (new : H) (Fails : Type 0) : Type 0 where
     ended : BringsTooLittle connection → sent ≡ [] → new ≡ old → IsCutOff connection old sent new Fails
     unread : Fails → sent ≡ [] → new ≡ old → IsCutOff connection old sent new Fails

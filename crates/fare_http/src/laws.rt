@@ -46,8 +46,8 @@ pub fn fault_is_told()
         ¬ (BringsTooLittle (Some bytes)) }
 {}
 
-/// A connection whose bytes end inside its body, or inside a head that others complete, brings no whole request, and has
-/// no fixed answer.
+/// A connection whose bytes end inside its body, or inside a head that others complete, brings no whole request, and
+/// has no fixed answer.
 pub fn short_request_is_cut_off()
     ensures not_whole { (bytes : List ℕ) (request : Request) → EndsInside (Some []) bytes →
         ¬ (BringsWhole (Some bytes) request) }

@@ -1,5 +1,6 @@
 -- What a calculation line is.
-use Rattle.std.specs.Prelude.{ℕ, ◌+◌, ◌-◌, ◌^◌, Bool, true, false, List, [], ◌∷◌, length, Option, Some, None, is_none, ◌==◌, ◌&&◌, ◌||◌, nat_lt, nat_le}
+use Rattle.std.specs.Prelude.{ℕ, ◌+◌, ◌-◌, ◌^◌, Bool, true, false, List, [], ◌∷◌, length, Option, Some, None, is_none}
+use Rattle.std.specs.Prelude.{◌==◌, ◌&&◌, ◌||◌, nat_lt, nat_le}
 use Rattle.std.specs.List.{list_all}
 use Rattle.fare_codes.specs.declared.city.City.{City}
 use Rattle.fare_codes.specs.declared.rule_id.RuleId.{RuleId}
@@ -79,8 +80,8 @@ gap_count (Some city) = 1
 abbrev pub flown_count : ℕ → LinePart → ℕ
 flown_count begun part = part.end - (begun + gap_count part.gap)
 
--- parts that begin behind so many sectors of the line share so many flown ones among them: each ends with the line's 16th
--- sector at the latest and has at least one flown sector, and none is left over
+-- parts that begin behind so many sectors of the line share so many flown ones among them: each ends with the line's
+-- 16th sector at the latest and has at least one flown sector, and none is left over
 unfoldable pub are_parts : ℕ → ℕ → List LinePart → Bool
 are_parts begun flown [] = flown == 0
 are_parts begun flown (part ∷ parts) =

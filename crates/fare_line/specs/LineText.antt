@@ -1,5 +1,6 @@
 -- The one text of each calculation line.
-use Rattle.std.specs.Prelude.{ℕ, Bool, true, false, List, [], ◌∷◌, ◌++◌, take, drop, Option, Some, None, ◌==◌, codes, decimal, if◌then◌else◌}
+use Rattle.std.specs.Prelude.{ℕ, Bool, true, false, List, [], ◌∷◌, ◌++◌, take, drop, Option, Some, None, ◌==◌, codes}
+use Rattle.std.specs.Prelude.{decimal, if◌then◌else◌}
 use Rattle.std.specs.List.{flat_map}
 use Rattle.fare_codes.specs.declared.city.City.{City}
 use Rattle.fare_codes.specs.declared.carrier.Carrier.{Carrier}
@@ -84,4 +85,5 @@ totals_text total roe = codes "NUC" ++ nuc_text total ++ codes "END ROE" ++ rate
 -- a line is its first city, its parts, its plus-ups, and the total and the rate
 unfoldable pub line_text : CalculationLine → List ℕ
 line_text line =
-    spaced line.from ++ parts_text 0 line.sectors line.parts ++ flat_map plus_text line.plus ++ totals_text line.total line.roe
+    spaced line.from ++ parts_text 0 line.sectors line.parts ++ flat_map plus_text line.plus
+    ++ totals_text line.total line.roe

@@ -50,7 +50,8 @@ pub record Answers (Fails : Type 0) (places : List ℕ) (old new : Option (List 
   pub sent : new ≡ option_map (sent_each places (map (λ answer. answer.sent) answered)) old
 
 module _ {H : Type 0} (step : H → List ℕ → List ℕ → List ℕ → Option Reply → H → Type 0) where
-  -- a `POST /editions` is answered by one step of the handler; all else keeps its own reply, and the handler is as before
+  -- a `POST /editions` is answered by one step of the handler; all else keeps its own reply, and the handler is as
+  -- before
   abbrev pub IsReplied : Option Request → Option Reply → H → Option Reply → H → Type 0
   IsReplied None own old reply new = (reply ≡ own) × (new ≡ old)
   IsReplied (Some request) own old reply new =

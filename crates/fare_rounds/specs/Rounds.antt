@@ -12,8 +12,8 @@ pub record Exchanged : Type 0 where
   pub sent : List ℕ
 
 module _ {H : Type 0} (step : H → List ℕ → List ℕ → List ℕ → Option Reply → H → Type 0) where
-  -- one request of a round that began with this handler: a `POST /editions` is one step of the handler; any other has an
-  -- answer that the handler had at the round's start, staying as it was, and leaves the handler as before
+  -- one request of a round that began with this handler: a `POST /editions` is one step of the handler; any other has
+  -- an answer that the handler had at the round's start, staying as it was, and leaves the handler as before
   abbrev pub RoundStep : H → H → List ℕ → List ℕ → List ℕ → Option Reply → H → Type 0
   RoundStep start old method path body reply new =
       MatchBool (is_publication method path) (step old method path body reply new)

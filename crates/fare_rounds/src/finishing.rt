@@ -9,8 +9,9 @@ use std::alloc::Global;
 use std::thread::Threads;
 
 impl Round {
-    /// Hands each `POST /editions` to the handler in the order of arrival, and then answers each entry on its connection,
-    /// in the order in which the door holds them: with its reply, or with that for want of memory where it has none.
+    /// Hands each `POST /editions` to the handler in the order of arrival, and then answers each entry on its
+    /// connection, in the order in which the door holds them: with its reply, or with that for want of memory where it
+    /// has none.
     pub fn finish<R: Threads + Sync, D: Door, H: Handler>(
         mut self,
         rt: &R,

@@ -1,4 +1,5 @@
-//! The law of a round of one connection: the function computes nothing, and its contract is a law that its caller may use.
+//! The law of a round of one connection: the function computes nothing, and its contract is a law that its caller may
+//! use.
 
 ghost use Rattle.std.specs.Prelude.{◌∷◌, [], ℕ};
 ghost use Rattle.fare_outside.specs.Cause.{Rose};

@@ -7,7 +7,8 @@ use std::marker::Model;
 /// The most connections of a round.
 pub(crate) const MOST_CONNECTIONS: usize = 8;
 
-/// The connections of a round that the door holds, with what each one brought, and the number of those that were cut off.
+/// The connections of a round that the door holds, with what each one brought, and the number of those that were cut
+/// off.
 #[derive(Drop)]
 pub struct Round {
     pub(crate) entries: ArrayVec<Entry, MOST_CONNECTIONS>,

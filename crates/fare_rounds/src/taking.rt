@@ -13,8 +13,8 @@ use std::alloc::Global;
 /// Takes the connections of a round, at most `most` of them: the first one, and each further one that is known to wait.
 /// It reads each request in turn and holds the connection; one that is cut off is closed and counted.
 ///
-/// Neither end loses the connections that were taken before it. `NoMore` comes exactly where the door answered that none
-/// will come, and `Failed` only where its count of faults rose.
+/// Neither end loses the connections that were taken before it. `NoMore` comes exactly where the door answered that
+/// none will come, and `Failed` only where its count of faults rose.
 pub fn take_round<D: Door>(alloc: Global, door: &mut D, most: u32) -> (Round, DoorEnd)
     requires some { 1 ≤ most }
     requires few { most ≤ 8 }

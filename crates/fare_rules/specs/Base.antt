@@ -1,5 +1,6 @@
 -- The base of a component's fare, and its higher intermediate point.
-use Rattle.std.specs.Prelude.{ℕ, ◌+◌, Bool, not, List, [], ◌∷◌, Option, None, max, option_map, filter_map, flat_map, find, ◌==◌, ◌&&◌, ◌||◌, nat_lt, if◌then◌else◌}
+use Rattle.std.specs.Prelude.{ℕ, ◌+◌, Bool, not, List, [], ◌∷◌, Option, None, max, option_map, filter_map, flat_map}
+use Rattle.std.specs.Prelude.{find, ◌==◌, ◌&&◌, ◌||◌, nat_lt, if◌then◌else◌}
 use Rattle.fare_codes.specs.declared.day.Day.{Day}
 use Rattle.fare_codes.specs.declared.nuc.Nuc.{Nuc}
 use Rattle.fare_trip.specs.Itinerary.{Itinerary, point}

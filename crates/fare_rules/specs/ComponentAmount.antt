@@ -1,5 +1,6 @@
 -- Component amount: what a fare costs for a span, one test a condition.
-use Rattle.std.specs.Prelude.{ℕ, ◌+◌, Bool, true, not, Option, Some, None, bytes_eq, option_and_then, option_map, is_some, nat_le, ◌&&◌, ◌||◌, if◌then◌else◌}
+use Rattle.std.specs.Prelude.{ℕ, ◌+◌, Bool, true, not, Option, Some, None, bytes_eq, option_and_then, option_map}
+use Rattle.std.specs.Prelude.{is_some, nat_le, ◌&&◌, ◌||◌, if◌then◌else◌}
 use Rattle.std.specs.List.{list_any, list_all}
 use Rattle.fare_codes.specs.declared.cabin.Cabin.{Cabin}
 use Rattle.fare_codes.specs.declared.cabin.Cabin.TheVariants.{F, C, Y}
@@ -20,7 +21,8 @@ use Rattle.fare_rules.specs.Numbers.{numbers}
 use Rattle.fare_rules.specs.Span.{sectors, holds_surface, first_day}
 use Rattle.fare_rules.specs.Indicator.{indicator}
 use Rattle.fare_rules.specs.Mileage.{mileage, surcharge_of}
-use Rattle.fare_rules.specs.Terms.{term_holds, terms_of_fare, allows_surcharge, stops_hold, transfers_hold, advance_holds}
+use Rattle.fare_rules.specs.Terms.{term_holds, terms_of_fare, allows_surcharge, stops_hold, transfers_hold}
+use Rattle.fare_rules.specs.Terms.{advance_holds}
 use Rattle.fare_rules.specs.Reference.{every_carrier}
 use Rattle.fare_rules.specs.Base.{base}
 

@@ -4,7 +4,8 @@ use Rattle.fare_trip.specs.Itinerary.{Itinerary}
 use Rattle.fare_tariff.specs.Record.{FareRecord}
 use Rattle.fare_tariff.specs.Tariff.{Tariff}
 use Rattle.fare_rules.specs.Span.{holds_surface}
-use Rattle.fare_rules.specs.ComponentAmount.{repeats_city, runs_between, may_be_priced, has_indicator, covers_cabins, covers_carriers, mileage_holds}
+use Rattle.fare_rules.specs.ComponentAmount.{repeats_city, runs_between, may_be_priced, has_indicator, covers_cabins}
+use Rattle.fare_rules.specs.ComponentAmount.{covers_carriers, mileage_holds}
 
 -- a fare without a rule and a season may be used for a span: there is no surface sector and no city twice, its cities,
 -- its indicator, its class and its carrier are those of the span, and the miles are not over

@@ -1,5 +1,6 @@
 -- Lawful constructions: the rules in their order, the first one that is broken, and the price where none is.
-use Rattle.std.specs.Prelude.{◌≡◌, ℕ, ◌≤◌, Bool, true, length, is_some, false, not, List, [], ◌∷◌, Option, Some, None, Result, Ok, Err, find, option_map, ◌&&◌}
+use Rattle.std.specs.Prelude.{◌≡◌, ℕ, ◌≤◌, Bool, true, length, is_some, false, not, List, [], ◌∷◌, Option, Some, None}
+use Rattle.std.specs.Prelude.{Result, Ok, Err, find, option_map, ◌&&◌}
 use Rattle.fare_trip.specs.Itinerary.{Itinerary}
 use Rattle.fare_tariff.specs.Record.{FareRecord}
 use Rattle.fare_tariff.specs.Tariff.{Tariff}
@@ -8,7 +9,8 @@ use Rattle.fare_rules.specs.declared.part.Part.{Part}
 use Rattle.fare_rules.specs.Numbers.{first_given}
 use Rattle.fare_rules.specs.Span.{holds_surface}
 use Rattle.fare_rules.specs.Terms.{stops_hold, transfers_hold, advance_holds}
-use Rattle.fare_rules.specs.ComponentAmount.{repeats_city, runs_between, has_indicator, covers_cabins, covers_carriers, in_season, mileage_holds, excess_holds, component_amount}
+use Rattle.fare_rules.specs.ComponentAmount.{repeats_city, runs_between, has_indicator, covers_cabins, covers_carriers}
+use Rattle.fare_rules.specs.ComponentAmount.{in_season, mileage_holds, excess_holds, component_amount}
 use Rattle.fare_rules.specs.Construction.{places, start_of, end_of, part_at, fare_of, uncovered, misnumbered, unfiled}
 use Rattle.fare_rules.specs.Shape.{crossed, mixed, unchained, unclosed}
 use Rattle.fare_rules.specs.Direction.{is_back}

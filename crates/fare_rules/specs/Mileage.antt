@@ -1,5 +1,6 @@
 -- Mileage: what the miles of a span ask of its fare.
-use Rattle.std.specs.Prelude.{ℕ, ◌+◌, ◌-◌, ◌*◌, Bool, List, [], ◌∷◌, Option, Some, None, zero, suc, find, unwrap_or, is_none, sum_by, nat_le, ◌==◌, if◌then◌else◌}
+use Rattle.std.specs.Prelude.{ℕ, ◌+◌, ◌-◌, ◌*◌, Bool, List, [], ◌∷◌, Option, Some, None, zero, suc, find, unwrap_or}
+use Rattle.std.specs.Prelude.{is_none, sum_by, nat_le, ◌==◌, if◌then◌else◌}
 use Rattle.fare_codes.specs.declared.indicator.Indicator.{Indicator}
 use Rattle.fare_trip.specs.Itinerary.{Itinerary, point}
 use Rattle.fare_tariff.specs.Tariff.{Tariff}

@@ -1,5 +1,6 @@
 -- Shape: how the parts of units lie in each other, and how a unit closes.
-use Rattle.std.specs.Prelude.{ℕ, ◌+◌, Bool, true, false, not, List, [], ◌∷◌, length, Option, Some, None, find, bytes_eq, nat_le, nat_lt, ◌==◌, ◌&&◌, ◌||◌}
+use Rattle.std.specs.Prelude.{ℕ, ◌+◌, Bool, true, false, not, List, [], ◌∷◌, length, Option, Some, None, find, bytes_eq}
+use Rattle.std.specs.Prelude.{nat_le, nat_lt, ◌==◌, ◌&&◌, ◌||◌}
 use Rattle.std.specs.List.{list_any}
 use Rattle.fare_codes.specs.declared.city.City.{City}
 use Rattle.fare_codes.specs.declared.country.Country.{Country}
@@ -11,7 +12,8 @@ use Rattle.fare_codes.specs.Same.{same_kind}
 use Rattle.fare_rules.specs.declared.part.Part.{Part}
 use Rattle.fare_rules.specs.Numbers.{numbers}
 use Rattle.fare_rules.specs.Indicator.{country}
-use Rattle.fare_rules.specs.Construction.{places, units, unit_of, fare_of, own, origin, last_of, but_last, start_city, end_city}
+use Rattle.fare_rules.specs.Construction.{places, units, unit_of, fare_of, own, origin, last_of, but_last, start_city}
+use Rattle.fare_rules.specs.Construction.{end_city}
 
 -- two parts belong to one unit
 abbrev pub is_same_unit : List Part → ℕ → ℕ → Bool

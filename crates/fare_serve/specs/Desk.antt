@@ -48,8 +48,8 @@ module _ (count most : ℕ) (first : BookState) (old new : World) where
       × ServesSome DeskStep count most (state first old.bodies old.faults) (state last new.bodies new.faults)
       old.door new.door
 
-  -- what is made of the book of an open store, by the answer: some connections are served where the door fails, and where
-  -- memory was wanting the door and the store are as they were
+  -- what is made of the book of an open store, by the answer: some connections are served where the door fails, and
+  -- where memory was wanting the door and the store are as they were
   abbrev pub ServesBook : {A : Type 0} → Result (Vec ℕ A) ServeFault → Type 0
   ServesBook (Ok text) = DeskServesAll text.items
   ServesBook (Err fault.Door) = DeskServesSome

@@ -66,7 +66,8 @@ module _ {H : Type 0} (step : H → List ℕ → List ℕ → List ℕ → Optio
     pub listened : ℕ
     pub asked : before.faults ≤ listened
     pub rounds : List (List Exchanged)
-    pub each : AreRounds (standing first (record before { faults = listened }) 0 0) rounds (standing last after served cut)
+    pub each :
+        AreRounds (standing first (record before { faults = listened }) 0 0) rounds (standing last after served cut)
     pub within : served + cut ≤ count
 
 -- the text of `serve`: how many exchanges were served, and how many cut off

@@ -24,8 +24,8 @@ first_view floor = view floor NO_PRICE
 abbrev pub Fits : ℕ → ℕ → View → Type 0
 Fits floor word view = (word ≤ view.least) × (view.floor ≡ floor)
 
--- there is one word; it is no less than the floor, and no more than the least number in any view; and all views know the
--- floor
+-- there is one word; it is no less than the floor, and no more than the least number in any view; and all views know
+-- the floor
 pub record IsPriceWord (floor : ℕ) (state : State (Unit {0}) View) : Type 0 where
   pub one : length state.words ≡ 1
   pub low : floor ≤ slice_index state.words 0

@@ -92,8 +92,9 @@ impl<'a> Prepared<'a> {
         }
     }
 
-    /// The best construction of the trip, with its price; nothing exactly where none is lawful. Each worker searches its
-    /// piece, once the gate has let it through, and the answer is the earliest of what they found. It takes no memory.
+    /// The best construction of the trip, with its price; nothing exactly where none is lawful. Each worker searches
+    /// its piece, once the gate has let it through, and the answer is the earliest of what they found. It takes no
+    /// memory.
     pub fn solve<R: Threads + Sync, G: Gate>(
         &mut self,
         rt: &R,

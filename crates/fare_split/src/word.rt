@@ -13,8 +13,8 @@ pub struct View {
     pub least: u64,
 }
 
-/// The rule of the word: it is `NO_PRICE` or the least of some prices of lawful constructions, and no more than any seat
-/// knows.
+/// The rule of the word: it is `NO_PRICE` or the least of some prices of lawful constructions, and no more than any
+/// seat knows.
 pub(crate) struct PriceRule;
 
 impl<'a> TableRule<(), View, Table<'a>> for PriceRule {

@@ -11,8 +11,21 @@ abbrev pub edition_table : Table
 edition_table = record {
   name = codes "edition";
   tree = 0;
-  columns = (record { name = codes "place"; kind = Integer; is_strict = false; not_null = false; default = Null; collation = Binary })
-      ∷ (record { name = codes "body"; kind = Any; is_strict = false; not_null = true; default = Null; collation = Binary }) ∷ [];
+  columns = (record {
+    name = codes "place";
+    kind = Integer;
+    is_strict = false;
+    not_null = false;
+    default = Null;
+    collation = Binary;
+  }) ∷ (record {
+    name = codes "body";
+    kind = Any;
+    is_strict = false;
+    not_null = true;
+    default = Null;
+    collation = Binary;
+  }) ∷ [];
   key = Some 0;
   primary = 0 ∷ [];
   uniques = [];

@@ -6,7 +6,8 @@ use Rattle.sqlite.specs.Files.{file_state}
 use Rattle.fare_sqlite.specs.Kept.{kept}
 use Rattle.fare_sqlite.specs.State.{KeeperState}
 
--- of a keeper over a file: its bodies, where they are told, whether it was opened, and how many of its calls have failed
+-- of a keeper over a file: its bodies, where they are told, whether it was opened, and how many of its calls have
+-- failed
 pub record FileState : Type 0 where
   pub bodies : Option (List (List ℕ))
   pub is_ready : Bool

@@ -39,12 +39,14 @@ is_any Blob = false
 -- the column `place`
 abbrev pub is_place : Column → Bool
 is_place c =
-    bytes_eq c.name (codes "place") && is_integer c.kind && not c.is_strict && not c.not_null && is_null c.default && is_binary c.collation
+    bytes_eq c.name (codes "place") && is_integer c.kind && not c.is_strict && not c.not_null
+    && is_null c.default && is_binary c.collation
 
 -- the column `body`
 abbrev pub is_body : Column → Bool
 is_body c =
-    bytes_eq c.name (codes "body") && is_any c.kind && not c.is_strict && c.not_null && is_null c.default && is_binary c.collation
+    bytes_eq c.name (codes "body") && is_any c.kind && not c.is_strict && c.not_null
+    && is_null c.default && is_binary c.collation
 
 -- these two columns
 abbrev pub are_columns : List Column → Bool

@@ -1,6 +1,7 @@
 //! The statements on the table, each a call of its own.
 
-ghost use Rattle.std.specs.Prelude.{◌≡◌, ◌<◌, ◌≤◌, ◌+◌, ◌-◌, pos, length, slice_set, ◌++◌, ◌∷◌, [], true, Some, IfOk, IfSome, IsTrue, OnOk, OnErr};
+ghost use Rattle.std.specs.Prelude.{◌≡◌, ◌<◌, ◌≤◌, ◌+◌, ◌-◌, pos, length, slice_set, ◌++◌, ◌∷◌, [], true, Some, IfOk};
+ghost use Rattle.std.specs.Prelude.{IfSome, IsTrue, OnOk, OnErr};
 ghost use Rattle.std.specs.List.{filter};
 ghost use Rattle.std.specs.Option.{ForSome};
 ghost use Rattle.sqlite.specs.Held.{state};
@@ -10,7 +11,8 @@ ghost use Rattle.sqlite_value.specs.Order.{column};
 ghost use Rattle.fare_sqlite.specs.Bodies.{has_no_body, rows_at};
 ghost use Rattle.fare_outside.specs.Keeper.{BodiesStay, BodyAppended, BodyReplaced, HasPlace, ToldAfter};
 ghost use Rattle.fare_outside.specs.Keeper.{WhereTold, body_at};
-ghost use Rattle.fare_sqlite.specs.Kept.{HasTable, IsSettled, LeavesAsBefore, LeavesJust, LeavesOr, Speaks, Stays, kept, rows_of};
+ghost use Rattle.fare_sqlite.specs.Kept.{HasTable, IsSettled, LeavesAsBefore, LeavesJust, LeavesOr, Speaks, Stays};
+ghost use Rattle.fare_sqlite.specs.Kept.{kept, rows_of};
 ghost use Rattle.fare_sqlite.specs.Ours.{is_blank};
 
 use crate::count::fault_of;

@@ -1,5 +1,5 @@
-//! What a store holds after its disks stopped in the middle of a publication or of a migration: over disks in memory that
-//! pass so many calls on and no more. The crate has tests and nothing else.
+//! What a store holds after its disks stopped in the middle of a publication or of a migration: over disks in memory
+//! that pass so many calls on and no more. The crate has tests and nothing else.
 #![tactic(auto)]
 
 #[cfg(test)]

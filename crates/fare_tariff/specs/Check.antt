@@ -1,5 +1,7 @@
 -- What makes a list of records no edition: the check kinds of a record, and the fault of the least record.
-use Rattle.std.specs.Prelude.{ℕ, ◌+◌, ◌<◌, ◌≤◌, ◌≡◌, Bool, true, false, List, [], ◌∷◌, length, take, Option, Some, None, is_some, is_none, option_map, position, count_by, Result, Ok, Err, bytes_eq, ◌&&◌, ◌||◌, ◌==◌, nat_le, nat_lt, if◌then◌else◌}
+use Rattle.std.specs.Prelude.{ℕ, ◌+◌, ◌<◌, ◌≤◌, ◌≡◌, Bool, true, false, List, [], ◌∷◌, length, take, Option, Some, None}
+use Rattle.std.specs.Prelude.{is_some, is_none, option_map, position, count_by, Result, Ok, Err, bytes_eq, ◌&&◌, ◌||◌}
+use Rattle.std.specs.Prelude.{◌==◌, nat_le, nat_lt, if◌then◌else◌}
 use Rattle.std.specs.List.{list_any, list_all}
 use Rattle.std.specs.Option.{option_or, option_to_list}
 use Rattle.fare_codes.specs.declared.city.City.{City}
@@ -16,12 +18,15 @@ use Rattle.fare_tariff.specs.declared.records.record.Record.{Record}
 use Rattle.fare_tariff.specs.declared.records.record.Record.TheVariants as filed
 use Rattle.fare_tariff.specs.declared.records.fare_key.FareKey.{FareKey}
 use Rattle.fare_tariff.specs.declared.check.check_kind.CheckKind.{CheckKind}
-use Rattle.fare_tariff.specs.declared.check.check_kind.CheckKind.TheVariants.{Duplicate, UnknownCity, UnknownRule, UnknownCurrency, TooManyFares, SamePoint, ZeroMileage, OutOfLimit, Overlap}
+use Rattle.fare_tariff.specs.declared.check.check_kind.CheckKind.TheVariants.{Duplicate, UnknownCity, UnknownRule}
+use Rattle.fare_tariff.specs.declared.check.check_kind.CheckKind.TheVariants.{UnknownCurrency, TooManyFares, SamePoint}
+use Rattle.fare_tariff.specs.declared.check.check_kind.CheckKind.TheVariants.{ZeroMileage, OutOfLimit, Overlap}
 use Rattle.fare_tariff.specs.declared.check.check_fault.CheckFault.{CheckFault}
 use Rattle.fare_tariff.specs.declared.check.check_fault.CheckFault.TheVariants.{At}
 use Rattle.fare_tariff.specs.Record.{FareRecord}
 use Rattle.fare_tariff.specs.Tariff.{Tariff}
-use Rattle.fare_tariff.specs.Lookup.{first_some, same_pair, same_via, city_in, currency_in, has_key, rule_in, mpm_in, tpm_in, number_at, is_fare_between}
+use Rattle.fare_tariff.specs.Lookup.{first_some, same_pair, same_via, city_in, currency_in, has_key, rule_in, mpm_in}
+use Rattle.fare_tariff.specs.Lookup.{tpm_in, number_at, is_fare_between}
 
 -- the key of a filed fare without its season
 abbrev pub key_of : FareRecord → FareKey

@@ -1,5 +1,6 @@
 -- The first fault of a list, by the place of the first record that has a kind.
-use Rattle.std.specs.Prelude.{ℕ, Bool, List, Option, length, position, count_by, nat_le, ◌||◌, take, is_some, option_and_then, slice_get}
+use Rattle.std.specs.Prelude.{ℕ, Bool, List, Option, length, position, count_by, nat_le, ◌||◌, take, is_some}
+use Rattle.std.specs.Prelude.{option_and_then, slice_get}
 use Rattle.std.specs.List.{position_from, range_with_len}
 use Rattle.fare_tariff.specs.declared.records.record.Record.{Record}
 use Rattle.fare_tariff.specs.declared.records.record.Record.TheVariants as filed
@@ -8,7 +9,9 @@ use Rattle.fare_codes.specs.declared.season.Season.{Season}
 use Rattle.fare_tariff.specs.declared.limits.TheConstants.{MOST_FARES_BETWEEN}
 use Rattle.fare_tariff.specs.declared.records.fare_key.FareKey.{FareKey}
 use Rattle.fare_tariff.specs.Lookup.{is_fare_between}
-use Rattle.fare_tariff.specs.Check.{kind_of, fault_at, first_number, has_key_of, has_same_points, is_fare_over, is_zero_mileage, key_of, names_unknown_city, names_unknown_rule, names_unknown_currency}
+use Rattle.fare_tariff.specs.Check.{kind_of, fault_at, first_number, has_key_of, has_same_points, is_fare_over}
+use Rattle.fare_tariff.specs.Check.{is_zero_mileage, key_of, names_unknown_city, names_unknown_rule}
+use Rattle.fare_tariff.specs.Check.{names_unknown_currency}
 
 -- the record at a place has a kind
 abbrev pub has_kind_at : List Record → ℕ → Bool
@@ -22,7 +25,8 @@ fault_of records place = option_and_then (fault_at records place) (slice_get rec
 abbrev pub first_faulty : List Record → Option ℕ
 first_faulty records = position_from (has_kind_at records) 0 (range_with_len 0 (length records))
 
--- one of the earlier fares has a key and overlaps a season, or as many as there may be have its cities and its indicator
+-- one of the earlier fares has a key and overlaps a season, or as many as there may be have its cities and its
+-- indicator
 abbrev pub clashes : List Record → FareKey → Season → Bool
 clashes earlier key season =
     is_some (position (is_fare_over key season) earlier)
@@ -35,7 +39,8 @@ clash_of earlier one = is_some (first_number (has_key_of one) earlier)
 
 -- a record names a city, a rule or a country that isn't filed
 abbrev pub names_unknown : List Record → Record → Bool
-names_unknown records one = names_unknown_city records one || (names_unknown_rule records one || names_unknown_currency records one)
+names_unknown records one =
+    names_unknown_city records one || (names_unknown_rule records one || names_unknown_currency records one)
 
 -- one of the tests of a record in the limit is true
 abbrev pub is_faulty : List Record → List Record → Record → Bool

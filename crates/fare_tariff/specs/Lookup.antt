@@ -1,5 +1,6 @@
 -- The look-ups of an edition: each searches its one list of records.
-use Rattle.std.specs.Prelude.{ℕ, ◌+◌, ◌-◌, Bool, true, false, List, [], ◌∷◌, Option, Some, None, option_map, option_and_then, position, slice_get, bytes_eq, ◌&&◌, ◌||◌, nat_le, max, if◌then◌else◌}
+use Rattle.std.specs.Prelude.{ℕ, ◌+◌, ◌-◌, Bool, true, false, List, [], ◌∷◌, Option, Some, None, option_map}
+use Rattle.std.specs.Prelude.{option_and_then, position, slice_get, bytes_eq, ◌&&◌, ◌||◌, nat_le, max, if◌then◌else◌}
 use Rattle.std.specs.List.{list_any}
 use Rattle.std.specs.Option.{option_or}
 use Rattle.fare_codes.specs.declared.city.City.{City}
@@ -202,7 +203,7 @@ abbrev pub greatest : (Record → ℕ) → List Record → ℕ
 greatest measure [] = 0
 greatest measure (one ∷ records) = max (measure one) (greatest measure records)
 
--- the greatest extra mileage allowance of an unordered pair of cities and an indicator that is filed for every way or by
--- way of one of some cities
+-- the greatest extra mileage allowance of an unordered pair of cities and an indicator that is filed for every way or
+-- by way of one of some cities
 abbrev pub allowance : Tariff → City → City → Indicator → List City → ℕ
 allowance tariff a b ind cities = greatest (allowance_in a b ind cities) tariff.records

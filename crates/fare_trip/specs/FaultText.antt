@@ -1,9 +1,11 @@
 -- The texts of faults, each without the LF that ends its line.
 use Rattle.std.specs.Prelude.{ℕ, List, [], ◌++◌, codes, decimal}
 use Rattle.fare_trip.specs.declared.fault.Member.{Member}
-use Rattle.fare_trip.specs.declared.fault.Member.TheVariants.{Trip, Sale, From, Sectors, Sector, To, Carrier, Day, Cabin, Over, Stop, Surface}
+use Rattle.fare_trip.specs.declared.fault.Member.TheVariants.{Trip, Sale, From, Sectors, Sector, To, Carrier, Day}
+use Rattle.fare_trip.specs.declared.fault.Member.TheVariants.{Cabin, Over, Stop, Surface}
 use Rattle.fare_trip.specs.declared.fault.TripFault.{TripFault}
-use Rattle.fare_trip.specs.declared.fault.TripFault.TheVariants.{Memory, NotJson, Missing, Bad, NoSectors, TooMany, SameCity, DatesFall, SurfacePlace}
+use Rattle.fare_trip.specs.declared.fault.TripFault.TheVariants.{Memory, NotJson, Missing, Bad, NoSectors, TooMany}
+use Rattle.fare_trip.specs.declared.fault.TripFault.TheVariants.{SameCity, DatesFall, SurfacePlace}
 
 -- a member's name is written in small letters
 abbrev pub member_name : Member → List ℕ

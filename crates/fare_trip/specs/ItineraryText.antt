@@ -1,5 +1,6 @@
 -- The text of an itinerary: a JSON object, which JSON values stand for a trip, and the first fault of those that don't.
-use Rattle.std.specs.Prelude.{ℕ, ◌+◌, Bool, true, false, List, [], ◌∷◌, codes, Option, Some, None, option_and_then, is_some, Result, Ok, Err, ◌==◌, nat_lt, if◌then◌else◌}
+use Rattle.std.specs.Prelude.{ℕ, ◌+◌, Bool, true, false, List, [], ◌∷◌, codes, Option, Some, None, option_and_then}
+use Rattle.std.specs.Prelude.{is_some, Result, Ok, Err, ◌==◌, nat_lt, if◌then◌else◌}
 use Rattle.std.specs.Str.{is_utf8}
 use Rattle.serde_json.specs.Data.{Data, Items, no_items, item}
 use Rattle.serde_json.specs.Events.{items_len}
@@ -50,7 +51,8 @@ over_member number found = optional (string_in read_over) Unmarked member.Over n
 unfoldable pub flag_member : Bool → Member → ℕ → Option Data → Result Bool TripFault
 flag_member absent member number found = optional as_bool absent member number found
 
--- the members of a sector, in the order in which their faults come: absent `stop` means a stopover, absent `surface` a flown sector
+-- the members of a sector, in the order in which their faults come: absent `stop` means a stopover, absent `surface` a
+-- flown sector
 unfoldable pub sector_members : ℕ → Data → Result Sector TripFault
 sector_members number value = do
   to ← city_member member.To number (get (codes "to") value)

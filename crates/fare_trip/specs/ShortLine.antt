@@ -1,5 +1,6 @@
 -- The short line: an itinerary of one sector in one line of text.
-use Rattle.std.specs.Prelude.{ℕ, ◌-◌, Bool, List, [], ◌∷◌, length, codes, take, Result, Ok, Err, ◌==◌, ◌&&◌, nat_lt, bytes_eq, slice_index, slice_index_or, false, true, if◌then◌else◌}
+use Rattle.std.specs.Prelude.{ℕ, ◌-◌, Bool, List, [], ◌∷◌, length, codes, take, Result, Ok, Err, ◌==◌, ◌&&◌, nat_lt}
+use Rattle.std.specs.Prelude.{bytes_eq, slice_index, slice_index_or, false, true, if◌then◌else◌}
 use Rattle.std.specs.List.{slice_split}
 use Rattle.fare_codes.specs.declared.over.Over.TheVariants.{Unmarked}
 use Rattle.fare_codes.specs.Codes.{read_city, read_carrier}
@@ -44,7 +45,9 @@ unfoldable pub short_trip : List (List ℕ) → Result Itinerary TripFault
 short_trip texts = do
   sale ← or_bad member.Sale 0 (read_day (slice_index_or texts 1 []))
   from ← or_bad member.From 0 (read_city (slice_index_or texts 2 []))
-  flown ← short_sector (slice_index_or texts 3 []) (slice_index_or texts 4 []) (slice_index_or texts 5 []) (slice_index_or texts 6 [])
+  flown ←
+      short_sector (slice_index_or texts 3 []) (slice_index_or texts 4 []) (slice_index_or texts 5 [])
+      (slice_index_or texts 6 [])
   make_trip sale from (flown ∷ [])
 
 -- the trip that a short line stands for, or its first fault

@@ -1,5 +1,6 @@
 -- Which sale days, cities and sectors make a trip, and the first fault of those that make none.
-use Rattle.std.specs.Prelude.{◌≡◌, ◌≢◌, ◌≤◌, ◌<◌, ℕ, ◌+◌, ◌-◌, Bool, true, false, List, [], ◌∷◌, length, Option, Some, None, Result, Ok, Err, ◌==◌, ◌&&◌, ◌||◌, nat_lt, bytes_eq, min, if◌then◌else◌}
+use Rattle.std.specs.Prelude.{◌≡◌, ◌≢◌, ◌≤◌, ◌<◌, ℕ, ◌+◌, ◌-◌, Bool, true, false, List, [], ◌∷◌, length, Option, Some}
+use Rattle.std.specs.Prelude.{None, Result, Ok, Err, ◌==◌, ◌&&◌, ◌||◌, nat_lt, bytes_eq, min, if◌then◌else◌}
 use Rattle.std.specs.Option.{option_or}
 use Rattle.fare_codes.specs.declared.city.City.{City}
 use Rattle.fare_codes.specs.declared.day.Day.{Day}
@@ -18,7 +19,8 @@ abbrev pub is_misplaced : ℕ → ℕ → Bool → Sector → Bool
 is_misplaced total number behind_surface sector =
     sector.surface && ((number == 1) || (number == total) || behind_surface)
 
--- the first fault of the sector of a number: it ends where it begins, its day falls, or it is a surface sector out of place
+-- the first fault of the sector of a number: it ends where it begins, its day falls, or it is a surface sector out of
+-- place
 abbrev pub sector_fault : ℕ → ℕ → City → Day → Bool → Sector → Option TripFault
 sector_fault total number city day behind_surface sector =
     if bytes_eq sector.to city then Some (fault.SameCity number)
@@ -55,7 +57,9 @@ pub record IsTrip (trip : Itinerary) : Type 0 where
   pub some : 1 ≤ count trip
   pub at_most : count trip ≤ 16
   pub points_differ : (number : ℕ) → 1 ≤ number → number ≤ count trip → point trip (number - 1) ≢ point trip number
-  pub days_never_fall : (number : ℕ) → 1 ≤ number → number ≤ count trip → day_number (day_before trip number) ≤ day_number (sector trip number).day
+  pub days_never_fall : (number : ℕ) → 1 ≤ number → number ≤ count trip
+      → day_number (day_before trip number) ≤ day_number (sector trip number).day
   pub first_flown : (sector trip 1).surface ≡ false
   pub last_flown : (sector trip (count trip)).surface ≡ false
-  pub surfaces_apart : (number : ℕ) → 1 ≤ number → number < count trip → (sector trip number).surface ≡ true → (sector trip (number + 1)).surface ≡ false
+  pub surfaces_apart : (number : ℕ) → 1 ≤ number → number < count trip
+      → (sector trip number).surface ≡ true → (sector trip (number + 1)).surface ≡ false

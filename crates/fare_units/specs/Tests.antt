@@ -6,13 +6,15 @@ use Rattle.fare_tariff.specs.Tariff.{Tariff}
 use Rattle.fare_rules.specs.declared.part.Part.{Part}
 use Rattle.fare_rules.specs.Span.{holds_surface}
 use Rattle.fare_rules.specs.Terms.{stops_hold, transfers_hold, advance_holds}
-use Rattle.fare_rules.specs.ComponentAmount.{repeats_city, has_indicator, covers_cabins, covers_carriers, in_season, mileage_holds, excess_holds}
+use Rattle.fare_rules.specs.ComponentAmount.{repeats_city, has_indicator, covers_cabins, covers_carriers, in_season}
+use Rattle.fare_rules.specs.ComponentAmount.{mileage_holds, excess_holds}
 use Rattle.fare_rules.specs.Construction.{start_of, end_of, fare_of}
 use Rattle.fare_rules.specs.Lawful.{fails}
 use Rattle.fare_rules.specs.Shape.{is_mixed, is_unchained, is_unclosed}
 use Rattle.fare_rules.specs.UnitRules.{is_mistimed, is_misfitted}
 use Rattle.fare_units.specs.declared.rules.part_rules.FareRule.{FareRule}
-use Rattle.fare_units.specs.declared.rules.part_rules.FareRule.TheVariants.{Indicator, Cabin, Carrier, Stops, Transfers, Advance, Excess}
+use Rattle.fare_units.specs.declared.rules.part_rules.FareRule.TheVariants.{Indicator, Cabin, Carrier, Stops, Transfers}
+use Rattle.fare_units.specs.declared.rules.part_rules.FareRule.TheVariants.{Advance, Excess}
 use Rattle.fare_units.specs.declared.rules.part_rules.PartRule.{PartRule}
 use Rattle.fare_units.specs.declared.rules.part_rules.PartRule.TheVariants.{Distinct, Fare, Mileage, Surface, Season}
 use Rattle.fare_units.specs.declared.rules.unit_rules.UnitRule.{UnitRule}

@@ -7,8 +7,8 @@ use Rattle.fares.specs.DrillOutcome.{IsDrill}
 use Rattle.fares.specs.declared.words.Request.{Request}
 use Rattle.fares.specs.declared.words.Request.TheVariants as request
 
--- what a command asks for: `price`, `publish`, `list`, `export`, `quote`, `drill` and `serve` are there, for any number of
--- workers and without `--best`, and every other one is missing
+-- what a command asks for: `price`, `publish`, `list`, `export`, `quote`, `drill` and `serve` are there, for any number
+-- of workers and without `--best`, and every other one is missing
 abbrev pub request_of : Option Command → Request
 request_of None = request.Nothing
 request_of (Some (command.Price workers None)) = request.Price

@@ -17,8 +17,8 @@ pub record ServesNobody (old new : World) : Type 0 where
   pub door : new.door ≡ old.door
   pub bodies : WhereTold old.bodies new.bodies BodiesStay
 
--- a store was opened, which left its bodies, and a settled book of its editions restored; this holds of that book, and of
--- what was told then
+-- a store was opened, which left its bodies, and a settled book of its editions restored; this holds of that book, and
+-- of what was told then
 pub record Opens (old : World) (Serves : BookState → World → Type 0) : Type 0 where
   pub bodies : Told
   pub faults : ℕ
@@ -63,5 +63,6 @@ ServesRequest other old new result = ⊤
 
 -- what a run makes of the store, the door and the sink; only `serve` is spoken of
 abbrev pub EndsServing : Request → World → World → Exit → Option (List ℕ) → Option (List ℕ) → Type 0
-EndsServing (request.Serve store port count round) old new exit before after = EndsServe count round old new exit before after
+EndsServing (request.Serve store port count round) old new exit before after =
+    EndsServe count round old new exit before after
 EndsServing other old new exit before after = ⊤

@@ -27,8 +27,8 @@ use std::thread::Threads;
 /// define, or in want of memory, `ReadFault`, `KeeperFault` or `WriteFault`; these three come only where the source's,
 /// the store's and the sink's count rose in this call. All text is built before the first write, so the sink is left
 /// alone on every end but `Done` and `WriteFault`, which leave the same store. Only `publish` changes the bodies of the
-/// store, by the text of one edition, and `serve`, by the publications that it answers; a run that ends in want of memory
-/// has stored nothing.
+/// store, by the text of one edition, and `serve`, by the publications that it answers; a run that ends in want of
+/// memory has stored nothing.
 ///
 /// `serve` lets connections in by the door, which may hold none, and answers them in rounds over the book of the store.
 /// It is the only command that touches the door, and lets nobody in where it ends in anything but `Done`, `WriteFault`

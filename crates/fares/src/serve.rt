@@ -17,8 +17,8 @@ use fare_serve::{Service, serve as serve_book};
 use std::alloc::Global;
 use std::thread::Threads;
 
-/// Serves connections over the book of a store, and answers how many were served and cut off. The store is opened before
-/// the door is asked to listen.
+/// Serves connections over the book of a store, and answers how many were served and cut off. The store is opened
+/// before the door is asked to listen.
 pub fn serve<R: Threads + Sync, P: Keeper, D: Door>(
     rt: &R,
     alloc: Global,

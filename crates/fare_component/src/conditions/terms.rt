@@ -2,7 +2,8 @@
 
 ghost use Rattle.std.specs.Prelude.{◌≡◌, ◌<◌, ◌≤◌, ◌&&◌, Some};
 ghost use Rattle.fare_trip.specs.Itinerary.{count};
-ghost use Rattle.fare_rules.specs.Terms.{allows_surcharge, terms_of_fare, stops_hold, transfers_hold, advance_days, advance_holds};
+ghost use Rattle.fare_rules.specs.Terms.{allows_surcharge, terms_of_fare, stops_hold, transfers_hold, advance_days};
+ghost use Rattle.fare_rules.specs.Terms.{advance_holds};
 ghost use Rattle.fare_rules.specs.ComponentAmount.{is_allowed};
 
 use crate::conditions::spans::{stopovers, transfers};

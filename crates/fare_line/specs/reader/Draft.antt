@@ -1,5 +1,6 @@
 -- A line as far as its text is read, piece by piece.
-use Rattle.std.specs.Prelude.{◌≡◌, ◌<◌, ◌≤◌, ℕ, zero, suc, ◌+◌, Bool, true, List, [], ◌∷◌, ◌++◌, length, Option, Some, None, is_some, is_none, Result, Ok, Err, ◌==◌, ◌||◌, nat_lt, if◌then◌else◌}
+use Rattle.std.specs.Prelude.{◌≡◌, ◌<◌, ◌≤◌, ℕ, zero, suc, ◌+◌, Bool, true, List, [], ◌∷◌, ◌++◌, length, Option, Some}
+use Rattle.std.specs.Prelude.{None, is_some, is_none, Result, Ok, Err, ◌==◌, ◌||◌, nat_lt, if◌then◌else◌}
 use Rattle.std.specs.List.{list_all}
 use Rattle.fare_codes.specs.Codes.{is_city}
 use Rattle.fare_codes.specs.declared.city.City.{City}
@@ -9,12 +10,13 @@ use Rattle.fare_line.specs.declared.line.plus_up.PlusUp.{PlusUp}
 use Rattle.fare_line.specs.declared.reading.pieces.Totals.{Totals}
 use Rattle.fare_line.specs.declared.reading.pieces.Piece.{Piece}
 use Rattle.fare_line.specs.declared.reading.pieces.Piece.TheVariants.{Sector, Part, Gap, Plus, End}
-use Rattle.fare_line.specs.Line.{CalculationLine, are_parts, gap_count, is_amount, is_flown, is_gap, is_plus, is_priced, is_rate}
+use Rattle.fare_line.specs.Line.{CalculationLine, are_parts, gap_count, is_amount, is_flown, is_gap, is_plus, is_priced}
+use Rattle.fare_line.specs.Line.{is_rate}
 use Rattle.fare_line.specs.reader.Reading.{◌>>=◌, either, spaced_city_at}
 use Rattle.fare_line.specs.reader.Pieces.{gap_at, plus_at, price_at, sector_at, totals_at}
 
--- a line as far as it is read: its first city, the sectors of the parts that are read and how many sectors end with them,
--- gaps counted, the gap and the sectors of the part at hand, and the plus-ups
+-- a line as far as it is read: its first city, the sectors of the parts that are read and how many sectors end with
+-- them, gaps counted, the gap and the sectors of the part at hand, and the plus-ups
 pub record DraftLine : Type 0 where
   pub from : City
   pub closed : List LineSector
@@ -76,7 +78,13 @@ Allowed d (End totals) = (is_amount totals.total ≡ true) × (is_rate totals.ro
 abbrev pub with_piece : DraftLine → Piece → DraftLine
 with_piece d (Sector sector) = record d { pending = d.pending ++ sector ∷ [] }
 with_piece d (Part part) =
-    record d { closed = d.closed ++ d.pending; parts = d.parts ++ part ∷ []; begun = part.end; gap = None; pending = [] }
+    record d {
+      closed = d.closed ++ d.pending;
+      parts = d.parts ++ part ∷ [];
+      begun = part.end;
+      gap = None;
+      pending = [];
+    }
 with_piece d (Gap city) = record d { gap = Some city }
 with_piece d (Plus plus) = record d { plus = d.plus ++ plus ∷ [] }
 with_piece d (End totals) = d

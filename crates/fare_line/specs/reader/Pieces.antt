@@ -1,5 +1,6 @@
 -- How the pieces of a line's text are read.
-use Rattle.std.specs.Prelude.{ℕ, zero, suc, ◌*◌, Bool, true, false, List, [], ◌∷◌, ◌++◌, length, Option, Some, None, Result, Ok, ◌&&◌, nat_lt, codes, if◌then◌else◌}
+use Rattle.std.specs.Prelude.{ℕ, zero, suc, ◌*◌, Bool, true, false, List, [], ◌∷◌, ◌++◌, length, Option, Some, None}
+use Rattle.std.specs.Prelude.{Result, Ok, ◌&&◌, nat_lt, codes, if◌then◌else◌}
 use Rattle.fare_codes.specs.Codes.{is_code_character}
 use Rattle.fare_codes.specs.declared.cabin.Cabin.{Cabin}
 use Rattle.fare_codes.specs.declared.cabin.Cabin.TheVariants.{F, C, Y}
@@ -17,7 +18,8 @@ use Rattle.fare_line.specs.declared.line.plus_up.PlusUp.{PlusUp}
 use Rattle.fare_line.specs.declared.reading.marks.Mark.{Mark}
 use Rattle.fare_line.specs.declared.reading.marks.Tag.{Tag}
 use Rattle.fare_line.specs.declared.reading.pieces.Totals.{Totals}
-use Rattle.fare_line.specs.reader.Reading.{◌>>=◌, either, byte_at, word_at, one_of, scan, city_at, spaced_city_at, carrier_at, amount_at, rate_at, unit_at}
+use Rattle.fare_line.specs.reader.Reading.{◌>>=◌, either, byte_at, word_at, one_of, scan, city_at, spaced_city_at}
+use Rattle.fare_line.specs.reader.Reading.{carrier_at, amount_at, rate_at, unit_at}
 
 -- a sector of a carrier, to a city that is a transfer or none
 unfoldable pub sector_to : Carrier → Bool → List ℕ → Result (LineSector × List ℕ) ℕ

@@ -1,12 +1,15 @@
--- How the front of a text is read: a reading is a value and the text behind it, or how many bytes are left where no text goes on.
-use Rattle.std.specs.Prelude.{ℕ, suc, ◌+◌, ◌-◌, ◌*◌, ◌≡◌, min, Bool, List, [], ◌∷◌, length, Option, Some, None, Result, Ok, Err, ◌==◌, ◌&&◌, nat_le, nat_lt, codes, if◌then◌else◌}
+-- How the front of a text is read: a reading is a value and the text behind it, or how many bytes are left where no
+-- text goes on.
+use Rattle.std.specs.Prelude.{ℕ, suc, ◌+◌, ◌-◌, ◌*◌, ◌≡◌, min, Bool, List, [], ◌∷◌, length, Option, Some, None, Result}
+use Rattle.std.specs.Prelude.{Ok, Err, ◌==◌, ◌&&◌, nat_le, nat_lt, codes, if◌then◌else◌}
 use Rattle.std.specs.Char.{is_ascii_uppercase, is_ascii_digit}
 use Rattle.fare_codes.specs.Codes.{is_code_character}
 use Rattle.fare_codes.specs.declared.city.City.{City}
 use Rattle.fare_codes.specs.declared.carrier.Carrier.{Carrier}
 use Rattle.fare_line.specs.declared.reading.cursor.Cursor.{Cursor}
 use Rattle.fare_line.specs.declared.reading.byte_kind.ByteKind.{ByteKind}
-use Rattle.fare_line.specs.declared.reading.byte_kind.ByteKind.TheVariants.{Uppercase, CodeCharacter, Digit, This, Among}
+use Rattle.fare_line.specs.declared.reading.byte_kind.ByteKind.TheVariants.{Uppercase, CodeCharacter, Digit, This}
+use Rattle.fare_line.specs.declared.reading.byte_kind.ByteKind.TheVariants.{Among}
 
 -- what a function returned and the text that it left are what the reading gives
 abbrev pub Gives : {X : Type 0} → Result X ℕ → List ℕ → Result (X × List ℕ) ℕ → Type 0
@@ -133,8 +136,8 @@ rate_at bytes = do
 -- the units behind the first, each with its space
 abbrev pub later_units : List (List ℕ)
 later_units =
-    codes "2 " ∷ codes "3 " ∷ codes "4 " ∷ codes "5 " ∷ codes "6 " ∷ codes "7 " ∷ codes "8 " ∷ codes "9 " ∷ codes "10 " ∷ codes "11 "
-    ∷ codes "12 " ∷ codes "13 " ∷ codes "14 " ∷ codes "15 " ∷ codes "16 " ∷ []
+    codes "2 " ∷ codes "3 " ∷ codes "4 " ∷ codes "5 " ∷ codes "6 " ∷ codes "7 " ∷ codes "8 " ∷ codes "9 " ∷ codes "10 "
+    ∷ codes "11 " ∷ codes "12 " ∷ codes "13 " ∷ codes "14 " ∷ codes "15 " ∷ codes "16 " ∷ []
 
 -- a unit and a space
 unfoldable pub unit_at : List ℕ → Result (ℕ × List ℕ) ℕ

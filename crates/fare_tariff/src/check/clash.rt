@@ -1,5 +1,5 @@
-//! Whether a record clashes with those before it. For a fare it is found in one walk over the fares of its cities and its
-//! indicator, which ends at the fare or at the limit.
+//! Whether a record clashes with those before it. For a fare it is found in one walk over the fares of its cities and
+//! its indicator, which ends at the fare or at the limit.
 
 ghost use Rattle.std.specs.Prelude.{◌≡◌, ◌≤◌, take};
 ghost use Rattle.fare_tariff.specs.Faulty.{clashes, clash_of};
@@ -12,8 +12,8 @@ use crate::records::{FareKey, Record};
 use fare_codes::Season;
 use fare_index::Key;
 
-/// Whether a fare before a place has a key and a season that overlaps a season, or as many fares before the place as there
-/// may be have the cities and the indicator of the key.
+/// Whether a fare before a place has a key and a season that overlaps a season, or as many fares before the place as
+/// there may be have the cities and the indicator of the key.
 fn clashes(filed: &Filed, place: usize, key: &FareKey, season: Season) -> bool
     ensures { result ≡ clashes (take place filed.now) key.now season }
 {

@@ -24,8 +24,8 @@ pub(crate) fn is_shut(edition: &Edition, trip: &Trip, parts: &[Part], own: &[usi
         || has_gap_before(edition, trip, parts, own)
 }
 
-/// The price of a unit of the first parts of a construction, where it is shut: it holds a one way fare, or closes, or is
-/// an open jaw whose gap lies before its second part; nothing exactly where it isn't.
+/// The price of a unit of the first parts of a construction, where it is shut: it holds a one way fare, or closes, or
+/// is an open jaw whose gap lies before its second part; nothing exactly where it isn't.
 #[tactic(auto, using(crate::proofs::ShutLemmas::shut_has_parts))]
 pub fn shut_price(edition: &Edition, trip: &Trip, parts: &[Part], unit: usize) -> Option<u64>
     requires few { length parts.now ≤ MOST_PARTS }
