@@ -6,3 +6,5 @@ pub mod Changes
 pub mod Schemas
 pub mod States
 pub mod Steps
+pub mod Crashes
+pub mod Clauses

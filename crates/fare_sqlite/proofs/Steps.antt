@@ -1,8 +1,7 @@
--- What the statements leave of a connection that keeps bodies.
-use Rattle.std.proofs.Common.{◌≡◌, ◌⊎◌, ◌∙◌, ◌<◌, ◌+◌, ◌-◌, inl, inr, ℕ, ℤ, pos, min, List, [], ◌∷◌, ◌++◌, length, get_or, Bool, true, false, Option, Some, None, Result, Ok, Err, MatchBool, IfSome, OnOk, IsTrue, refl, sym, ap, subst, subst₂, append-nil, arith, slice_set}
+-- What the statements make of the bodies of a connection that keeps some.
+use Rattle.std.proofs.Common.{◌≡◌, ◌∙◌, ◌<◌, ◌+◌, ◌-◌, inl, inr, ℕ, ℤ, pos, List, [], ◌∷◌, ◌++◌, length, get_or, Bool, true, false, Option, Some, None, Ok, Err, MatchBool, IsTrue, refl, sym, ap, subst, subst₂, append-nil, arith, slice_set}
 use Rattle.std.specs.List.{All, filter}
 use Rattle.std.specs.Option.{ForSome}
-use Rattle.std.proofs.lemmas.Option.{slice_get-get_or}
 use Rattle.std.proofs.lemmas.List.Elements.{filter_agree, filter_passes}
 use Rattle.sqlite_value.specs.declared.value.Value.{Value}
 use Rattle.sqlite_value.specs.declared.value.Value.TheVariants as value
@@ -13,8 +12,6 @@ use Rattle.sqlite_schema.specs.declared.command.Command.{Command}
 use Rattle.sqlite_schema.specs.declared.command.Command.TheVariants as command
 use Rattle.sqlite_schema.specs.declared.command.Command.TheVariants.{CreateTable, Insert, Update, Commit, Release}
 use Rattle.sqlite_schema.specs.declared.command.Returning.{Returning}
-use Rattle.sqlite_schema.specs.declared.command.Source.{Source}
-use Rattle.sqlite_schema.specs.declared.program.Program.{Program}
 use Rattle.sqlite_resolve.specs.declared.compiled.Compiled.{Compiled}
 use Rattle.sqlite_schema.specs.declared.command.Source.TheVariants.{Values}
 use Rattle.sqlite_schema.specs.declared.schema.Schema.{Schema}
@@ -24,19 +21,19 @@ use Rattle.sqlite.specs.declared.error.Error.TheVariants.{ExecuteReturnedResults
 use Rattle.sqlite.specs.Does.{Does, Tally}
 use Rattle.sqlite.specs.Effect.{Database}
 use Rattle.sqlite.specs.Listing.{understood}
-use Rattle.sqlite.specs.State.{CommitsBy, Executes, HasCleanDisk, MayCommit, MayWrite, QueriesRow, State, Writes, mode_of, text_of, ExecutesIn, IsUnchanged, Runs, RunsCommand, shows_rows}
+use Rattle.sqlite.specs.State.{CommitsBy, Executes, MayCommit, QueriesRow, State, Writes, mode_of, text_of, ExecutesIn, IsUnchanged, Runs, RunsCommand, shows_rows}
 use Rattle.sqlite.proofs.Callers.{IsPlain, command_of, first_as, runs_as, statement_of}
 use Rattle.fare_sqlite.specs.Bodies.{blob_of, bodies_in, body_of, has_no_body, placed_body, rows_at}
 use Rattle.fare_sqlite.specs.EditionTable.{blank_schema, edition_schema}
-use Rattle.fare_outside.specs.Keeper.{BodiesStay, HasPlace, ToldAfter, WhereTold, body_at}
-use Rattle.fare_sqlite.specs.Kept.{HasBodies, HasTable, IsSettled, LeavesAsBefore, LeavesJust, LeavesOr, Speaks, Stays, bodies_of, kept, rows_of}
+use Rattle.fare_outside.specs.Keeper.{BodiesStay, HasPlace, ToldAfter, WhereTold}
+use Rattle.fare_sqlite.specs.Kept.{HasBodies, HasTable, IsSettled, Speaks, bodies_of, kept, rows_of}
 use Rattle.fare_sqlite.specs.Ours.{is_blank, is_ours}
 use Rattle.fare_sqlite.proofs.Changes.{Puts, create_does, given, insert_does, stored, update_does}
-use Rattle.fare_sqlite.proofs.Places.{appended, bodies_are, counted_out, replaced, row_there, stand_for}
+use Rattle.fare_sqlite.proofs.Places.{appended, bodies_are, counted_out, replaced, row_there}
 use Rattle.fare_sqlite.proofs.Queries.{at_place, counts, no_body, passes, passes_at, passes_no_body, picks, row_query}
 use Rattle.fare_sqlite.proofs.Rows.{same_place}
 use Rattle.fare_sqlite.proofs.Schemas.{blank_is, edition_is_ours, ours_is}
-use Rattle.fare_sqlite.proofs.States.{Told, open_is_clean, still_table, tells, tells_bodies, told, told_onwards, told_stays_back}
+use Rattle.fare_sqlite.proofs.States.{Told, tells, tells_bodies}
 use Rattle.fare_sqlite.proofs.StatementForms.{body_name, count_at_is, count_at_plain, count_at_text, count_is, count_name, count_plain, count_text, create_is, create_plain, create_text, insert_is, insert_plain, insert_text, inserted_terms, others_is, others_plain, others_text, select_is, select_plain, select_text, update_is, update_plain, update_text, updated_terms}
 
 -- a statement is understood alike under one schema
@@ -47,7 +44,7 @@ plain_under sql s schema has plain = subst (λ k. IsPlain (understood k sql)) (s
 pub plain_table : (sql : List ℕ) (s : State) → IsPlain (understood edition_schema sql) → HasTable s → IsPlain (understood s.now.schema sql)
 plain_table sql s plain table = plain_under sql s edition_schema (ours_is s.now.schema table.ours) plain
 
-all_pass : (params : Row) (rows : List Row) → filter (passes [] params) rows ≡ rows
+pub all_pass : (params : Row) (rows : List Row) → filter (passes [] params) rows ≡ rows
 all_pass params [] = refl
 all_pass params (row ∷ rows) = ap (λ (more : List Row). row ∷ more) (all_pass params rows)
 
@@ -124,13 +121,13 @@ updated_holds s it place body after has puts = record {
 }
 
 -- what the two writes make of the database
-insert_makes : (s : State) (it : HasBodies s) (place : ℕ) (body : List ℕ) (text : List ℕ) (tally : Tally) (after : Database) → place ≡ length (rows_of s) + 1 → Does s.step_limit (mode_of s) (given place body) s.now text None (Insert 0 (Values inserted_terms 3)) (Ok (tally, after)) → Holds after (it.bodies ++ body ∷ [])
+pub insert_makes : (s : State) (it : HasBodies s) (place : ℕ) (body : List ℕ) (text : List ℕ) (tally : Tally) (after : Database) → place ≡ length (rows_of s) + 1 → Does s.step_limit (mode_of s) (given place body) s.now text None (Insert 0 (Values inserted_terms 3)) (Ok (tally, after)) → Holds after (it.bodies ++ body ∷ [])
 insert_makes s it place body text tally after next does =
     let has = ours_is s.now.schema it.table.ours in
     let known = subst (λ k. Does s.step_limit (mode_of s) (given place body) (record s.now { schema = k }) text None (Insert 0 (Values inserted_terms 3)) (Ok (tally, after))) has does in
     inserted_holds s it place body after next (insert_does s.step_limit (mode_of s) s.now.trees text place body tally after known)
 
-update_makes : (s : State) (it : HasBodies s) (place : ℕ) (body : List ℕ) (text : List ℕ) (tally : Tally) (after : Database) → HasPlace place it.bodies → Does s.step_limit (mode_of s) (given place body) s.now text None (Update 0 (record { lets = []; body = row_query (at_place ∷ []) updated_terms })) (Ok (tally, after)) → Holds after (slice_set it.bodies (place - 1) body)
+pub update_makes : (s : State) (it : HasBodies s) (place : ℕ) (body : List ℕ) (text : List ℕ) (tally : Tally) (after : Database) → HasPlace place it.bodies → Does s.step_limit (mode_of s) (given place body) s.now text None (Update 0 (record { lets = []; body = row_query (at_place ∷ []) updated_terms })) (Ok (tally, after)) → Holds after (slice_set it.bodies (place - 1) body)
 update_makes s it place body text tally after place_is does =
     let has = ours_is s.now.schema it.table.ours in
     let row = to_change s it place body place_is in
@@ -184,7 +181,7 @@ pub record Changes (old new : State) (change : List (List ℕ) → List (List �
   pub holds : Holds new.now (change before.bodies)
 
 -- what an INSERT and an UPDATE that ran made
-insert_ran : (old new : State) (at : ℕ) (body : List ℕ) (n : ℕ) → IsTrue old.is_open → Speaks old → (IsTrue old.is_open → at ≡ length (rows_of old) + 1) → Executes insert_text (given at body) old new (Ok n) → Changes old new (λ bodies. bodies ++ body ∷ []) × IsTrue new.is_open
+pub insert_ran : (old new : State) (at : ℕ) (body : List ℕ) (n : ℕ) → IsTrue old.is_open → Speaks old → (IsTrue old.is_open → at ≡ length (rows_of old) + 1) → Executes insert_text (given at body) old new (Ok n) → Changes old new (λ bodies. bodies ++ body ∷ []) × IsTrue new.is_open
 insert_ran old new at body n was speaks next ran =
     let it = speaks was in
     let place = length (rows_of old) + 1 in
@@ -206,7 +203,7 @@ insert_changes old new at body n speaks next ran up =
 abbrev pub update_command : Command
 update_command = Update 0 (record { lets = []; body = row_query (at_place ∷ []) updated_terms })
 
-update_ran : (old new : State) (place : ℕ) (body : List ℕ) (n : ℕ) → IsTrue old.is_open → Speaks old → ForSome (kept old) (HasPlace place) → Executes update_text (given place body) old new (Ok n) → Changes old new (λ bodies. slice_set bodies (place - 1) body) × IsTrue new.is_open
+pub update_ran : (old new : State) (place : ℕ) (body : List ℕ) (n : ℕ) → IsTrue old.is_open → Speaks old → ForSome (kept old) (HasPlace place) → Executes update_text (given place body) old new (Ok n) → Changes old new (λ bodies. slice_set bodies (place - 1) body) × IsTrue new.is_open
 update_ran old new place body n was speaks has h =
     let it = speaks was in
     let place_is = has it.bodies (tells_bodies old was it) in
@@ -243,76 +240,6 @@ changed_told old new change made = told_by (kept old) (kept new) (λ before afte
 
 pub changed_speaks : (old new : State) (change : List (List ℕ) → List (List ℕ)) → (IsTrue new.is_open → Changes old new change) → Speaks new
 changed_speaks old new change made = λ up. let it = made up in has_bodies new (change it.before.bodies) it.settled it.holds
-
--- what a store may leave while it is open is its last commit
-abbrev pub IsLastCommit : State → Type 0
-IsLastCommit s = (db : Trees) → IsTrue s.is_open → s.may_leave db → db ≡ s.committed.trees
-
--- after a write that ran, a crash leaves what it made
-just_made : (old new : State) (change : List (List ℕ) → List (List ℕ)) → Changes old new change → IsTrue new.is_open → IsLastCommit new → (bodies : List (List ℕ)) → kept old ≡ Some bodies → LeavesJust new (change bodies)
-just_made old new change made up last bodies e = λ db left.
-    let now = tells_bodies old made.was_open made.before in
-    let same : made.before.bodies ≡ bodies = cc in
-    let trees = last db up left ∙ sym (ap (λ (d : Database). d.trees) made.settled.settled) in
-    ap (λ (t : Trees). bodies_in (t 0)) trees ∙ made.holds.are ∙ ap (λ (b : List (List ℕ)). Some (change b)) same
-
-pub insert_just : (old new : State) (at : ℕ) (body : List ℕ) (n : ℕ) → Speaks old → (IsTrue old.is_open → at ≡ length (rows_of old) + 1) → Executes insert_text (given at body) old new (Ok n) → IsLastCommit new → ForSome (kept old) (λ bodies. LeavesJust new (bodies ++ body ∷ []))
-insert_just old new at body n speaks next ran last = λ bodies e.
-    let made = insert_ran old new at body n (tells old bodies e).is_open speaks next ran in
-    just_made old new (λ b. b ++ body ∷ []) made.0 made.1 last bodies e
-
-pub update_just : (old new : State) (place : ℕ) (body : List ℕ) (n : ℕ) → Speaks old → ForSome (kept old) (HasPlace place) → Executes update_text (given place body) old new (Ok n) → IsLastCommit new → ForSome (kept old) (λ bodies. LeavesJust new (slice_set bodies (place - 1) body))
-update_just old new place body n speaks has ran last = λ bodies e.
-    let made = update_ran old new place body n (tells old bodies e).is_open speaks has ran in
-    just_made old new (λ b. slice_set b (place - 1) body) made.0 made.1 last bodies e
-
--- a write that isn't COMMIT or RELEASE commits nothing but its own change
-writes_alone : (s : State) (at : ℕ) (from : Source) (text : List ℕ) (params : Row) (db : Trees) → MayCommit s None (Insert at from) text params db → MayWrite s None (Insert at from) text params db
-writes_alone s at from text params db (inl ends) =
-    elim ends.0 [ inl commit ↦ absurd cc | inr release ↦ (let e = release.2 in absurd cc) ]
-writes_alone s at from text params db (inr may) = may
-
-updates_alone : (s : State) (at : ℕ) (q : Program) (text : List ℕ) (params : Row) (db : Trees) → MayCommit s None (Update at q) text params db → MayWrite s None (Update at q) text params db
-updates_alone s at q text params db (inl ends) =
-    elim ends.0 [ inl commit ↦ absurd cc | inr release ↦ (let e = release.2 in absurd cc) ]
-updates_alone s at q text params db (inr may) = may
-
--- what a crash leaves after the two writes
-pub insert_leaves : (old new : State) (at : ℕ) (body : List ℕ) → Speaks old → (IsTrue old.is_open → at ≡ length (rows_of old) + 1) → ((db : Trees) → new.may_leave db → old.may_leave db ⊎ CommitsBy insert_text (given at body) old db) → ForSome (kept old) (λ bodies. LeavesOr old new (bodies ++ body ∷ []))
-insert_leaves old new at body speaks next crash = λ bodies e db left.
-    elim (crash db left) [
-      | inl was ↦ inl was
-      | inr ran ↦ (
-          let up = (tells old bodies e).is_open in
-          let it = speaks up in
-          let now = tells_bodies old up it in
-          let same : it.bodies ≡ bodies = cc in
-          let place = length (rows_of old) + 1 in
-          let commits : CommitsBy insert_text (given place body) old db = rw (next up) at ran in
-          let text = statement_of insert_text (understood edition_schema insert_text) in
-          let may = commits_as insert_text (given place body) old edition_schema (ours_is old.now.schema it.table.ours) (Insert 0 (Values inserted_terms 3)) insert_is insert_plain db commits in
-          let wrote = writes_alone old 0 (Values inserted_terms 3) text (given place body) db may in
-          let holds = insert_makes old it place body text wrote.1 wrote.2 refl wrote.3 in
-          inr (ap (λ (t : Trees). bodies_in (t 0)) wrote.5 ∙ holds.are ∙ ap (λ (b : List (List ℕ)). Some (b ++ body ∷ [])) same)
-          )
-    ]
-
-pub update_leaves : (old new : State) (place : ℕ) (body : List ℕ) → Speaks old → ForSome (kept old) (HasPlace place) → ((db : Trees) → new.may_leave db → old.may_leave db ⊎ CommitsBy update_text (given place body) old db) → ForSome (kept old) (λ bodies. LeavesOr old new (slice_set bodies (place - 1) body))
-update_leaves old new place body speaks has crash = λ bodies e db left.
-    elim (crash db left) [
-      | inl was ↦ inl was
-      | inr commits ↦ (
-          let up = (tells old bodies e).is_open in
-          let it = speaks up in
-          let now = tells_bodies old up it in
-          let same : it.bodies ≡ bodies = cc in
-          let text = statement_of update_text (understood edition_schema update_text) in
-          let may = commits_as update_text (given place body) old edition_schema (ours_is old.now.schema it.table.ours) update_command update_is update_plain db commits in
-          let wrote = updates_alone old 0 (record { lets = []; body = row_query (at_place ∷ []) updated_terms }) text (given place body) db may in
-          let holds = update_makes old it place body text wrote.1 wrote.2 (has it.bodies now) wrote.3 in
-          inr (ap (λ (t : Trees). bodies_in (t 0)) wrote.5 ∙ holds.are ∙ ap (λ (b : List (List ℕ)). Some (slice_set b (place - 1) body)) same)
-          )
-    ]
 
 -- the table that was made in a blank database
 pub record Made (old new : State) : Type 0 where
@@ -362,112 +289,3 @@ pub counted_speaks : (s : State) → HasTable s → length (filter has_no_body (
 counted_speaks s table none each =
     let found = counted_out (rows_of s) none each in
     record { table = table; bodies = found.0; are = found.1 }
-
--- ---- the clauses of the statements
-
--- a number below the greatest that is told is exact
-exact : (n size : ℕ) → n < 9223372036854775807 → Int (pos n) ≡ count size → n ≡ size
-exact n size low e =
-    let same : n ≡ min size 9223372036854775807 = cc in omega (arith, same, low)
-
--- what count(*) tells of the rows of a connection that stays
-told_count : (old new : State) (row : Row) (n : ℕ) (amount : List Row → ℕ) → Stays old new → IsTrue new.is_open → column row 0 ≡ Int (pos n) → n < 9223372036854775807 → column row 0 ≡ count (amount (rows_of old)) → n ≡ amount (rows_of new)
-told_count old new row n amount stays up read low counted =
-    exact n (amount (rows_of new)) low (sym read ∙ counted ∙ sym (ap (λ (db : Database). count (amount (db.trees 0))) (stays.same up)))
-
--- a number that was read of a row, and is told exactly
-abbrev pub IsRead : Row → ℕ → Type 0
-IsRead row n = (column row 0 ≡ Int (pos n)) × (n < 9223372036854775807)
-
-pub rows_told : (old new : State) (row : Row) (n : ℕ) → Stays old new → (IsTrue old.is_open → HasTable old) → (HasCleanDisk new → QueriesRow count_text [] old new (Ok row)) → (new.is_clean ≡ false → new.is_open ≡ false) → IsRead row n → IsTrue new.is_open → n ≡ length (rows_of new)
-rows_told old new row n stays table h shut read up =
-    let all = counted old new row (table (stays.was_open up)) (h (open_is_clean new shut up)) in
-    told_count old new row n length stays up read.0 read.1 (all ∙ ap (λ (rows : List Row). count (length rows)) (all_pass [] (rows_of old)))
-
-pub others_told : (old new : State) (row : Row) (n : ℕ) → Stays old new → (IsTrue old.is_open → HasTable old) → (HasCleanDisk new → QueriesRow others_text [] old new (Ok row)) → (new.is_clean ≡ false → new.is_open ≡ false) → IsRead row n → IsTrue new.is_open → n ≡ length (filter has_no_body (rows_of new))
-others_told old new row n stays table h shut read up =
-    told_count old new row n (λ rows. length (filter has_no_body rows)) stays up read.0 read.1 (counted_others old new row (table (stays.was_open up)) (h (open_is_clean new shut up)))
-
-pub at_told : (old new : State) (place : ℕ) (row : Row) (n : ℕ) → Stays old new → (IsTrue old.is_open → HasTable old) → (HasCleanDisk new → QueriesRow count_at_text (Int (pos place) ∷ []) old new (Ok row)) → (new.is_clean ≡ false → new.is_open ≡ false) → IsRead row n → IsTrue new.is_open → n ≡ length (rows_at place (rows_of new))
-at_told old new place row n stays table h shut read up =
-    told_count old new row n (λ rows. length (rows_at place rows)) stays up read.0 read.1 (counted_at old new place row (table (stays.was_open up)) (h (open_is_clean new shut up)))
-
-blob_told : (v : Value) (body : Option (List ℕ)) (one two : List ℕ) → placed_body v body ≡ Some one → body ≡ Some two → one ≡ two
-blob_told value.Null body one two e k = absurd cc
-blob_told (Int n) body one two e k = cc
-blob_told (value.Real x) body one two e k = absurd cc
-blob_told (value.Text t) body one two e k = absurd cc
-blob_told (Blob b) body one two e k = absurd cc
-
--- the body that is selected is that of the place
-pub body_told : (old new : State) (place : ℕ) (row : Row) (bytes : List ℕ) → Stays old new → Speaks old → ForSome (kept old) (HasPlace place) → (HasCleanDisk new → QueriesRow select_text (Int (pos place) ∷ []) old new (Ok row)) → (new.is_clean ≡ false → new.is_open ≡ false) → column row 0 ≡ Blob bytes → IfSome (kept new) (λ bodies. body_at place bodies ≡ Some bytes)
-body_told old new place row bytes stays speaks has h shut read = some_told (kept new) refl
-  where
-    some_told : (o : Told) → kept new ≡ o → IfSome o (λ bodies. body_at place bodies ≡ Some bytes)
-    some_told None e = tt
-    some_told (Some bodies) e =
-        let up = (tells new bodies e).is_open in
-        let was = stays.was_open up in
-        let it = speaks was in
-        let place_is = has it.bodies (tells_bodies old was it) in
-        let found = selected old new place row it place_is (h (open_is_clean new shut up)) in
-        let cell : column row 0 ≡ column found.0 2 = ap (λ (r : Row). column r 0) found.3 in
-        let blob : blob_of (column found.0 2) ≡ Some bytes = ap blob_of (sym cell ∙ read) in
-        let same : get_or it.bodies (place - 1) [] ≡ bytes = blob_told (column found.0 0) (blob_of (column found.0 2)) (get_or it.bodies (place - 1) []) bytes found.2 blob in
-        let kept_before : kept old ≡ Some bodies =
-        (let there = told_stays_back old new stays (λ w. (speaks w).table.settled) bodies e in there) in
-        let both : Some it.bodies ≡ Some bodies = sym (tells_bodies old was it) ∙ kept_before in
-        let is : it.bodies ≡ bodies = cc in
-        let low = place_is.0 in
-        let high = place_is.1 in
-        let inside : place - 1 < length it.bodies = omega arith in
-        rw (← is) (slice_get-get_or it.bodies (place - 1) [] inside ∙ ap (λ (b : List ℕ). Some b) same)
-
--- as many bodies as rows
-pub many_told : (s : State) (n : ℕ) → Speaks s → (IsTrue s.is_open → n ≡ length (rows_of s)) → IfSome (kept s) (λ bodies. n ≡ length bodies)
-many_told s n speaks told = some_told (kept s) refl
-  where
-    some_told : (o : Told) → kept s ≡ o → IfSome o (λ bodies. n ≡ length bodies)
-    some_told None e = tt
-    some_told (Some bodies) e =
-        let up = (tells s bodies e).is_open in
-        let it = speaks up in
-        let now = tells_bodies s up it in
-        let same : it.bodies ≡ bodies = cc in
-        let many = (stand_for (rows_of s) it.bodies it.are).many in
-        let size = ap length same in
-        let rows = told up in
-        omega arith
-
--- a call that only read, and then one that wrote, over a crash
-pub leaves_still : (old new : State) (change : List (List ℕ) → List (List ℕ)) → LeavesAsBefore old new → HasCleanDisk new → ForSome (kept old) (λ bodies. LeavesOr old new (change bodies))
-leaves_still old new change leaves clean = λ bodies e db left. inl (leaves.crash clean (tells old bodies e).is_open db left)
-
-pub leaves_then : (old middle new : State) (change : List (List ℕ) → List (List ℕ)) → Stays old middle → (HasCleanDisk middle → IsTrue middle.is_open) → LeavesAsBefore old middle → (HasCleanDisk new → HasCleanDisk middle)
-    → (HasCleanDisk new → ForSome (kept middle) (λ bodies. LeavesOr middle new (change bodies))) → HasCleanDisk new → ForSome (kept old) (λ bodies. LeavesOr old new (change bodies))
-leaves_then old middle new change stays opened leaves was crash clean = λ bodies e db left.
-    let whole = was clean in
-    let there = told_onwards old middle stays (opened whole) bodies e in
-    elim (crash clean bodies there db left) [
-      | inl before ↦ inl (leaves.crash whole (tells old bodies e).is_open db before)
-      | inr made ↦ inr made
-    ]
-
-pub just_then : {T E : Type 0} (answer : Result T E) (old middle new : State) (change : List (List ℕ) → List (List ℕ)) → Stays old middle → (HasCleanDisk middle → IsTrue middle.is_open) → (HasCleanDisk new → HasCleanDisk middle)
-    → OnOk answer (HasCleanDisk new → ForSome (kept middle) (λ bodies. LeavesJust new (change bodies))) → OnOk answer (HasCleanDisk new → ForSome (kept old) (λ bodies. LeavesJust new (change bodies)))
-just_then (Err e) old middle new change stays opened was just = tt
-just_then (Ok value) old middle new change stays opened was just = λ clean bodies e.
-    just clean bodies (told_onwards old middle stays (opened (was clean)) bodies e)
-
--- a table whose rows were counted out stands for bodies, in the connection that is left
-pub places_speak : {T E : Type 0} (answer : Result T E) (first second last : State) (size others : ℕ) → (IsTrue first.is_open → size ≡ length (rows_of first)) → Stays first second
-    → (IsTrue second.is_open → others ≡ length (filter has_no_body (rows_of second))) → others ≡ 0 → Stays second last → (IsTrue second.is_open → HasTable second)
-    → OnOk answer (IsTrue last.is_open → (k : ℕ) → k < size → length (rows_at (k + 1) (rows_of last)) ≡ 1) → OnOk answer (Speaks last)
-places_speak (Err e) first second last size others many one told zero two table each = tt
-places_speak (Ok value) first second last size others many one told zero two table each = λ up.
-    let middle = two.was_open up in
-    let rows = ap (λ (db : Database). db.trees 0) (two.same up) in
-    let before = ap (λ (db : Database). db.trees 0) (one.same middle) in
-    let none : length (filter has_no_body (rows_of last)) ≡ 0 = ap (λ (all : List Row). length (filter has_no_body all)) rows ∙ sym (told middle) ∙ zero in
-    let size_is : size ≡ length (rows_of last) = many (one.was_open middle) ∙ sym (ap length (rows ∙ before)) in
-    counted_speaks last (still_table second last two table up) none (λ k within. each up k (omega (arith, size_is, within)))

@@ -3,7 +3,8 @@ use Rattle.std.proofs.lemmas.Int.{to_z_pos}
 use Rattle.sqlite_value.specs.declared.value.Value.TheVariants.{Int}
 use Rattle.sqlite.specs.Held.{state}
 use Rattle.fare_sqlite.proofs.States.{ok_then, query_stays}
-use Rattle.fare_sqlite.proofs.Steps.{at_told, plain_table}
+use Rattle.fare_sqlite.proofs.Steps.{plain_table}
+use Rattle.fare_sqlite.proofs.Clauses.{at_told}
 use Rattle.fare_sqlite.proofs.StatementForms.{count_at_plain, count_at_text}
 use Rattle.fare_sqlite.proofs.statements.count_at.Goals as goal
 

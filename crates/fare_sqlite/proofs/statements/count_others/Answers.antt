@@ -1,7 +1,8 @@
 use Rattle.std.proofs.Common.{[]}
 use Rattle.sqlite.specs.Held.{state}
 use Rattle.fare_sqlite.proofs.States.{ok_then, query_stays}
-use Rattle.fare_sqlite.proofs.Steps.{plain_table, others_told}
+use Rattle.fare_sqlite.proofs.Steps.{plain_table}
+use Rattle.fare_sqlite.proofs.Clauses.{others_told}
 use Rattle.fare_sqlite.proofs.StatementForms.{others_plain, others_text}
 use Rattle.fare_sqlite.proofs.statements.count_others.Goals as goal
 

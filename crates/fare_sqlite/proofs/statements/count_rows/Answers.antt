@@ -1,7 +1,8 @@
 use Rattle.std.proofs.Common.{[]}
 use Rattle.sqlite.specs.Held.{state}
 use Rattle.fare_sqlite.proofs.States.{ok_then, on_ok, query_leaves, query_stays, row_open}
-use Rattle.fare_sqlite.proofs.Steps.{plain_table, rows_told}
+use Rattle.fare_sqlite.proofs.Steps.{plain_table}
+use Rattle.fare_sqlite.proofs.Clauses.{rows_told}
 use Rattle.fare_sqlite.proofs.StatementForms.{count_plain, count_text}
 use Rattle.fare_sqlite.proofs.statements.count_rows.Goals as goal
 

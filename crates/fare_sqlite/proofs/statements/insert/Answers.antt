@@ -2,7 +2,8 @@ use Rattle.std.proofs.Common.{[], ◌∷◌, ◌++◌, w64, arith}
 use Rattle.std.proofs.lemmas.Int.{to_z_pos}
 use Rattle.sqlite.specs.Held.{state}
 use Rattle.fare_sqlite.proofs.States.{kept_stays, open_is_clean, refused_quiet, stays_quiet, still_speaks, was_clean}
-use Rattle.fare_sqlite.proofs.Steps.{changed_speaks, changed_told, insert_changes, insert_just, insert_leaves}
+use Rattle.fare_sqlite.proofs.Steps.{changed_speaks, changed_told, insert_changes}
+use Rattle.fare_sqlite.proofs.Crashes.{insert_just, insert_leaves}
 use Rattle.fare_sqlite.proofs.StatementForms.{insert_text}
 use Rattle.fare_sqlite.proofs.statements.insert.Goals as goal
 

@@ -2,7 +2,8 @@ use Rattle.std.proofs.Common.{[], ◌∷◌, pos}
 use Rattle.sqlite_value.specs.declared.value.Value.TheVariants.{Int}
 use Rattle.sqlite.specs.Held.{state}
 use Rattle.fare_sqlite.proofs.States.{ok_then, query_stays}
-use Rattle.fare_sqlite.proofs.Steps.{body_told, plain_table}
+use Rattle.fare_sqlite.proofs.Steps.{plain_table}
+use Rattle.fare_sqlite.proofs.Clauses.{body_told}
 use Rattle.fare_sqlite.proofs.StatementForms.{select_plain, select_text}
 use Rattle.fare_sqlite.proofs.statements.load.Goals as goal
 

@@ -1,7 +1,8 @@
 use Rattle.std.proofs.Common.{◌-◌, slice_set}
 use Rattle.sqlite.specs.Held.{state}
 use Rattle.fare_sqlite.proofs.States.{kept_stays, open_is_clean, refused_quiet, stays_quiet, still_speaks}
-use Rattle.fare_sqlite.proofs.Steps.{changed_speaks, changed_told, update_changes, update_just, update_leaves}
+use Rattle.fare_sqlite.proofs.Steps.{changed_speaks, changed_told, update_changes}
+use Rattle.fare_sqlite.proofs.Crashes.{update_just, update_leaves}
 use Rattle.fare_sqlite.proofs.StatementForms.{update_text}
 use Rattle.fare_sqlite.proofs.statements.update.Goals as goal
 

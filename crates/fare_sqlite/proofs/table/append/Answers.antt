@@ -3,7 +3,7 @@ use Rattle.sqlite.specs.Held.{state}
 use Rattle.fare_outside.specs.Keeper.{BodiesStay, BodyAppended}
 use Rattle.fare_sqlite.specs.Kept.{kept}
 use Rattle.fare_sqlite.proofs.States.{err_may_append, err_then_told, kept_stays, may_append, ok_then_told, on_err}
-use Rattle.fare_sqlite.proofs.Steps.{just_then, leaves_still, leaves_then}
+use Rattle.fare_sqlite.proofs.Crashes.{just_then, leaves_still, leaves_then}
 use Rattle.fare_sqlite.proofs.table.append.Goals as goal
 
 pub returns-in_err-count-clause-err : goal.returns-in_err-count-clause-err

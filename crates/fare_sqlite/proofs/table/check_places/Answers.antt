@@ -1,7 +1,7 @@
 use Rattle.std.proofs.Common.{◌≡◌, arith}
 use Rattle.sqlite.specs.Held.{state}
 use Rattle.fare_sqlite.proofs.States.{still_table}
-use Rattle.fare_sqlite.proofs.Steps.{places_speak}
+use Rattle.fare_sqlite.proofs.Clauses.{places_speak}
 use Rattle.fare_sqlite.proofs.table.check_places.Goals as goal
 
 pub returns-clause-speaks : goal.returns-clause-speaks

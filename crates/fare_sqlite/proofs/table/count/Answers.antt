@@ -1,6 +1,6 @@
 use Rattle.sqlite.specs.Held.{state}
 use Rattle.fare_sqlite.proofs.States.{kept_stays, ok_then, still_speaks}
-use Rattle.fare_sqlite.proofs.Steps.{many_told}
+use Rattle.fare_sqlite.proofs.Clauses.{many_told}
 use Rattle.fare_sqlite.proofs.table.count.Goals as goal
 
 pub returns-clause-count : goal.returns-clause-count
