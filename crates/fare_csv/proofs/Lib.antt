@@ -8,6 +8,10 @@ pub mod NamesText
 pub mod CanonicalLines
 pub mod PlainFields
 pub mod RecordsLemmas
+pub mod RowsOfPieces
+pub mod Renumbered
+pub mod PiecesCut
+pub mod PiecesRead
 pub mod NamesReadBack
 pub mod RecordsReadBack
 pub mod EditionReadBack

@@ -88,7 +88,7 @@ rows_from-lines (row ∷ rows) plain =
     ∙ ap (λ (more : List Fields). row ∷ more) (rows_from-lines rows parts.1)
 
 -- a text whose first byte isn't that of a byte order mark is kept whole
-strip_bom-other : (byte : ℕ) (rest : List ℕ) → (byte == 239) ≡ false → strip_bom (byte ∷ rest) ≡ byte ∷ rest
+pub strip_bom-other : (byte : ℕ) (rest : List ℕ) → (byte == 239) ≡ false → strip_bom (byte ∷ rest) ≡ byte ∷ rest
 unfolding strip_bom
 strip_bom-other a [] e = refl
 strip_bom-other a (b ∷ []) e = refl

@@ -1,5 +1,5 @@
 -- The records that are left to read, behind those that were read.
-use Rattle.std.proofs.Common.{◌≡◌, ℕ, List, [], ◌∷◌, ◌++◌, Bool, true, false, refl, sym, ap, append_assoc, if◌then◌else◌}
+use Rattle.std.proofs.Common.{◌≡◌, ℕ, List, [], ◌∷◌, ◌++◌, Bool, true, false, refl, sym, ap, ◌∙◌, append_assoc, if◌then◌else◌}
 use Rattle.std.specs.Prelude.{Result, Ok, Err, codes}
 use Rattle.std.specs.Str.{bytes_eq}
 use Rattle.std.proofs.lemmas.List.{append-nil}
@@ -9,6 +9,7 @@ use Rattle.fare_csv.specs.declared.text_fault.TextFault.TheVariants.{NoEnd}
 use Rattle.fare_csv.specs.declared.head.Version.{Version}
 use Rattle.fare_csv.specs.Rows.{Fields}
 use Rattle.fare_csv.specs.Fields.{field}
+use Rattle.fare_csv.specs.Pieces.{records_each}
 use Rattle.fare_csv.specs.TariffText.{end_of, ended_by, followed_by, number_after, record_of, records_of}
 
 -- records in front of those of a reading
@@ -67,3 +68,16 @@ pub behind-nothing : (front : List Record) (version : Version) (number : ℕ) (f
     → behind front (records_of version number left) ≡ whole → whole ≡ Err (NoEnd number)
 unfolding records_of behind
 behind-nothing front version number found row rows left whole taken f h = sym (rw (taken, f) at h)
+
+-- after a row, what is left to read by itself is its record and the records of the rows behind it
+pub behind-each : (front : List Record) (version : Version) (found : Bool) (row : Fields) (rows left : List Fields) (whole : Result (List Record) TextFault)
+    → left ≡ (if found then row ∷ rows else []) → found ≡ true → behind front (records_each version left) ≡ whole
+    → behind front (followed_by (record_of version 2 row) (records_each version rows)) ≡ whole
+unfolding records_each
+behind-each front version found row rows left whole taken f h = rw (taken, f) at h
+
+-- where no row is left, the records that were read are all
+pub behind-last : (front : List Record) (version : Version) (found : Bool) (row : Fields) (rows left : List Fields) (whole : Result (List Record) TextFault)
+    → left ≡ (if found then row ∷ rows else []) → found ≡ false → behind front (records_each version left) ≡ whole → whole ≡ Ok front
+unfolding records_each behind
+behind-last front version found row rows left whole taken f h = sym (rw (taken, f) at h) ∙ ap Ok (append-nil front)

@@ -10,6 +10,8 @@ pub mod RecordText
 pub mod CheckedFault
 pub mod FaultText
 pub mod TariffText
+pub mod Pieces
+pub mod Joined
 pub mod Filed
 pub mod NameList
 pub mod CanonicalText

@@ -4,7 +4,9 @@
 //!
 //! - `rows`, `lines`: a text row by row, and line by line;
 //! - `head`, `record_kind`, `read_record`, `read_rule`, `read_fare`, `name_list`, `numbers`: records from their fields;
-//! - `read_text`, `edition`: the whole text;
+//! - `read_text`: the whole text row by row;
+//! - `pieces`, `read_pieces`: a text in pieces of whole lines, which are read on all processors;
+//! - `read_filed`, `edition`: the whole text, in pieces where it can be;
 //! - `write_record`, `write_names`, `canonical`: the canonical text;
 //! - `laws`: it is read back as its edition, and no two editions have one;
 //! - `text_fault`, `fault_text`: what is wrong with a text, and the line that tells it.
@@ -18,7 +20,10 @@ mod laws;
 mod lines;
 mod name_list;
 mod numbers;
+mod pieces;
 mod read_fare;
+mod read_filed;
+mod read_pieces;
 mod read_record;
 mod read_rule;
 mod read_text;

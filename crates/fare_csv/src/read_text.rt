@@ -22,7 +22,12 @@ use std::alloc::Global;
 
 /// The record of a row that isn't END, by its first field.
 #[tactic(auto, unfolding(crate::specs::TariffText::record_of, crate::specs::TariffText::record_of_kind))]
-fn read_record(alloc: Global, row: &Row, version: Version, number: u32) -> Result<Record, TextFault>
+pub(crate) fn read_record(
+    alloc: Global,
+    row: &Row,
+    version: Version,
+    number: u32,
+) -> Result<Record, TextFault>
     ensures { Gives TextFault.Memory (λ one. one) result (record_of version number row.now) }
 {
     let Some(kind) = RecordKind::named(row.field(0)) else {
@@ -59,7 +64,11 @@ fn read_end(rows: &mut Rows, row: &mut Row, number: u32) -> Result<(), TextFault
 }
 
 /// The records between HEAD and END.
-fn read_records(alloc: Global, rows: &mut Rows, version: Version) -> Result<Vec<Record>, TextFault>
+pub(crate) fn read_records(
+    alloc: Global,
+    rows: &mut Rows,
+    version: Version,
+) -> Result<Vec<Record>, TextFault>
     ensures { Gives TextFault.Memory (λ records. records.items) result (records_of version 2 rows.old) }
 {
     let mut records = Vec::new(alloc);
@@ -85,15 +94,15 @@ pub(crate) struct Filed {
 }
 
 /// Whether a row is that of HEAD, by its first field.
-fn is_head(row: &Row) -> bool
+pub(crate) fn is_head(row: &Row) -> bool
     ensures { result ≡ bytes_eq (field row.now 0) (codes "HEAD") }
 {
     matches!(row.field(0), b"HEAD")
 }
 
-/// HEAD and the records of a text.
+/// HEAD and the records of a text, row by row.
 #[tactic(auto, unfolding(crate::specs::TariffText::headed, crate::specs::TariffText::tariff_of))]
-pub(crate) fn read_filed(alloc: Global, bytes: &[u8]) -> Result<Filed, TextFault>
+pub(crate) fn read_in_order(alloc: Global, bytes: &[u8]) -> Result<Filed, TextFault>
     ensures reading { Gives TextFault.Memory filed_tariff result (tariff_of (rows_of bytes.now)) }
     ensures range { IfOk result (λ filed. (0 < filed.number) × (filed.number ≤ LAST_EDITION)) }
 {
