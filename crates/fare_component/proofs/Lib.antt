@@ -1,3 +1,4 @@
+pub mod AmongLemmas
 pub mod AmountLemmas
 pub mod BaseLemmas
 pub mod CandidateLemmas

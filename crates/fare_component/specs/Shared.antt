@@ -1,22 +1,14 @@
 -- What a table computes once for all its fares: the indicators of all spans of its trip.
 use Rattle.std.specs.Prelude.{◌≡◌, ℕ, ◌<◌, ◌≤◌, List, [], slice_index_or}
 use Rattle.fare_codes.specs.declared.indicator.Indicator.{Indicator}
-use Rattle.fare_codes.specs.declared.indicator.Indicator.TheVariants.{WH}
 use Rattle.fare_trip.specs.Itinerary.{Itinerary, count}
 use Rattle.fare_tariff.specs.Tariff.{Tariff}
 use Rattle.fare_rules.specs.Indicator.{indicator}
+use Rattle.fare_points.specs.Stretch.{indicator_to}
 
--- the indicator of a row at the point where a span ends
-abbrev pub indicator_to : List Indicator → ℕ → Indicator
-indicator_to row j = slice_index_or row j WH
-
--- and that of the row of the point where it begins
+-- the indicator of a span, of the row of the point where it begins
 abbrev pub indicator_at : List (List Indicator) → ℕ → ℕ → Indicator
 indicator_at rows i j = indicator_to (slice_index_or rows i []) j
-
--- a row has the indicators of the spans from a point that end before another
-abbrev pub AreIndicatorsFrom : Tariff → Itinerary → ℕ → ℕ → List Indicator → Type 0
-AreIndicatorsFrom tariff trip i past row = (j : ℕ) → i < j → j < past → indicator_to row j ≡ indicator tariff trip i j
 
 -- rows have the indicators of the spans that begin before a point
 abbrev pub AreIndicatorsBefore : Tariff → Itinerary → ℕ → List (List Indicator) → Type 0

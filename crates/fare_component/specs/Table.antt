@@ -7,6 +7,7 @@ use Rattle.fare_trip.specs.Itinerary.{Itinerary, count}
 use Rattle.fare_tariff.specs.Record.{FareRecord}
 use Rattle.fare_tariff.specs.Tariff.{Tariff}
 use Rattle.fare_tariff.specs.Lookup.{fare_at}
+use Rattle.fare_rules.specs.declared.amount.Amount.{Amount}
 use Rattle.fare_rules.specs.ComponentAmount.{component_amount, is_half_round_trip}
 use Rattle.fare_rules.specs.UnitPrice.{one_way_price}
 use Rattle.fare_rules.specs.Numbers.{numbers}
@@ -40,6 +41,10 @@ entry_of tariff trip a b number = record {
 -- a fare has an amount in some direction
 abbrev pub has_amount : Entry → Bool
 has_amount entry = is_some entry.out || is_some entry.back
+
+-- the amount of an entry, priced back or not
+abbrev pub amount_of : Entry → Bool → Option Amount
+amount_of entry back = if back then entry.back else entry.out
 
 -- the entry of a record number, where its fare has an amount in some direction
 unfoldable pub entry_at : Tariff → Itinerary → ℕ → ℕ → ℕ → Option Entry

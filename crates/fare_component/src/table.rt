@@ -7,11 +7,13 @@
 //! - `cursor`, `candidates`: the fares between two cities, in record order;
 //! - `entries`, `row`: all entries of a span, and of all spans from a point.
 
-ghost use Rattle.std.specs.Prelude.{◌≡◌, ◌≤◌, length, map, All, IfOk};
+ghost use Rattle.std.specs.Prelude.{◌≡◌, ◌<◌, ◌≤◌, length, map, All, IfOk, IfSome};
 ghost use Rattle.fare_trip.specs.Itinerary.{count};
 ghost use Rattle.fare_rules.specs.Numbers.{numbers};
+ghost use Rattle.fare_rules.specs.ComponentAmount.{component_amount};
 ghost use Rattle.fare_component.specs.Shared.{AreIndicators};
 ghost use Rattle.fare_component.specs.Table.{IsInBounds, entries_of, row_of};
+ghost use Rattle.fare_component.specs.Usable.{IsAmount};
 
 mod backhauls;
 mod bases;
@@ -27,6 +29,7 @@ mod row;
 pub use entries::MOST_ENTRIES;
 pub use entry::Entry;
 use fare_outside::NoMemory;
+use fare_rules::Amount;
 use fare_tariff::Edition;
 use fare_trip::Trip;
 use forms::Forms;
@@ -86,6 +89,22 @@ impl<'a> Table<'a> {
         } else {
             &[]
         }
+    }
+
+    /// What the fare of a record number costs from a point to a later one, priced back or not: its base, surcharge and
+    /// amount; nothing exactly where the fare may not be used there or the record files no fare.
+    pub fn amount(&self, a: usize, b: usize, number: u32, back: bool) -> Option<Amount>
+        requires rises { a < b }
+        requires within { b ≤ count self.now.trip }
+        ensures value { result ≡ component_amount self.now.edition self.now.trip a b number back }
+        ensures bound { IfSome result IsAmount }
+    {
+        for entry in self.entries(a, b) {
+            if entry.fare == number {
+                return entry.amount(back);
+            }
+        }
+        None
     }
 
     /// The edition that it was prepared from.

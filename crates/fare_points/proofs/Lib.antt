@@ -1,3 +1,4 @@
 pub mod Highest
 pub mod Ranges
 pub mod Scans
+pub mod Stretches

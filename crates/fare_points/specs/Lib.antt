@@ -7,3 +7,4 @@ pub use Rattle.fare_rules.specs.Reference
 pub use Rattle.fare_rules.specs.Base
 pub use Rattle.fare_rules.specs.Backhaul
 pub mod Improved
+pub mod Stretch

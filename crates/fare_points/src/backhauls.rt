@@ -1,41 +1,52 @@
 ghost use Rattle.std.specs.Prelude.{◌≡◌, ◌<◌, ◌≤◌, ◌*◌, IfSome, None, if◌then◌else◌};
 ghost use Rattle.fare_trip.specs.Itinerary.{count};
 ghost use Rattle.fare_rules.specs.Span.{is_stopover};
+ghost use Rattle.fare_rules.specs.Indicator.{indicator};
 ghost use Rattle.fare_rules.specs.Backhaul.{reference_to, greatest_reference, minimum_above, backhaul};
 
-use crate::indicators::indicator;
+use crate::indicators::indicators_from;
 use crate::references::reference;
-use fare_codes::{FARE_LIMIT, Nuc, greater};
+use fare_codes::{FARE_LIMIT, Indicator, Nuc, greater};
 use fare_tariff::{Edition, FareRec};
 use fare_trip::Trip;
 
-/// The reference from the start of a component to a point, on the day of the component's first sector.
-fn reference_to(edition: &Edition, trip: &Trip, a: usize, j: usize, fare: &FareRec) -> Option<Nuc>
-    requires rises { a < j }
-    requires within { j ≤ count trip.now }
-    ensures value { result ≡ reference_to edition.now trip.now a fare.now j }
-    ensures bound { IfSome result (λ amount. amount < FARE_LIMIT) }
-{
-    let ind = indicator(edition, trip, a, j);
-    let on = trip.sector(a + 1).day;
-    reference(edition, trip.point(a), trip.point(j), ind, fare, on)
-}
-
-/// The reference from the start of a component to a point, where that is a stopover.
-fn reference_to_stopover(
+/// The reference from the start of a component to a point, whose indicator is this, on the day of the component's first
+/// sector.
+fn reference_to(
     edition: &Edition,
     trip: &Trip,
+    ind: Indicator,
     a: usize,
     j: usize,
     fare: &FareRec,
 ) -> Option<Nuc>
     requires rises { a < j }
     requires within { j ≤ count trip.now }
+    requires indicator { ind ≡ indicator edition.now trip.now a j }
+    ensures value { result ≡ reference_to edition.now trip.now a fare.now j }
+    ensures bound { IfSome result (λ amount. amount < FARE_LIMIT) }
+{
+    let on = trip.sector(a + 1).day;
+    reference(edition, trip.point(a), trip.point(j), ind, fare, on)
+}
+
+/// The reference from the start of a component to a point, whose indicator is this, where that is a stopover.
+fn reference_to_stopover(
+    edition: &Edition,
+    trip: &Trip,
+    ind: Indicator,
+    a: usize,
+    j: usize,
+    fare: &FareRec,
+) -> Option<Nuc>
+    requires rises { a < j }
+    requires within { j ≤ count trip.now }
+    requires indicator { ind ≡ indicator edition.now trip.now a j }
     ensures value { result ≡ (if is_stopover trip.now j then reference_to edition.now trip.now a fare.now j else None) }
     ensures bound { IfSome result (λ amount. amount < FARE_LIMIT) }
 {
     if trip.sector(j).stop {
-        reference_to(edition, trip, a, j, fare)
+        reference_to(edition, trip, ind, a, j, fare)
     } else {
         None
     }
@@ -55,9 +66,13 @@ fn greatest_reference(
     ensures value { result ≡ greatest_reference edition.now trip.now a b fare.now }
     ensures bound { IfSome result (λ amount. amount < FARE_LIMIT) }
 {
+    let count = trip.count();
+    prove!(b <= count);
+    let inds = indicators_from(edition, trip, a, b);
     let mut greatest = None;
     for j in a + 1..b {
-        greatest = greater(greatest, reference_to_stopover(edition, trip, a, j, fare));
+        let found = reference_to_stopover(edition, trip, inds[j], a, j, fare);
+        greatest = greater(greatest, found);
     }
     greatest
 }

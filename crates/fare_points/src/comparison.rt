@@ -4,11 +4,11 @@ ghost use Rattle.std.specs.Prelude.{◌≡◌, ◌<◌, ◌≤◌, ◌≢◌, �
 ghost use Rattle.fare_trip.specs.Itinerary.{count};
 ghost use Rattle.fare_rules.specs.Base.{is_end_or_stopover, is_compared, reference_between, compared_reference};
 ghost use Rattle.fare_rules.specs.Base.{compared_pair};
+ghost use Rattle.fare_rules.specs.Indicator.{indicator};
 ghost use Rattle.fare_points.specs.Improved.{IsPairOf};
 
-use crate::indicators::indicator;
 use crate::references::reference;
-use fare_codes::{Day, FARE_LIMIT, Nuc};
+use fare_codes::{Day, FARE_LIMIT, Indicator, Nuc};
 use fare_tariff::{Edition, FareRec};
 use fare_trip::Trip;
 
@@ -42,11 +42,12 @@ pub fn is_compared(trip: &Trip, a: usize, b: usize, i: usize, j: usize) -> bool
     !is_whole(a, b, i, j) && is_end_or_stopover(trip, a, i) && is_end_or_stopover(trip, b, j)
 }
 
-/// The reference between two points of a component: from the earlier to the later, or the other way where it is
-/// priced back.
+/// The reference between two points of a component, whose indicator is this: from the earlier to the later, or the
+/// other way where it is priced back.
 fn reference_between(
     edition: &Edition,
     trip: &Trip,
+    ind: Indicator,
     i: usize,
     j: usize,
     fare: &FareRec,
@@ -55,10 +56,10 @@ fn reference_between(
 ) -> Option<Nuc>
     requires rises { i < j }
     requires within { j ≤ count trip.now }
+    requires indicator { ind ≡ indicator edition.now trip.now i j }
     ensures value { result ≡ reference_between edition.now trip.now fare.now back on i j }
     ensures bound { IfSome result (λ amount. amount < FARE_LIMIT) }
 {
-    let ind = indicator(edition, trip, i, j);
     let (earlier, later) = (trip.point(i), trip.point(j));
     if back {
         reference(edition, later, earlier, ind, fare, on)
@@ -67,10 +68,11 @@ fn reference_between(
     }
 }
 
-/// The reference of a pair of points of a component, where it is compared and there is one.
+/// The reference of a pair of points of a component, whose indicator is this, where it is compared and there is one.
 fn compared_reference(
     edition: &Edition,
     trip: &Trip,
+    ind: Indicator,
     a: usize,
     b: usize,
     fare: &FareRec,
@@ -81,20 +83,23 @@ fn compared_reference(
     requires begins { a ≤ i }
     requires rises { i < j }
     requires within { j ≤ count trip.now }
+    requires indicator { ind ≡ indicator edition.now trip.now i j }
     ensures value { result ≡ compared_reference edition.now trip.now a b fare.now back i j }
     ensures bound { IfSome result (λ amount. amount < FARE_LIMIT) }
 {
     if is_compared(trip, a, b, i, j) {
-        reference_between(edition, trip, i, j, fare, back, trip.sector(a + 1).day)
+        let on = trip.sector(a + 1).day;
+        reference_between(edition, trip, ind, i, j, fare, back, on)
     } else {
         None
     }
 }
 
-/// What is found for a pair of points of a component.
+/// What is found for a pair of points of a component, whose indicator is this.
 pub(crate) fn compared_pair(
     edition: &Edition,
     trip: &Trip,
+    ind: Indicator,
     a: usize,
     b: usize,
     fare: &FareRec,
@@ -106,10 +111,11 @@ pub(crate) fn compared_pair(
     requires rises { i < j }
     requires ends { j ≤ b }
     requires within { b ≤ count trip.now }
+    requires indicator { ind ≡ indicator edition.now trip.now i j }
     ensures value { result ≡ compared_pair edition.now trip.now a b fare.now back i j }
     ensures bound { IfSome result (IsPairOf a b) }
 {
-    match compared_reference(edition, trip, a, b, fare, back, i, j) {
+    match compared_reference(edition, trip, ind, a, b, fare, back, i, j) {
         None => None,
         Some(amount) => Some((i, j, amount)),
     }

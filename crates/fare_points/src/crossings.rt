@@ -2,7 +2,7 @@
 
 ghost use Rattle.std.specs.Prelude.{◌≡◌, ◌≤◌, ◌||◌, ◌&&◌, true, false};
 ghost use Rattle.fare_trip.specs.Itinerary.{count, point};
-ghost use Rattle.fare_rules.specs.Indicator.{area, ocean, crossing, is_atlantic, is_pacific, is_first_area};
+ghost use Rattle.fare_rules.specs.Indicator.{area, ocean, is_atlantic, is_pacific, is_first_area};
 ghost use Rattle.fare_rules.specs.Indicator.{crosses_atlantic, crosses_pacific, is_within_one, indicator_by};
 
 use fare_codes::{Area, City, Indicator, Over};
@@ -29,6 +29,20 @@ impl Crossings {
         }
     }
 
+    /// What a sector from an area to another crosses and touches.
+    pub(crate) fn between(from: Option<Area>, to: Option<Area>, over: Over) -> Crossings
+        ensures atlantic { result.atlantic ≡ is_atlantic (ocean from to over) }
+        ensures pacific { result.pacific ≡ is_pacific (ocean from to over) }
+        ensures within_one { result.within_one ≡ (is_first_area from && is_first_area to) }
+    {
+        let crossed = ocean(from, to, over);
+        Crossings {
+            atlantic: is_atlantic(crossed),
+            pacific: is_pacific(crossed),
+            within_one: is_first_area(from) && is_first_area(to),
+        }
+    }
+
     /// What the sector of a number crosses and touches.
     pub(crate) fn of(edition: &Edition, trip: &Trip, number: usize) -> Crossings
         requires from_one { 1 ≤ number }
@@ -37,12 +51,9 @@ impl Crossings {
         ensures pacific { result.pacific ≡ crosses_pacific edition.now trip.now number }
         ensures within_one { result.within_one ≡ is_within_one edition.now trip.now number }
     {
-        let crossed = crossing(edition, trip, number);
-        Crossings {
-            atlantic: is_atlantic(crossed),
-            pacific: is_pacific(crossed),
-            within_one: is_within_one(edition, trip, number),
-        }
+        let from = area_at(edition, trip, number - 1);
+        let to = area_at(edition, trip, number);
+        Crossings::between(from, to, trip.sector(number).over)
     }
 
     /// What these sectors and some others cross and touch.
@@ -121,31 +132,9 @@ fn is_first_area(area: Option<Area>) -> bool
 }
 
 /// The area of the city of a point.
-fn area_at(edition: &Edition, trip: &Trip, i: usize) -> Option<Area>
+pub(crate) fn area_at(edition: &Edition, trip: &Trip, i: usize) -> Option<Area>
     requires within { i ≤ count trip.now }
     ensures { result ≡ area edition.now (point trip.now i) }
 {
     area(edition, trip.point(i))
-}
-
-/// The ocean that a sector crosses.
-fn crossing(edition: &Edition, trip: &Trip, number: usize) -> Option<Indicator>
-    requires from_one { 1 ≤ number }
-    requires within { number ≤ count trip.now }
-    ensures { result ≡ crossing edition.now trip.now number }
-{
-    let from = area_at(edition, trip, number - 1);
-    let to = area_at(edition, trip, number);
-    ocean(from, to, trip.sector(number).over)
-}
-
-/// Whether both cities that a sector touches are in area 1.
-fn is_within_one(edition: &Edition, trip: &Trip, number: usize) -> bool
-    requires from_one { 1 ≤ number }
-    requires within { number ≤ count trip.now }
-    ensures { result ≡ is_within_one edition.now trip.now number }
-{
-    let from = is_first_area(area_at(edition, trip, number - 1));
-    let to = is_first_area(area_at(edition, trip, number));
-    from && to
 }

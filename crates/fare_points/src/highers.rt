@@ -5,6 +5,7 @@ ghost use Rattle.fare_rules.specs.Base.{base, compared_from, higher};
 ghost use Rattle.fare_points.specs.Improved.{IsPairOf, amount_to_exceed, improved};
 
 use crate::comparison::{Compared, compared_pair};
+use crate::indicators::indicators_from;
 use fare_codes::Nuc;
 use fare_tariff::{Edition, FareRec};
 use fare_trip::Trip;
@@ -62,9 +63,13 @@ fn improved_from(
     ensures value { result ≡ improved fare.now.amount best (compared_from edition.now trip.now a b fare.now back i) }
     ensures bound { IfSome result (IsPairOf a b) }
 {
+    let count = trip.count();
+    prove!(b <= count);
+    let inds = indicators_from(edition, trip, i, b);
     let mut best = best;
     for j in i..b {
-        let found = compared_pair(edition, trip, a, b, fare, back, i, j + 1);
+        let ind = inds[j + 1];
+        let found = compared_pair(edition, trip, ind, a, b, fare, back, i, j + 1);
         best = improved(fare.amount, best, found);
     }
     best

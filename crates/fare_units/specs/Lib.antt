@@ -12,4 +12,5 @@ pub mod Breaks
 pub mod Turning
 pub mod Shut
 pub mod Onward
+pub mod Known
 pub mod Walk

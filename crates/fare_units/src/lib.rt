@@ -28,7 +28,7 @@ pub use prices::onward::{is_homeward, is_shut_unit, is_stranded, must_go_on};
 pub use prices::price::MOST_UNIT_PRICE;
 pub use prices::priced::{first_parts_advance, lawful_price, price_is_of_unbroken};
 pub use prices::sheet::{unit_count, unit_sheet};
-pub use prices::shut::{is_priceless, shut_price};
+pub use prices::shut::{is_priceless, is_priceless_by, shut_price, shut_price_by};
 
 #[cfg(test)]
 mod tests;

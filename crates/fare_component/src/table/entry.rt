@@ -6,7 +6,7 @@ ghost use Rattle.fare_rules.specs.ComponentAmount.{fare_amount, repeats_city, sp
 ghost use Rattle.fare_rules.specs.UnitPrice.{at_least};
 ghost use Rattle.fare_component.specs.References.{AreForms};
 ghost use Rattle.fare_component.specs.Shared.{AreIndicators};
-ghost use Rattle.fare_component.specs.Table.{IsInBounds, entry_of, single_price};
+ghost use Rattle.fare_component.specs.Table.{IsInBounds, amount_of, entry_of, single_price};
 ghost use Rattle.fare_component.specs.Usable.{IsAmount};
 
 use crate::amounts::amount_from;
@@ -33,6 +33,17 @@ pub struct Entry {
     pub back: Option<Amount>,
     /// The price of a one way fare as a unit of its own; nothing exactly for a half round trip.
     pub single: Option<Nuc>,
+}
+
+impl Entry {
+    /// Its component amount, priced back or not.
+    pub(crate) fn amount(&self, back: bool) -> Option<Amount>
+        requires { IsInBounds self.now }
+        ensures value { result ≡ amount_of self.now back }
+        ensures bound { IfSome result IsAmount }
+    {
+        if back { self.back } else { self.out }
+    }
 }
 
 /// The greater of an amount and a minimum, where there is one.

@@ -1,15 +1,12 @@
-ghost use Rattle.std.specs.Prelude.{◌≡◌, ◌+◌, ◌<◌, ◌≤◌};
+ghost use Rattle.std.specs.Prelude.{◌≡◌, ◌<◌, ◌≤◌};
 ghost use Rattle.fare_trip.specs.Itinerary.{count};
 ghost use Rattle.fare_rules.specs.Indicator.{indicator};
-ghost use Rattle.fare_component.specs.Shared.{AreIndicators, AreIndicatorsFrom};
+ghost use Rattle.fare_component.specs.Shared.{AreIndicators};
 
 use fare_codes::Indicator;
-use fare_points::indicator;
+use fare_points::{MOST_POINTS, indicators_from};
 use fare_tariff::Edition;
 use fare_trip::Trip;
-
-/// How many points a trip can have.
-pub(crate) const MOST_POINTS: usize = 17;
 
 /// The global indicators of all spans of a trip, by the points where they begin and end.
 #[derive(Drop)]
@@ -17,27 +14,14 @@ pub(crate) struct Indicators {
     pub(crate) rows: [[Indicator; MOST_POINTS]; MOST_POINTS],
 }
 
-/// The indicators of the spans from a point.
-fn indicators_from(edition: &Edition, trip: &Trip, i: usize) -> [Indicator; MOST_POINTS]
-    requires { i < count trip.now }
-    ensures { AreIndicatorsFrom edition.now trip.now i (count trip.now + 1) result }
-{
-    let count = trip.count();
-    prove!(i < count);
-    let mut row = [Indicator::WH; MOST_POINTS];
-    for j in i + 1..count + 1 {
-        row[j] = indicator(edition, trip, i, j);
-    }
-    row
-}
-
 /// The indicators of all spans.
 pub(crate) fn all_indicators(edition: &Edition, trip: &Trip) -> Indicators
     ensures { AreIndicators edition.now trip.now result.rows }
 {
+    let count = trip.count();
     let mut rows = [[Indicator::WH; MOST_POINTS]; MOST_POINTS];
-    for i in 0..trip.count() {
-        rows[i] = indicators_from(edition, trip, i);
+    for i in 0..count {
+        rows[i] = indicators_from(edition, trip, i, count);
     }
     Indicators { rows }
 }

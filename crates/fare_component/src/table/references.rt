@@ -6,9 +6,9 @@ ghost use Rattle.fare_rules.specs.Base.{reference_between};
 ghost use Rattle.fare_component.specs.Shared.{AreIndicators};
 ghost use Rattle.fare_component.specs.References.{AreReferences, IsOfForm};
 
-use crate::table::indicators::{Indicators, MOST_POINTS, indicator_of};
+use crate::table::indicators::{Indicators, indicator_of};
 use fare_codes::{Day, FARE_LIMIT, Nuc, RuleId};
-use fare_points::reference;
+use fare_points::{MOST_POINTS, reference};
 use fare_tariff::{Edition, FareRec};
 use fare_trip::Trip;
 

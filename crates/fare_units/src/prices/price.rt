@@ -7,8 +7,10 @@ ghost use Rattle.fare_rules.specs.Construction.{own, misnumbered};
 ghost use Rattle.fare_rules.specs.UnitPrice.{part_amount, part_cost, unit_sum, are_two_equal, is_round_trip};
 ghost use Rattle.fare_rules.specs.UnitPrice.{unit_kind, part_backhaul, unit_minimum, at_least, sheet_from};
 ghost use Rattle.fare_rules.specs.UnitPrice.{sheet_of_kind, unit_sheet, unit_price, price};
+ghost use Rattle.fare_rules.specs.ComponentAmount.{component_amount};
 ghost use Rattle.fare_component.specs.Usable.{IsAmount};
 ghost use Rattle.fare_units.specs.Advance.{Advances};
+ghost use Rattle.fare_units.specs.Known.{IsOf};
 ghost use Rattle.fare_units.specs.Places.{IsPlace, ArePlaces};
 ghost use Rattle.fare_units.specs.Shut.{lacks_amount};
 
@@ -20,7 +22,7 @@ use crate::parts::places::{end_of, greatest_unit, part_at, start_of};
 use crate::prices::circle::unit_circle_minimum;
 use crate::rules::shape::{closes, is_open_jaw};
 use fare_codes::Nuc;
-use fare_component::applicable;
+use fare_component::{Table, applicable};
 use fare_points::backhaul;
 use fare_rules::{Amount, MOST_AMOUNT, Part, UnitKind, UnitSheet};
 use fare_tariff::Edition;
@@ -29,34 +31,66 @@ use fare_trip::Trip;
 /// What a unit costs at most, in hundredths of a NUC: as much as `MOST_PARTS` parts of the greatest amount.
 pub const MOST_UNIT_PRICE: u64 = 20_000_000_000;
 
+/// The component amount of the fare of a record number for a span, from a table where there is one.
+fn amount_of(
+    edition: &Edition,
+    trip: &Trip,
+    known: Option<&Table>,
+    a: usize,
+    b: usize,
+    number: u32,
+    back: bool,
+) -> Option<Amount>
+    requires known { IfSome known (λ table. IsOf edition.now trip.now table.now) }
+    requires rises { a < b }
+    requires within { b ≤ count trip.now }
+    ensures value { result ≡ component_amount edition.now trip.now a b number back }
+    ensures bound { IfSome result IsAmount }
+{
+    match known {
+        None => applicable(edition, trip, a, b, number, back),
+        Some(table) => table.amount(a, b, number, back),
+    }
+}
+
 /// The component amount of a part of a unit, in the part's direction.
 #[tactic(auto, unfolding(fare_rules::specs::UnitPrice::part_amount))]
 fn part_amount(
     edition: &Edition,
     trip: &Trip,
+    known: Option<&Table>,
     parts: &[Part],
     own: &[usize],
     k: usize,
 ) -> Option<Amount>
     requires advances { Advances trip.now parts.now }
     requires place { IsPlace parts.now k }
+    requires known { IfSome known (λ table. IsOf edition.now trip.now table.now) }
     ensures value { result ≡ part_amount edition.now trip.now parts.now own.now k }
     ensures bound { IfSome result IsAmount }
 {
     let a = start_of(trip, parts, k);
     let b = end_of(parts, k);
     let back = is_back_in(edition, trip, parts, own, k);
-    applicable(edition, trip, a, b, part_at(parts, k).fare, back)
+    amount_of(edition, trip, known, a, b, part_at(parts, k).fare, back)
 }
 
 /// The hundredths that a part of a unit costs.
-fn part_cost(edition: &Edition, trip: &Trip, parts: &[Part], own: &[usize], k: usize) -> u64
+fn part_cost(
+    edition: &Edition,
+    trip: &Trip,
+    known: Option<&Table>,
+    parts: &[Part],
+    own: &[usize],
+    k: usize,
+) -> u64
     requires advances { Advances trip.now parts.now }
     requires place { IsPlace parts.now k }
+    requires known { IfSome known (λ table. IsOf edition.now trip.now table.now) }
     ensures value { result ≡ part_cost edition.now trip.now parts.now own.now k }
     ensures bound { result ≤ MOST_AMOUNT }
 {
-    match part_amount(edition, trip, parts, own, k) {
+    match part_amount(edition, trip, known, parts, own, k) {
         None => 0,
         Some(found) => found.amount.hundredths(),
     }
@@ -64,13 +98,20 @@ fn part_cost(edition: &Edition, trip: &Trip, parts: &[Part], own: &[usize], k: u
 
 /// Whether some part of a unit has no amount in its direction.
 #[tactic(auto, using(crate::proofs::PriceSteps::lacks_next, crate::proofs::PriceSteps::lacks_past, crate::proofs::PriceSteps::lacks_done, crate::proofs::OwnLemmas::place_at))]
-pub(crate) fn lacks_amount(edition: &Edition, trip: &Trip, parts: &[Part], own: &[usize]) -> bool
+pub(crate) fn lacks_amount(
+    edition: &Edition,
+    trip: &Trip,
+    known: Option<&Table>,
+    parts: &[Part],
+    own: &[usize],
+) -> bool
     requires advances { Advances trip.now parts.now }
     requires places { ArePlaces parts.now own.now }
+    requires known { IfSome known (λ table. IsOf edition.now trip.now table.now) }
     ensures { result ≡ lacks_amount edition.now trip.now parts.now own.now }
 {
     for i in 0..own.len() {
-        if part_amount(edition, trip, parts, own, own[i]).is_none() {
+        if part_amount(edition, trip, known, parts, own, own[i]).is_none() {
             return true;
         }
     }
@@ -79,48 +120,77 @@ pub(crate) fn lacks_amount(edition: &Edition, trip: &Trip, parts: &[Part], own: 
 
 /// The sum of the amounts of a unit.
 #[tactic(auto, using(crate::proofs::PriceSteps::sum_left, crate::proofs::PriceSteps::sum_done, crate::proofs::OwnLemmas::place_at), unfolding(fare_rules::specs::UnitPrice::unit_sum))]
-fn unit_sum(edition: &Edition, trip: &Trip, parts: &[Part], own: &[usize]) -> u64
+fn unit_sum(
+    edition: &Edition,
+    trip: &Trip,
+    known: Option<&Table>,
+    parts: &[Part],
+    own: &[usize],
+) -> u64
     requires advances { Advances trip.now parts.now }
     requires places { ArePlaces parts.now own.now }
     requires few_own { length own.now ≤ MOST_PARTS }
+    requires known { IfSome known (λ table. IsOf edition.now trip.now table.now) }
     ensures value { result ≡ unit_sum edition.now trip.now parts.now own.now }
     ensures bound { result ≤ MOST_UNIT_PRICE }
 {
     let mut sum = 0;
     for i in 0..own.len() {
-        sum += part_cost(edition, trip, parts, own, own[i]);
+        sum += part_cost(edition, trip, known, parts, own, own[i]);
     }
     sum
 }
 
 /// Whether a unit has exactly two parts, of equal amounts.
 #[tactic(auto, using(crate::proofs::PriceSteps::two_equal, crate::proofs::PriceSteps::others_unequal, crate::proofs::OwnLemmas::place_at))]
-fn are_two_equal(edition: &Edition, trip: &Trip, parts: &[Part], own: &[usize]) -> bool
+fn are_two_equal(
+    edition: &Edition,
+    trip: &Trip,
+    known: Option<&Table>,
+    parts: &[Part],
+    own: &[usize],
+) -> bool
     requires advances { Advances trip.now parts.now }
     requires places { ArePlaces parts.now own.now }
+    requires known { IfSome known (λ table. IsOf edition.now trip.now table.now) }
     ensures { result ≡ are_two_equal (part_cost edition.now trip.now parts.now own.now) own.now }
 {
     if own.len() != 2 {
         return false;
     }
-    part_cost(edition, trip, parts, own, own[0]) == part_cost(edition, trip, parts, own, own[1])
+    part_cost(edition, trip, known, parts, own, own[0])
+        == part_cost(edition, trip, known, parts, own, own[1])
 }
 
 /// Whether a unit is a round trip: it closes, and has exactly two parts of equal amounts.
 #[tactic(auto, unfolding(fare_rules::specs::UnitPrice::is_round_trip))]
-fn is_round_trip(edition: &Edition, trip: &Trip, parts: &[Part], own: &[usize]) -> bool
+fn is_round_trip(
+    edition: &Edition,
+    trip: &Trip,
+    known: Option<&Table>,
+    parts: &[Part],
+    own: &[usize],
+) -> bool
     requires advances { Advances trip.now parts.now }
     requires places { ArePlaces parts.now own.now }
+    requires known { IfSome known (λ table. IsOf edition.now trip.now table.now) }
     ensures { result ≡ is_round_trip edition.now trip.now parts.now own.now }
 {
-    closes(trip, parts, own) && are_two_equal(edition, trip, parts, own)
+    closes(trip, parts, own) && are_two_equal(edition, trip, known, parts, own)
 }
 
 /// The kind of a unit: one way where it holds a one way fare, else an open jaw, a round trip, or else a circle trip.
 #[tactic(auto, unfolding(fare_rules::specs::UnitPrice::unit_kind))]
-fn unit_kind(edition: &Edition, trip: &Trip, parts: &[Part], own: &[usize]) -> UnitKind
+fn unit_kind(
+    edition: &Edition,
+    trip: &Trip,
+    known: Option<&Table>,
+    parts: &[Part],
+    own: &[usize],
+) -> UnitKind
     requires advances { Advances trip.now parts.now }
     requires places { ArePlaces parts.now own.now }
+    requires known { IfSome known (λ table. IsOf edition.now trip.now table.now) }
     ensures { result ≡ unit_kind edition.now trip.now parts.now own.now }
 {
     if holds_ow(edition, parts, own) {
@@ -129,7 +199,7 @@ fn unit_kind(edition: &Edition, trip: &Trip, parts: &[Part], own: &[usize]) -> U
     if is_open_jaw(edition, trip, parts, own) {
         return UnitKind::OJ;
     }
-    if is_round_trip(edition, trip, parts, own) {
+    if is_round_trip(edition, trip, known, parts, own) {
         return UnitKind::RT;
     }
     UnitKind::CT
@@ -200,29 +270,43 @@ fn sheet_from(kind: UnitKind, sum: u64, minimum: Option<Nuc>) -> UnitSheet
 
 /// The kind, sum, minimum and price of the unit of some places of parts.
 #[tactic(auto, unfolding(fare_rules::specs::UnitPrice::unit_sheet))]
-pub(crate) fn sheet_of(edition: &Edition, trip: &Trip, parts: &[Part], own: &[usize]) -> UnitSheet
+pub(crate) fn sheet_of(
+    edition: &Edition,
+    trip: &Trip,
+    known: Option<&Table>,
+    parts: &[Part],
+    own: &[usize],
+) -> UnitSheet
     requires advances { Advances trip.now parts.now }
     requires places { ArePlaces parts.now own.now }
     requires few_own { length own.now ≤ MOST_PARTS }
     requires some { 1 ≤ length own.now }
+    requires known { IfSome known (λ table. IsOf edition.now trip.now table.now) }
     ensures value { result ≡ unit_sheet edition.now trip.now parts.now own.now }
     ensures bound { result.price ≤ MOST_UNIT_PRICE }
 {
-    let kind = unit_kind(edition, trip, parts, own);
-    let sum = unit_sum(edition, trip, parts, own);
+    let kind = unit_kind(edition, trip, known, parts, own);
+    let sum = unit_sum(edition, trip, known, parts, own);
     sheet_from(kind, sum, unit_minimum(edition, trip, parts, own, kind))
 }
 
 /// The price of a unit.
-pub(crate) fn unit_price(edition: &Edition, trip: &Trip, parts: &[Part], unit: usize) -> u64
+pub(crate) fn unit_price(
+    edition: &Edition,
+    trip: &Trip,
+    known: Option<&Table>,
+    parts: &[Part],
+    unit: usize,
+) -> u64
     requires few { length parts.now ≤ MOST_PARTS }
     requires advances { Advances trip.now parts.now }
     requires some { 1 ≤ length (own parts.now unit) }
+    requires known { IfSome known (λ table. IsOf edition.now trip.now table.now) }
     ensures value { result ≡ unit_price edition.now trip.now parts.now unit }
     ensures bound { result ≤ MOST_UNIT_PRICE }
 {
     let own = own(parts, unit);
-    sheet_of(edition, trip, parts, own.as_slice()).price
+    sheet_of(edition, trip, known, parts, own.as_slice()).price
 }
 
 /// The price of a construction whose units are numbered in order: the sum of the prices of its units.
@@ -235,7 +319,7 @@ pub(crate) fn price(edition: &Edition, trip: &Trip, parts: &[Part]) -> u64
 {
     let mut total = 0;
     for unit in 1..greatest_unit(parts) + 1 {
-        total += unit_price(edition, trip, parts, unit);
+        total += unit_price(edition, trip, None, parts, unit);
     }
     total
 }

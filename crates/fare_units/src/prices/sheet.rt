@@ -24,7 +24,7 @@ pub fn unit_sheet(edition: &Edition, trip: &Trip, c: &Construction, unit: u8) ->
 {
     let parts = c.parts();
     let own = own(parts, unit as usize);
-    sheet_of(edition, trip, parts, own.as_slice())
+    sheet_of(edition, trip, None, parts, own.as_slice())
 }
 
 /// How many pricing units the construction has: the greatest unit number of its parts.
