@@ -28,6 +28,7 @@ use Rattle.fare_rules.proofs.OneWayLemmas.{one_way_unit}
 use Rattle.fare_rules.proofs.MemberLemmas.{Member}
 use Rattle.fare_bounds.specs.Covers.{lesser, hundredths_of}
 use Rattle.fare_branch.specs.Costs.{or_nothing, fare_least, part_least, unit_least}
+use Rattle.fare_branch.specs.Endings.{IsUpTo}
 use Rattle.fare_branch.proofs.SumLemmas.{sum_up_members, kept_member}
 
 true_false : true ≡ false → ⊥
@@ -36,61 +37,57 @@ true_false e = cc
 none_some : {A : Type 0} (x : A) → None ≡ Some x → ⊥
 none_some x e = cc
 
--- an amount is there, and no more than some number
-abbrev pub IsUpTo : ℕ → Option ℕ → Type 0
-IsUpTo most o = (least : ℕ) × (o ≡ Some least) × (least ≤ most)
-
-lesser_first : (a b : Option ℕ) (amount : ℕ) → a ≡ Some amount → IsUpTo amount (lesser a b)
+pub lesser_first : (a b : Option ℕ) (amount : ℕ) → a ≡ Some amount → IsUpTo amount (lesser a b)
 lesser_first None b amount e = absurd (none_some amount e)
 lesser_first (Some a) None amount e = (a, refl, omega (arith, same_Some a amount e))
 lesser_first (Some a) (Some b) amount e = (min a b, refl, omega (arith, same_Some a amount e))
 
-lesser_second : (a b : Option ℕ) (amount : ℕ) → b ≡ Some amount → IsUpTo amount (lesser a b)
+pub lesser_second : (a b : Option ℕ) (amount : ℕ) → b ≡ Some amount → IsUpTo amount (lesser a b)
 lesser_second None b amount e = (amount, e, omega arith)
 lesser_second (Some a) None amount e = absurd (none_some amount e)
 lesser_second (Some a) (Some b) amount e = (min a b, refl, omega (arith, same_Some b amount e))
 
 -- a fare is one way or a half round trip
-not_half : (kind : Kind) → same_kind kind OW ≡ true → same_kind kind HR ≡ false
+pub not_half : (kind : Kind) → same_kind kind OW ≡ true → same_kind kind HR ≡ false
 not_half OW e = refl
 not_half HR e = absurd (true_false (sym e))
 
-half : (kind : Kind) → same_kind kind OW ≡ false → same_kind kind HR ≡ true
+pub half : (kind : Kind) → same_kind kind OW ≡ false → same_kind kind HR ≡ true
 half OW e = absurd (true_false e)
 half HR e = refl
 
-lone : (test : ℕ → Bool) (xs : List ℕ) → list_any test xs ≡ true → length xs ≤ 1 → (k : ℕ) × (xs ≡ k ∷ []) × (test k ≡ true)
+pub lone : (test : ℕ → Bool) (xs : List ℕ) → list_any test xs ≡ true → length xs ≤ 1 → (k : ℕ) × (xs ≡ k ∷ []) × (test k ≡ true)
 lone test [] e h = absurd (true_false (sym e))
 lone test (k ∷ []) e h = elim (or_cases (test k) false e) [ inl t ↦ (k, refl, t) | inr f ↦ absurd (true_false (sym f)) ]
 lone test (k ∷ j ∷ rest) e h = absurd (omega arith)
 
-at_least_up : (sum : ℕ) (minimum : Option ℕ) → sum ≤ at_least sum minimum
+pub at_least_up : (sum : ℕ) (minimum : Option ℕ) → sum ≤ at_least sum minimum
 at_least_up sum None = omega arith
 at_least_up sum (Some minimum) = omega arith
 
 module _ (tariff : Tariff) (trip : Itinerary) where
   -- a half round trip costs at least the lesser of its amounts
-  half_least : (a b number : ℕ) (back : Bool) (fare : FareRecord) (amount : Amount) → fare_at tariff number ≡ Some fare → is_half_round_trip fare ≡ true → component_amount tariff trip a b number back ≡ Some amount → IsUpTo amount.amount (fare_least tariff trip a b number)
+  pub half_least : (a b number : ℕ) (back : Bool) (fare : FareRecord) (amount : Amount) → fare_at tariff number ≡ Some fare → is_half_round_trip fare ≡ true → component_amount tariff trip a b number back ≡ Some amount → IsUpTo amount.amount (fare_least tariff trip a b number)
   half_least a b number false fare amount f h e =
       rw (f, h) (lesser_first (option_map hundredths_of (component_amount tariff trip a b number false)) (option_map hundredths_of (component_amount tariff trip a b number true)) amount.amount (ap (option_map hundredths_of) e))
   half_least a b number true fare amount f h e =
       rw (f, h) (lesser_second (option_map hundredths_of (component_amount tariff trip a b number false)) (option_map hundredths_of (component_amount tariff trip a b number true)) amount.amount (ap (option_map hundredths_of) e))
 
   -- a one way fare costs its price as a unit
-  single_least : (a b number price : ℕ) (fare : FareRecord) → fare_at tariff number ≡ Some fare → is_half_round_trip fare ≡ false → one_way_price tariff trip a b number ≡ Some price → fare_least tariff trip a b number ≡ Some price
+  pub single_least : (a b number price : ℕ) (fare : FareRecord) → fare_at tariff number ≡ Some fare → is_half_round_trip fare ≡ false → one_way_price tariff trip a b number ≡ Some price → fare_least tariff trip a b number ≡ Some price
   single_least a b number price fare f h e = rw (f, h, e) refl
 
 module _ (tariff : Tariff) (trip : Itinerary) (parts : List Part) (price : ℕ) (lawful : IsLawful tariff trip parts price) where
-  holds : IsKept tariff trip parts
+  pub holds : IsKept tariff trip parts
   holds = kept tariff trip parts price lawful
 
-  one_way_least : (k : ℕ) → 1 ≤ k → k ≤ length parts → is_ow tariff parts k ≡ true → fare_least tariff trip (start_of trip parts k) (end_of parts k) (part_at parts k).fare ≡ Some (unit_price tariff trip parts (unit_of parts k))
+  pub one_way_least : (k : ℕ) → 1 ≤ k → k ≤ length parts → is_ow tariff parts k ≡ true → fare_least tariff trip (start_of trip parts k) (end_of parts k) (part_at parts k).fare ≡ Some (unit_price tariff trip parts (unit_of parts k))
   one_way_least k low high way =
       let filed = fare_is_filed tariff trip parts holds k low high in
       let kind : same_kind filed.0.kind OW ≡ true = rw filed.1 at way in
       single_least tariff trip (start_of trip parts k) (end_of parts k) (part_at parts k).fare (unit_price tariff trip parts (unit_of parts k)) filed.0 filed.1 (not_half filed.0.kind kind) (one_way_unit tariff trip parts price k lawful low high way)
 
-  half_way_least : (k : ℕ) → 1 ≤ k → k ≤ length parts → is_ow tariff parts k ≡ false → (amount : Amount) × (component_amount tariff trip (start_of trip parts k) (end_of parts k) (part_at parts k).fare (is_back tariff trip parts k) ≡ Some amount) × IsUpTo amount.amount (fare_least tariff trip (start_of trip parts k) (end_of parts k) (part_at parts k).fare)
+  pub half_way_least : (k : ℕ) → 1 ≤ k → k ≤ length parts → is_ow tariff parts k ≡ false → (amount : Amount) × (component_amount tariff trip (start_of trip parts k) (end_of parts k) (part_at parts k).fare (is_back tariff trip parts k) ≡ Some amount) × IsUpTo amount.amount (fare_least tariff trip (start_of trip parts k) (end_of parts k) (part_at parts k).fare)
   half_way_least k low high way =
       let filed = fare_is_filed tariff trip parts holds k low high in
       let kind : same_kind filed.0.kind OW ≡ false = rw filed.1 at way in
@@ -105,7 +102,7 @@ module _ (tariff : Tariff) (trip : Itinerary) (parts : List Part) (price : ℕ) 
         | inr f ↦ let found = half_way_least k low high f in (found.2.0, found.2.1)
       ]
 
-  member_place : (unit k : ℕ) → Member k (own parts unit) → (1 ≤ k) × (k ≤ length parts) × (unit_of parts k ≡ unit)
+  pub member_place : (unit k : ℕ) → Member k (own parts unit) → (1 ≤ k) × (k ≤ length parts) × (unit_of parts k ≡ unit)
   unfolding own
   member_place unit k m =
       let h = kept_member (is_own parts unit) 1 (length parts + 1 - 1) k m in
@@ -125,7 +122,7 @@ module _ (tariff : Tariff) (trip : Itinerary) (parts : List Part) (price : ℕ) 
       let whole : part_least tariff trip parts one.0 + sum_by (part_least tariff trip parts) [] ≡ part_least tariff trip parts one.0 = omega arith in
       sum ∙ whole ∙ least ∙ ap (unit_price tariff trip parts) place.2
 
-  half_part : (unit k : ℕ) → holds_ow tariff parts (own parts unit) ≡ false → Member k (own parts unit) → part_least tariff trip parts k ≤ part_cost tariff trip parts (own parts unit) k
+  pub half_part : (unit k : ℕ) → holds_ow tariff parts (own parts unit) ≡ false → Member k (own parts unit) → part_least tariff trip parts k ≤ part_cost tariff trip parts (own parts unit) k
   unfolding own part_amount
   half_part unit k none m =
       let place = member_place unit k m in

@@ -22,7 +22,7 @@ use Rattle.fare_branch.specs.Costs.{or_nothing, fare_least, part_least}
 use Rattle.fare_branch.proofs.CostLemmas.{part_has_least}
 
 -- a part that comes after others begins where what is behind them does
-begins_behind : (trip : Itinerary) (front : List Part) → (sector trip 1).surface ≡ false → begin_after trip (end_of front (length front)) ≡ next_start trip front
+pub begins_behind : (trip : Itinerary) (front : List Part) → (sector trip 1).surface ≡ false → begin_after trip (end_of front (length front)) ≡ next_start trip front
 begins_behind trip [] flown = rw flown refl
 begins_behind trip (x ∷ xs) flown =
     let n : length (x ∷ xs) + 1 - 1 ≡ length (x ∷ xs) = omega arith in

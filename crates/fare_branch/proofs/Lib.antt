@@ -14,3 +14,7 @@ pub mod ShutLemmas
 pub mod OnwardLemmas
 pub mod RefusalLemmas
 pub mod DiveLemmas
+pub mod EndingLemmas
+pub mod NearLemmas
+pub mod BehindLemmas
+pub mod RestLemmas

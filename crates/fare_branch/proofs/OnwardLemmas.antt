@@ -31,19 +31,19 @@ use Rattle.fare_branch.proofs.SumLemmas.{kept_member}
 true_false : true ≡ false → ⊥
 true_false e = cc
 
-and_not : (must b : Bool) → must ≡ true → (must && not b) ≡ false → b ≡ true
+pub and_not : (must b : Bool) → must ≡ true → (must && not b) ≡ false → b ≡ true
 and_not true true m e = refl
 and_not true false m e = absurd (true_false e)
 and_not false b m e = absurd (true_false (sym m))
 
-jaw_either : (n l e m o p : Bool) → ((n && l && e) || (m && o && p)) ≡ true → (e ≡ true) ⊎ (o ≡ true)
+pub jaw_either : (n l e m o p : Bool) → ((n && l && e) || (m && o && p)) ≡ true → (e ≡ true) ⊎ (o ≡ true)
 jaw_either n l e m o p h =
     elim (or_cases (n && l && e) (m && o && p) h) [
       | inl g ↦ inl (and_parts (n && l) e g).1
       | inr g ↦ inr (and_parts m o (and_parts (m && o) p g).0).1
     ]
 
-last_append : (xs : List ℕ) (k : ℕ) (more : List ℕ) → last_of (xs ++ k ∷ more) ≡ last_of (k ∷ more)
+pub last_append : (xs : List ℕ) (k : ℕ) (more : List ℕ) → last_of (xs ++ k ∷ more) ≡ last_of (k ∷ more)
 last_append [] k more = refl
 last_append (x ∷ []) k more = refl
 last_append (x ∷ y ∷ ys) k more = last_append (y ∷ ys) k more
@@ -52,11 +52,11 @@ last_one : (k : ℕ) (more : List ℕ) → Member (last_of (k ∷ more)) (k ∷ 
 last_one k [] = inl refl
 last_one k (y ∷ ys) = inr (last_one y ys)
 
-either_left : (a b : Bool) → a ≡ true → (a || b) ≡ true
+pub either_left : (a b : Bool) → a ≡ true → (a || b) ≡ true
 either_left true b e = refl
 either_left false b e = absurd (true_false (sym e))
 
-either_right : (a b : Bool) → b ≡ true → (a || b) ≡ true
+pub either_right : (a b : Bool) → b ≡ true → (a || b) ≡ true
 either_right true b e = refl
 either_right false b e = e
 
@@ -75,7 +75,7 @@ not_jaw : (tariff : Tariff) (trip : Itinerary) (parts : List Part) (xs : List �
 unfolding is_open_jaw
 not_jaw tariff trip parts xs e = e
 
-must_close_from : (tariff : Tariff) (trip : Itinerary) (parts : List Part) (xs : List ℕ) → holds_ow tariff parts xs ≡ false → is_jaw tariff trip parts xs ≡ false → must_close tariff trip parts xs ≡ true
+pub must_close_from : (tariff : Tariff) (trip : Itinerary) (parts : List Part) (xs : List ℕ) → holds_ow tariff parts xs ≡ false → is_jaw tariff trip parts xs ≡ false → must_close tariff trip parts xs ≡ true
 unfolding is_hr is_open_jaw
 must_close_from tariff trip parts xs o j = rw (o, j) refl
 
@@ -119,7 +119,7 @@ module _ (tariff : Tariff) (trip : Itinerary) (front rest : List Part) (price : 
   close_holds = find_none (is_unclosed tariff trip (front ++ rest)) 1 (greatest_unit (front ++ rest) (places (front ++ rest)) + 1) (kept tariff trip (front ++ rest) price lawful).close unit low (omega arith)
 
   -- where it must close it is chained and ends at home
-  closed_whole : (ys : List ℕ) → own (front ++ rest) unit ≡ ys → must_close tariff trip (front ++ rest) ys ≡ true → (is_chained trip (front ++ rest) ys ≡ true) × (ends_at_home trip (front ++ rest) ys ≡ true)
+  pub closed_whole : (ys : List ℕ) → own (front ++ rest) unit ≡ ys → must_close tariff trip (front ++ rest) ys ≡ true → (is_chained trip (front ++ rest) ys ≡ true) × (ends_at_home trip (front ++ rest) ys ≡ true)
   closed_whole ys e must =
       let P : List ℕ → Type 0 = λ zs. (must_close tariff trip (front ++ rest) zs && not (is_chained trip (front ++ rest) zs)) ≡ false in
       let Q : List ℕ → Type 0 = λ zs. (must_close tariff trip (front ++ rest) zs && not (ends_at_home trip (front ++ rest) zs)) ≡ false in (

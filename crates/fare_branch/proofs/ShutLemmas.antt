@@ -28,8 +28,8 @@ use Rattle.fare_units.proofs.ShutLemmas.{shut_has_parts}
 use Rattle.fare_branch.specs.Costs.{part_least, unit_least, unit_floor, units_floor}
 use Rattle.fare_branch.specs.Floors.{HasNoOpenUnit, HasNoCompletion}
 use Rattle.fare_branch.proofs.CostLemmas.{unit_costs_least}
-use Rattle.fare_branch.proofs.FloorLemmas.{behind_least, unit_in_two, weights_are_below}
-use Rattle.fare_branch.proofs.LegLemmas.{legs_of}
+use Rattle.fare_branch.proofs.FloorLemmas.{AreLeastInFront, behind_cost, front_least, unit_in_two, weights_are_below}
+use Rattle.fare_branch.proofs.LegLemmas.{legs_of, legs_total}
 use Rattle.fare_branch.proofs.SameLemmas.{AreFirst, amount_same, holds_same, chained_same, origin_same, ends_in_same, price_same}
 use Rattle.fare_branch.proofs.SumLemmas.{range_in_two, kept_member, sum_up, unit_up_to}
 
@@ -260,10 +260,10 @@ module _ (tariff : Tariff) (trip : Itinerary) (front rest : List Part) where
         true_false (sym both.1 ∙ none)
 
     -- and it costs the same
-    pub shut_costs : is_shut tariff trip front (own front unit) ≡ true → unit_price tariff trip front unit + behind_least tariff trip front rest unit ≤ unit_price tariff trip (front ++ rest) unit
-    shut_costs shut =
+    pub shut_costs : (cost : ℕ → ℕ) → is_shut tariff trip front (own front unit) ≡ true → unit_price tariff trip front unit + behind_cost tariff trip front rest cost unit ≤ unit_price tariff trip (front ++ rest) unit
+    shut_costs cost shut =
         let behind : own_behind unit ≡ [] = shut_alone (own front unit) (own_behind unit) (own_are_first unit) (own_in_two unit) shut in
-        let nothing : behind_least tariff trip front rest unit ≡ 0 = ap (sum_by (part_least tariff trip (front ++ rest))) behind in
+        let nothing : behind_cost tariff trip front rest cost unit ≡ 0 = ap (sum_by cost) behind in
         let same : own (front ++ rest) unit ≡ own front unit = own_in_two unit ∙ ap (λ xs. own front unit ++ xs) behind ∙ append-nil (own front unit) in
         let price_of : unit_price tariff trip (front ++ rest) unit ≡ (unit_sheet tariff trip (front ++ rest) (own front unit)).price = ap (λ xs. (unit_sheet tariff trip (front ++ rest) xs).price) same in
         let equal : (unit_sheet tariff trip (front ++ rest) (own front unit)).price ≡ unit_price tariff trip front unit = price_here (own front unit) (own_are_first unit) shut in
@@ -273,20 +273,31 @@ module _ (tariff : Tariff) (trip : Itinerary) (front rest : List Part) where
         price_here [] first shut = let some : 1 ≤ length {A = ℕ} [] = shut_has_parts tariff trip front [] shut in absurd (omega arith)
         price_here (x ∷ xs) first shut = price_same tariff trip front rest x xs first
 
-    pub floor_costs : unit_floor tariff trip front unit + behind_least tariff trip front rest unit ≤ unit_price tariff trip (front ++ rest) unit
-    floor_costs =
+    pub floor_costs : (cost : ℕ → ℕ) → AreLeastInFront tariff trip front rest cost → sum_by cost (own (front ++ rest) unit) ≤ unit_price tariff trip (front ++ rest) unit
+        → unit_floor tariff trip front unit + behind_cost tariff trip front rest cost unit ≤ unit_price tariff trip (front ++ rest) unit
+    floor_costs cost like one =
         elim (cases_Bool (is_shut tariff trip front (own front unit))) [
-          | inl t ↦ rw t (shut_costs t)
+          | inl t ↦ rw t (shut_costs cost t)
           | inr f ↦
-              let two : unit_least tariff trip (front ++ rest) unit ≡ unit_least tariff trip front unit + behind_least tariff trip front rest unit = unit_in_two tariff trip front rest unit in
-              let one : unit_least tariff trip (front ++ rest) unit ≤ unit_price tariff trip (front ++ rest) unit = unit_costs_least tariff trip (front ++ rest) price lawful unit low high in
+              let two : sum_by cost (own (front ++ rest) unit) ≡ unit_least tariff trip front unit + behind_cost tariff trip front rest cost unit = unit_in_two tariff trip front rest cost like unit in
               rw f (omega arith)
         ]
+
+-- what units cost at least, with what the parts behind cost, is no more than the price, where no unit's parts cost more
+-- than the unit
+pub floor_by : (tariff : Tariff) (trip : Itinerary) (front rest : List Part) (price : ℕ) (cost : ℕ → ℕ) → IsLawful tariff trip (front ++ rest) price → AreLeastInFront tariff trip front rest cost
+    → ((unit : ℕ) → 1 ≤ unit → unit ≤ greatest_unit (front ++ rest) (places (front ++ rest)) → sum_by cost (own (front ++ rest) unit) ≤ unit_price tariff trip (front ++ rest) unit)
+    → units_floor tariff trip front + sum_by cost (range_with_len (length front + 1) (length rest)) ≤ price
+floor_by tariff trip front rest price cost lawful like each =
+    weights_are_below tariff trip front rest price lawful cost (unit_floor tariff trip front) (λ unit low high. floor_costs tariff trip front rest price lawful unit low high cost like (each unit low high))
 
 -- what units cost at least with the legs behind is no more than the price
 pub floor_is_below : (tariff : Tariff) (trip : Itinerary) (front rest : List Part) (cost : ℕ) → IsLawful tariff trip (front ++ rest) cost → units_floor tariff trip front + total (legs_of tariff trip front rest) ≤ cost
 floor_is_below tariff trip front rest cost lawful =
-    weights_are_below tariff trip front rest cost lawful (unit_floor tariff trip front) (λ unit low high. floor_costs tariff trip front rest cost lawful unit low high)
+    let legs : total (legs_of tariff trip front rest) ≡ sum_by (part_least tariff trip (front ++ rest)) (range_with_len (length front + 1) (length rest)) = legs_total tariff trip (front ++ rest) front rest refl in
+    let low : units_floor tariff trip front + sum_by (part_least tariff trip (front ++ rest)) (range_with_len (length front + 1) (length rest)) ≤ cost =
+    floor_by tariff trip front rest cost (part_least tariff trip (front ++ rest)) lawful (front_least tariff trip front rest) (λ unit low high. unit_costs_least tariff trip (front ++ rest) cost lawful unit low high) in
+    omega arith
 
 -- and where no unit is open it is their price
 pub shut_floor : (tariff : Tariff) (trip : Itinerary) (parts : List Part) → HasNoOpenUnit tariff trip parts → units_floor tariff trip parts ≡ price tariff trip parts

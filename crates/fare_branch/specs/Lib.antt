@@ -6,6 +6,7 @@ pub mod Floors
 pub mod Refusals
 pub mod Beginnings
 pub mod Costs
+pub mod Endings
 pub mod Walked
 pub mod Search
 pub mod Dive

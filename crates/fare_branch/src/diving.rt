@@ -4,15 +4,15 @@
 ghost use Rattle.std.specs.Prelude.{◌≡◌, ◌+◌, ◌<◌, ◌≤◌, IfSome};
 ghost use Rattle.fare_trip.specs.Itinerary.{count};
 ghost use Rattle.fare_units.specs.Walk.{next_start};
-ghost use Rattle.fare_bounds.specs.Covers.{AreRests};
+ghost use Rattle.fare_branch.specs.Endings.{AreEndings};
 ghost use Rattle.fare_branch.specs.Floors.{IsMadeWith};
 ghost use Rattle.fare_branch.specs.Dive.{GoesFrom, StartsIn};
 ghost use Rattle.fare_branch.specs.Search.{BeginsIn};
 
-use crate::floors::floor_of;
+use crate::closing::closer_floor;
+use crate::endings::Endings;
 use crate::partial::Partial;
 use crate::pieces::{Piece, choice, choices};
-use fare_bounds::Rest;
 use fare_component::Table;
 use fare_rules::Part;
 
@@ -22,8 +22,8 @@ type Step = Option<(Partial, u64)>;
 /// The one with the lesser floor of what was found and some first parts that one more follows, where these can bring
 /// anything.
 #[tactic(auto, using(crate::proofs::DiveLemmas::goes_next))]
-fn lesser_step(table: &Table, rest: &Rest, front: &Partial, part: Part, found: Step) -> Step
-    requires rest { AreRests table.now.edition table.now.trip rest.now }
+fn lesser_step(table: &Table, endings: &Endings, front: &Partial, part: Part, found: Step) -> Step
+    requires endings { AreEndings table.now.edition table.now.trip endings.now }
     requires made { IsMadeWith table.now front.now }
     requires found { IfSome found (GoesFrom table.now front.now) }
     ensures { IfSome result (GoesFrom table.now front.now) }
@@ -31,7 +31,7 @@ fn lesser_step(table: &Table, rest: &Rest, front: &Partial, part: Part, found: S
     let Some(longer) = front.next(table, part) else {
         return found;
     };
-    let Some(floor) = floor_of(table, rest, &longer) else {
+    let Some(floor) = closer_floor(table, endings, &longer) else {
         return found;
     };
     match found {
@@ -43,13 +43,13 @@ fn lesser_step(table: &Table, rest: &Rest, front: &Partial, part: Part, found: S
 /// Over the units of a part that ends at a point and has a fare.
 fn least_by_units(
     table: &Table,
-    rest: &Rest,
+    endings: &Endings,
     front: &Partial,
     end: usize,
     fare: u32,
     found: Step,
 ) -> Step
-    requires rest { AreRests table.now.edition table.now.trip rest.now }
+    requires endings { AreEndings table.now.edition table.now.trip endings.now }
     requires made { IsMadeWith table.now front.now }
     requires within { end ≤ count table.now.trip }
     requires found { IfSome found (GoesFrom table.now front.now) }
@@ -64,14 +64,20 @@ fn least_by_units(
             unit: unit as u8,
             fare,
         };
-        found = lesser_step(table, rest, front, part, found);
+        found = lesser_step(table, endings, front, part, found);
     }
     found
 }
 
 /// Over the entries of the span to a point.
-fn least_by_entries(table: &Table, rest: &Rest, front: &Partial, end: usize, found: Step) -> Step
-    requires rest { AreRests table.now.edition table.now.trip rest.now }
+fn least_by_entries(
+    table: &Table,
+    endings: &Endings,
+    front: &Partial,
+    end: usize,
+    found: Step,
+) -> Step
+    requires endings { AreEndings table.now.edition table.now.trip endings.now }
     requires made { IsMadeWith table.now front.now }
     requires rises { next_start table.now.trip front.now < end }
     requires within { end ≤ count table.now.trip }
@@ -80,40 +86,40 @@ fn least_by_entries(table: &Table, rest: &Rest, front: &Partial, end: usize, fou
 {
     let mut found = found;
     for entry in table.entries(front.next_start(table.trip()), end) {
-        found = least_by_units(table, rest, front, end, entry.fare, found);
+        found = least_by_units(table, endings, front, end, entry.fare, found);
     }
     found
 }
 
 /// Some first parts that one more follows, with the least floor; nothing where none follows.
-fn least_step(table: &Table, rest: &Rest, front: &Partial) -> Step
-    requires rest { AreRests table.now.edition table.now.trip rest.now }
+fn least_step(table: &Table, endings: &Endings, front: &Partial) -> Step
+    requires endings { AreEndings table.now.edition table.now.trip endings.now }
     requires made { IsMadeWith table.now front.now }
     ensures { IfSome result (GoesFrom table.now front.now) }
 {
     let trip = table.trip();
     let mut found = None;
     for end in (front.next_start(trip) + 1..trip.count() + 1).rev() {
-        found = least_by_entries(table, rest, front, end, found);
+        found = least_by_entries(table, endings, front, end, found);
     }
     found
 }
 
 /// The first part with the least floor among the choices of a piece.
-fn first_step(table: &Table, rest: &Rest, piece: Piece) -> Step
-    requires rest { AreRests table.now.edition table.now.trip rest.now }
+fn first_step(table: &Table, endings: &Endings, piece: Piece) -> Step
+    requires endings { AreEndings table.now.edition table.now.trip endings.now }
     ensures { IfSome result (StartsIn table.now piece) }
 {
     let mut found = None;
     for number in piece.first..piece.past.min(choices(table)) {
-        found = lesser_start(table, rest, piece, number, found);
+        found = lesser_start(table, endings, piece, number, found);
     }
     found
 }
 
 /// The one with the lesser floor of what was found and the first part of a choice.
-fn lesser_start(table: &Table, rest: &Rest, piece: Piece, number: u32, found: Step) -> Step
-    requires rest { AreRests table.now.edition table.now.trip rest.now }
+fn lesser_start(table: &Table, endings: &Endings, piece: Piece, number: u32, found: Step) -> Step
+    requires endings { AreEndings table.now.edition table.now.trip endings.now }
     requires low { piece.first ≤ number }
     requires high { number < piece.past }
     requires found { IfSome found (StartsIn table.now piece) }
@@ -131,7 +137,7 @@ fn lesser_start(table: &Table, rest: &Rest, piece: Piece, number: u32, found: St
     let Some(first) = Partial::new().next(table, part) else {
         return found;
     };
-    let Some(floor) = floor_of(table, rest, &first) else {
+    let Some(floor) = closer_floor(table, endings, &first) else {
         return found;
     };
     match found {
@@ -142,13 +148,13 @@ fn lesser_start(table: &Table, rest: &Rest, piece: Piece, number: u32, found: St
 
 /// What a dive comes to in a piece: first parts that begin with one of its choices, and often a whole construction;
 /// nothing where no choice can bring anything.
-pub(crate) fn dive(table: &Table, rest: &Rest, piece: Piece) -> Option<Partial>
-    requires rest { AreRests table.now.edition table.now.trip rest.now }
+pub(crate) fn dive(table: &Table, endings: &Endings, piece: Piece) -> Option<Partial>
+    requires endings { AreEndings table.now.edition table.now.trip endings.now }
     ensures { IfSome result (BeginsIn table.now.edition table.now.trip piece) }
 {
-    let (mut front, _floor) = first_step(table, rest, piece)?;
+    let (mut front, _floor) = first_step(table, endings, piece)?;
     for _part in 0..table.trip().count() {
-        let Some((longer, _floor)) = least_step(table, rest, &front) else {
+        let Some((longer, _floor)) = least_step(table, endings, &front) else {
             return Some(front);
         };
         front = longer;

@@ -8,6 +8,9 @@
 //! - `partial`: first parts of constructions, part by part;
 //! - `costs`: what parts cost at least;
 //! - `floors`: what first parts cost at least, with all that may follow;
+//! - `nearness`: which units may end where the trip does;
+//! - `endings`: what the rest of a trip costs at least, where its last part ends a unit;
+//! - `closing`: what first parts cost at least, with all that may follow and the way in which the trip must end;
 //! - `diving`: a greedy dive for a price to begin with;
 //! - `walking`: the walk over the constructions that begin with some parts;
 //! - `searching`: the search of a piece;
@@ -17,9 +20,12 @@
 #![tactic(auto)]
 
 mod bound;
+mod closing;
 mod costs;
 mod diving;
+mod endings;
 mod floors;
+mod nearness;
 mod own_bound;
 mod partial;
 mod pieces;

@@ -2,12 +2,14 @@
 
 ghost use Rattle.std.specs.Prelude.{◌≡◌};
 ghost use Rattle.fare_bounds.specs.Covers.{AreRests};
+ghost use Rattle.fare_branch.specs.Endings.{AreEndings};
 ghost use Rattle.fare_branch.specs.Search.{IsLeastPrice, BeginsIn, BeginsBy, IsSearched, kept_at};
 ghost use Rattle.fare_branch.specs.Dive.{IsDived};
 ghost use Rattle.fare_branch.specs.Walked.{IsWalk, IsUnderAll};
 
 use crate::bound::Bound;
 use crate::diving::dive;
+use crate::endings::{Endings, endings_of};
 use crate::partial::Partial;
 use crate::pieces::{Piece, choice, choices};
 use crate::walking::{Found, enter, take};
@@ -29,8 +31,9 @@ pub fn search<B: Bound>(
     ensures fixed { B.fixed bound.new ≡ B.fixed bound.old }
     ensures searched { IsSearched table.now.edition table.now.trip piece (B.least bound.new) result }
 {
-    let first = try_dive(table, rest, piece, bound);
-    let found = walk_piece(table, rest, piece, first, bound);
+    let endings = endings_of(table);
+    let first = try_dive(table, &endings, piece, bound);
+    let found = walk_piece(table, &endings, piece, first, bound);
     let least = bound.seen();
     kept_at(found, least)
 }
@@ -46,13 +49,13 @@ fn kept_at(found: Found, least: u64) -> Found
 }
 
 /// Takes what a dive comes to, where that is lawful.
-fn try_dive<B: Bound>(table: &Table, rest: &Rest, piece: Piece, bound: &mut B) -> Found
-    requires rest { AreRests table.now.edition table.now.trip rest.now }
+fn try_dive<B: Bound>(table: &Table, endings: &Endings, piece: Piece, bound: &mut B) -> Found
+    requires endings { AreEndings table.now.edition table.now.trip endings.now }
     requires under { IsUnderAll table.now.edition table.now.trip (B.fixed bound.old) }
     ensures fixed { B.fixed bound.new ≡ B.fixed bound.old }
     ensures dived { IsDived table.now.edition table.now.trip piece (B.least bound.old) (B.least bound.new) result }
 {
-    match dive(table, rest, piece) {
+    match dive(table, endings, piece) {
         None => None,
         Some(front) => take(table, &front, None, bound),
     }
@@ -61,12 +64,12 @@ fn try_dive<B: Bound>(table: &Table, rest: &Rest, piece: Piece, bound: &mut B) -
 /// Walks over the constructions that begin in a piece.
 fn walk_piece<B: Bound>(
     table: &Table,
-    rest: &Rest,
+    endings: &Endings,
     piece: Piece,
     best: Found,
     bound: &mut B,
 ) -> Found
-    requires rest { AreRests table.now.edition table.now.trip rest.now }
+    requires endings { AreEndings table.now.edition table.now.trip endings.now }
     requires under { IsUnderAll table.now.edition table.now.trip (B.fixed bound.old) }
     ensures fixed { B.fixed bound.new ≡ B.fixed bound.old }
     ensures walk { IsWalk table.now.edition table.now.trip (BeginsIn table.now.edition table.now.trip piece)
@@ -74,7 +77,7 @@ fn walk_piece<B: Bound>(
 {
     let mut best = best;
     for number in piece.first..piece.past.min(choices(table)) {
-        best = walk_choice(table, rest, number, best, bound);
+        best = walk_choice(table, endings, number, best, bound);
     }
     best
 }
@@ -82,12 +85,12 @@ fn walk_piece<B: Bound>(
 /// Walks over the constructions that begin with a choice.
 fn walk_choice<B: Bound>(
     table: &Table,
-    rest: &Rest,
+    endings: &Endings,
     number: u32,
     best: Found,
     bound: &mut B,
 ) -> Found
-    requires rest { AreRests table.now.edition table.now.trip rest.now }
+    requires endings { AreEndings table.now.edition table.now.trip endings.now }
     requires under { IsUnderAll table.now.edition table.now.trip (B.fixed bound.old) }
     ensures fixed { B.fixed bound.new ≡ B.fixed bound.old }
     ensures walk { IsWalk table.now.edition table.now.trip (BeginsBy table.now.edition table.now.trip number)
@@ -102,5 +105,5 @@ fn walk_choice<B: Bound>(
         unit: 1,
         fare,
     };
-    enter(table, rest, &Partial::new(), part, best, bound)
+    enter(table, endings, &Partial::new(), part, best, bound)
 }

@@ -6,14 +6,14 @@ ghost use Rattle.fare_trip.specs.Itinerary.{count};
 ghost use Rattle.fare_rules.specs.Construction.{greatest_unit, places};
 ghost use Rattle.fare_units.specs.Walk.{Completes, GoesOn, AnyPart, EndsAt, HasFare, IsPart, IsList, TakesBetter};
 ghost use Rattle.fare_units.specs.Walk.{next_start};
-ghost use Rattle.fare_bounds.specs.Covers.{AreRests};
+ghost use Rattle.fare_branch.specs.Endings.{AreEndings};
 ghost use Rattle.fare_branch.specs.Floors.{IsMadeWith};
 ghost use Rattle.fare_branch.specs.Walked.{IsWalk, IsUnderAll, is_beaten};
 
 use crate::bound::Bound;
-use crate::floors::floor_of;
+use crate::closing::closer_floor;
+use crate::endings::Endings;
 use crate::partial::{Partial, copied};
-use fare_bounds::Rest;
 use fare_component::Table;
 use fare_rules::Part;
 use fare_units::{Construction, earlier, lawful_price};
@@ -65,8 +65,14 @@ pub(crate) fn take<B: Bound>(table: &Table, front: &Partial, best: Found, bound:
 
 /// Walks over all constructions that have these parts as their first ones.
 #[cycle(walk)]
-fn walk<B: Bound>(table: &Table, rest: &Rest, front: &Partial, best: Found, bound: &mut B) -> Found
-    requires rest { AreRests table.now.edition table.now.trip rest.now }
+fn walk<B: Bound>(
+    table: &Table,
+    endings: &Endings,
+    front: &Partial,
+    best: Found,
+    bound: &mut B,
+) -> Found
+    requires endings { AreEndings table.now.edition table.now.trip endings.now }
     requires made { IsMadeWith table.now front.now }
     requires under { IsUnderAll table.now.edition table.now.trip (B.fixed bound.old) }
     ensures fixed { B.fixed bound.new ≡ B.fixed bound.old }
@@ -76,19 +82,19 @@ fn walk<B: Bound>(table: &Table, rest: &Rest, front: &Partial, best: Found, boun
     if front.end() == table.trip().count() {
         return take(table, front, best, bound);
     }
-    walk_ends(table, rest, front, best, bound)
+    walk_ends(table, endings, front, best, bound)
 }
 
 /// Walks over those that go on with any part, the greatest end first.
 #[cycle(walk)]
 fn walk_ends<B: Bound>(
     table: &Table,
-    rest: &Rest,
+    endings: &Endings,
     front: &Partial,
     best: Found,
     bound: &mut B,
 ) -> Found
-    requires rest { AreRests table.now.edition table.now.trip rest.now }
+    requires endings { AreEndings table.now.edition table.now.trip endings.now }
     requires made { IsMadeWith table.now front.now }
     requires under { IsUnderAll table.now.edition table.now.trip (B.fixed bound.old) }
     ensures fixed { B.fixed bound.new ≡ B.fixed bound.old }
@@ -98,7 +104,7 @@ fn walk_ends<B: Bound>(
     let trip = table.trip();
     let mut best = best;
     for end in (front.next_start(trip) + 1..trip.count() + 1).rev() {
-        best = walk_entries(table, rest, front, end, best, bound);
+        best = walk_entries(table, endings, front, end, best, bound);
     }
     best
 }
@@ -107,13 +113,13 @@ fn walk_ends<B: Bound>(
 #[cycle(walk)]
 fn walk_entries<B: Bound>(
     table: &Table,
-    rest: &Rest,
+    endings: &Endings,
     front: &Partial,
     end: usize,
     best: Found,
     bound: &mut B,
 ) -> Found
-    requires rest { AreRests table.now.edition table.now.trip rest.now }
+    requires endings { AreEndings table.now.edition table.now.trip endings.now }
     requires made { IsMadeWith table.now front.now }
     requires rises { next_start table.now.trip front.now < end }
     requires within { end ≤ count table.now.trip }
@@ -125,7 +131,7 @@ fn walk_entries<B: Bound>(
     let entries = table.entries(front.next_start(table.trip()), end);
     let mut best = best;
     for entry in entries {
-        best = walk_units(table, rest, front, end, entry.fare, best, bound);
+        best = walk_units(table, endings, front, end, entry.fare, best, bound);
     }
     best
 }
@@ -134,14 +140,14 @@ fn walk_entries<B: Bound>(
 #[cycle(walk)]
 fn walk_units<B: Bound>(
     table: &Table,
-    rest: &Rest,
+    endings: &Endings,
     front: &Partial,
     end: usize,
     fare: u32,
     best: Found,
     bound: &mut B,
 ) -> Found
-    requires rest { AreRests table.now.edition table.now.trip rest.now }
+    requires endings { AreEndings table.now.edition table.now.trip endings.now }
     requires made { IsMadeWith table.now front.now }
     requires rises { next_start table.now.trip front.now < end }
     requires within { end ≤ count table.now.trip }
@@ -159,7 +165,7 @@ fn walk_units<B: Bound>(
             unit: unit as u8,
             fare,
         };
-        best = enter(table, rest, front, part, best, bound);
+        best = enter(table, endings, front, part, best, bound);
     }
     best
 }
@@ -168,13 +174,13 @@ fn walk_units<B: Bound>(
 #[cycle(walk)]
 pub(crate) fn enter<B: Bound>(
     table: &Table,
-    rest: &Rest,
+    endings: &Endings,
     front: &Partial,
     part: Part,
     best: Found,
     bound: &mut B,
 ) -> Found
-    requires rest { AreRests table.now.edition table.now.trip rest.now }
+    requires endings { AreEndings table.now.edition table.now.trip endings.now }
     requires made { IsMadeWith table.now front.now }
     requires rises { next_start table.now.trip front.now < part.end }
     requires within { part.end ≤ count table.now.trip }
@@ -186,7 +192,7 @@ pub(crate) fn enter<B: Bound>(
     let Some(longer) = front.next(table, part) else {
         return best;
     };
-    let Some(floor) = floor_of(table, rest, &longer) else {
+    let Some(floor) = closer_floor(table, endings, &longer) else {
         return best;
     };
     if is_beaten(&best, &longer, floor) {
@@ -195,5 +201,5 @@ pub(crate) fn enter<B: Bound>(
     if bound.seen() < floor {
         return best;
     }
-    walk(table, rest, &longer, best, bound)
+    walk(table, endings, &longer, best, bound)
 }
