@@ -1,5 +1,5 @@
 -- The earliest of what the workers found is the best.
-use Rattle.std.proofs.Common.{◌≡◌, ℕ, zero, suc, ◌+◌, ◌<◌, ◌≤◌, ◌⊎◌, true, false, List, [], ◌∷◌, ◌++◌, map, take, drop, get_or, length, Option, Some, None, refl, ap, ap₂, sym, subst, ◌∙◌, inl, inr, arith}
+use Rattle.std.proofs.Common.{◌≡◌, ℕ, zero, suc, ◌<◌, ◌≤◌, false, List, [], ◌∷◌, ◌++◌, map, take, drop, get_or, length, Option, Some, None, refl, ap, sym, subst, ◌∙◌, inl, inr, arith}
 use Rattle.std.specs.Prelude.{All, Contains, option_map, slice_index_or, slice_get}
 use Rattle.std.proofs.lemmas.Bool.{both_ways}
 use Rattle.std.proofs.lemmas.Option.{none-some, slice_get-get_or, slice_get-map}
@@ -8,7 +8,7 @@ use Rattle.atomic_table.specs.Seated.{TableId}
 use Rattle.fare_trip.specs.Itinerary.{Itinerary, count}
 use Rattle.fare_tariff.specs.Tariff.{Tariff}
 use Rattle.fare_rules.specs.declared.part.Part.{Part}
-use Rattle.fare_rules.specs.Best.{IsLawful, NoneIsLawful, IsBest, IsBestAnswer}
+use Rattle.fare_rules.specs.Best.{IsLawful, IsBest, IsBestAnswer}
 use Rattle.fare_rules.specs.Completion.{Choice, first_part_choices}
 use Rattle.fare_rules.specs.Order.{is_before}
 use Rattle.fare_rules.proofs.BestLemmas.{total}
@@ -18,14 +18,14 @@ use Rattle.fare_rules.proofs.LawfulLemmas.{kept}
 use Rattle.fare_component.specs.Table.{Pricing}
 use Rattle.fare_bounds.specs.Covers.{AreRests}
 use Rattle.fare_branch.specs.declared.pieces.Piece.{Piece}
-use Rattle.fare_branch.specs.Search.{IsLeastPrice, IsSearched, BeginsIn, BeginsBy}
+use Rattle.fare_branch.specs.Search.{IsSearched, BeginsIn}
 use Rattle.fare_branch.specs.LeastPrice.{least_price}
 use Rattle.fare_branch.proofs.LeastLemmas.{least_price_is}
 use Rattle.fare_branch.proofs.PieceLemmas.{cheaper}
 use Rattle.fare_split.specs.declared.worker.Worker.{Worker}
 use Rattle.fare_split.specs.PriceWord.{floor_of}
 use Rattle.fare_split.specs.Rows.{Row, fresh, IsFresh, piece_of, result_of, LiesInOne, ArePieces, choice_count, IsRun, IsNotAfter, IsEarliest}
-use Rattle.fare_split.specs.Workers.{row_of, rows_of, IsSeated, HasRun, HaveRun, AreMade, IsPrepared}
+use Rattle.fare_split.specs.Workers.{row_of, rows_of, IsSeated, HaveRun, AreMade, IsPrepared}
 
 abbrev Found : Type 0
 Found = Option (List Part × ℕ)

@@ -1,24 +1,24 @@
 -- The earliest of results, one by one.
-use Rattle.std.proofs.Common.{◌≡◌, ℕ, zero, suc, ◌+◌, ◌<◌, ◌≤◌, ◌⊎◌, Bool, true, false, List, [], ◌∷◌, ◌++◌, map, take, length, get_or, Option, Some, None, refl, ap, sym, subst, ◌∙◌, inl, inr, arith}
+use Rattle.std.proofs.Common.{◌≡◌, ℕ, zero, suc, ◌+◌, ◌<◌, true, List, [], ◌∷◌, ◌++◌, map, take, length, get_or, Option, Some, None, refl, ap, sym, subst, ◌∙◌, inl, inr, arith}
 use Rattle.std.specs.Prelude.{All, Contains, slice_index_or}
-use Rattle.std.proofs.lemmas.Bool.{cases_Bool, cases_lt, both_ways}
-use Rattle.std.proofs.lemmas.List.{take_more, length-append}
+use Rattle.std.proofs.lemmas.Bool.{cases_Bool, both_ways}
+use Rattle.std.proofs.lemmas.List.{take_more}
 use Rattle.fare_rules.specs.declared.part.Part.{Part}
 use Rattle.fare_rules.specs.Order.{is_before}
 use Rattle.fare_rules.proofs.BestLemmas.{irreflexive, transitive}
 use Rattle.fare_split.specs.declared.worker.Worker.{Worker}
-use Rattle.fare_split.specs.Rows.{IsEarliest, IsNotAfter, earlier_of, is_earlier, result_of}
+use Rattle.fare_split.specs.Rows.{IsEarliest, IsNotAfter, earlier_of, result_of}
 use Rattle.fare_split.specs.Workers.{row_of, rows_of}
 
 abbrev Found : Type 0
 Found = Option (List Part × ℕ)
 
 module _ {A : Type 0} where
-  all_none : (P : A → Type 0) → All P []
+  pub all_none : (P : A → Type 0) → All P []
   all_none P k d low = absurd (omega arith)
 
   -- all of a list with one more at its end
-  all_last : (P : A → Type 0) (xs : List A) (x : A) → All P xs → P x → All P (xs ++ x ∷ [])
+  pub all_last : (P : A → Type 0) (xs : List A) (x : A) → All P xs → P x → All P (xs ++ x ∷ [])
   all_last P [] x h p zero d low = p
   all_last P [] x h p (suc k) d low = absurd (omega arith)
   all_last P (y ∷ ys) x h p zero d low = h zero d (omega arith)

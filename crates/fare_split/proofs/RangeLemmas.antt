@@ -1,79 +1,99 @@
--- Even ranges share out the numbers below a count.
-use Rattle.std.proofs.Common.{◌≡◌, ℕ, zero, suc, ◌+◌, ◌-◌, ◌*◌, ◌/◌, ◌%◌, ◌<◌, ◌≤◌, min, List, map, length, Some, refl, ap, sym, subst, ◌∙◌, inl, inr, arith, mod-lt, div-lt_iff_lt-mul, le-div_iff_mul-le}
-use Rattle.std.specs.Prelude.{slice_get}
-use Rattle.std.proofs.Math.Nat.{mul-zero, mul-one, mul-add, div-add-mod}
+-- Ranges that follow one another share out the numbers below their end.
+use Rattle.std.proofs.Common.{◌≡◌, ℕ, zero, suc, ◌<◌, ◌≤◌, ◌⊎◌, List, [], ◌∷◌, ◌++◌, length, Some, refl, ap, sym, subst, inl, inr, arith}
+use Rattle.std.specs.Prelude.{All, slice_get, slice_index_or}
 use Rattle.std.proofs.lemmas.Bool.{cases_lt}
-use Rattle.std.proofs.lemmas.Option.{slice_get-get_or, slice_get_within}
-use Rattle.std.proofs.lemmas.List.FromFn.{get_or-map-range_with_len, length-range_with_len}
-use Rattle.std.proofs.lemmas.List.{length-map}
-use Rattle.fare_rules.specs.Numbers.{numbers}
+use Rattle.std.proofs.lemmas.Option.{none-some}
 use Rattle.fare_branch.specs.declared.pieces.Piece.{Piece}
-use Rattle.fare_split.specs.Pieces.{piece_at, pieces_by}
-use Rattle.fare_split.specs.Rows.{LiesAt, LiesInOne, ArePieces}
+use Rattle.fare_split.specs.Rows.{LiesInOne, ArePieces}
+use Rattle.fare_split.proofs.EarliestLemmas.{all_last, all_none}
+
+-- a range
+abbrev pub range : ℕ → ℕ → Piece
+range first past = record { first = first; past = past }
+
+-- pieces share out the numbers below one, and none goes beyond it
+pub record AreUpTo (count : ℕ) (pieces : List Piece) : Type 0 where
+  pub within : All (λ piece. piece.past ≤ count) pieces
+  pub split : ArePieces count pieces
 
 some_same : {A : Type 0} (x y : A) → Some x ≡ Some y → x ≡ y
 some_same x y e = cc
 
-pub length_by : (count size workers : ℕ) → length (pieces_by count size workers) ≡ workers
-length_by count size workers =
-    let long : length (pieces_by count size workers) ≡ workers - 0 = length-map (numbers 0 workers) (piece_at count size) ∙ length-range_with_len 0 (workers - 0) in
-    omega arith
+module _ {A : Type 0} where
+  there_still : (xs ys : List A) (k : ℕ) (x : A) → slice_get xs k ≡ Some x → slice_get (xs ++ ys) k ≡ Some x
+  there_still [] ys k x e = absurd (none-some x e)
+  there_still (z ∷ zs) ys zero x e = e
+  there_still (z ∷ zs) ys (suc k) x e = there_still zs ys k x e
 
-module _ (count size workers : ℕ) where
-  at_place : (place : ℕ) → place < workers → slice_get (pieces_by count size workers) place ≡ Some (piece_at count size place)
-  at_place place low =
-      let long : length (pieces_by count size workers) ≡ workers = length_by count size workers in
-      slice_get-get_or (pieces_by count size workers) place (piece_at 0 0 0) (omega arith)
-      ∙ ap Some (get_or-map-range_with_len (piece_at count size) 0 (workers - 0) place place (piece_at 0 0 0) (omega arith) (omega arith))
+  there_last : (xs : List A) (y : A) → slice_get (xs ++ y ∷ []) (length xs) ≡ Some y
+  there_last [] y = refl
+  there_last (z ∷ zs) y = there_last zs y
 
-  is_there : (place : ℕ) (piece : Piece) → slice_get (pieces_by count size workers) place ≡ Some piece → piece ≡ piece_at count size place
-  is_there place piece e =
-      let long : length (pieces_by count size workers) ≡ workers = length_by count size workers in
-      let within : place < length (pieces_by count size workers) = slice_get_within (pieces_by count size workers) place piece e in
-      some_same piece (piece_at count size place) (sym e ∙ at_place place (omega arith))
+  -- what is at a place of a list with one more at its end
+  at_last : (xs : List A) (y : A) (k : ℕ) (x : A) → slice_get (xs ++ y ∷ []) k ≡ Some x
+      → (slice_get xs k ≡ Some x) ⊎ ((k ≡ length xs) × (y ≡ x))
+  at_last [] y zero x e = inr (refl, some_same y x e)
+  at_last [] y (suc k) x e = absurd (none-some x e)
+  at_last (z ∷ zs) y zero x e = inl e
+  at_last (z ∷ zs) y (suc k) x e = elim (at_last zs y k x e) [ inl h ↦ inl h | inr h ↦ inr (ap suc h.0, h.1) ]
 
-  lies_in_one : 0 < size → count ≤ workers * size → (number : ℕ) → number < count → LiesInOne (pieces_by count size workers) number
-  lies_in_one some wide number low =
-      let place : ℕ = number / size in
-      let above : place * size ≤ number = (le-div_iff_mul-le {k = size} {x = number / size} {y = number} some).0 (omega arith) in
-      let below : number < (place + 1) * size = (div-lt_iff_lt-mul {k = size} {x = number} {y = number / size + 1} some).0 (omega arith) in
-      let within : place < workers = (div-lt_iff_lt-mul {k = size} {x = number} {y = workers} some).1 (omega arith) in
+  all_at : (P : A → Type 0) (xs : List A) (k : ℕ) (x : A) → All P xs → slice_get xs k ≡ Some x → P x
+  all_at P [] k x h e = absurd (none-some x e)
+  all_at P (z ∷ zs) zero x h e = subst P (some_same z x e) (h zero z (omega arith))
+  all_at P (z ∷ zs) (suc k) x h e = all_at P zs k x (λ j d low. h (suc j) d (omega arith)) e
+
+pub none_shared : AreUpTo 0 []
+none_shared = record { within = all_none (λ piece. piece.past ≤ 0); split = λ number low. absurd (omega arith) }
+
+module _ (first past : ℕ) (pieces : List Piece) (up : first ≤ past) (before : AreUpTo first pieces) where
+  abbrev pub last : Piece
+  last = range first past
+
+  -- a number that lies in one of the pieces lies in none but that one
+  still : (number : ℕ) → number < first → LiesInOne (pieces ++ last ∷ []) number
+  still number low =
+      let one = before.split number low in
       record {
-        place = place;
-        lies = record { piece = piece_at count size place; there = at_place place within; above = omega arith; below = omega arith };
-        only = λ other lies.
-            let is : lies.piece ≡ piece_at count size other = is_there other lies.piece lies.there in
-            let first : lies.piece.first ≡ min (other * size) count = ap (λ (p : Piece). p.first) is in
-            let past : lies.piece.past ≡ min ((other + 1) * size) count = ap (λ (p : Piece). p.past) is in
-            let from : lies.piece.first ≤ number = lies.above in
-            let to : number < lies.piece.past = lies.below in
-            let up : other ≤ number / size = (le-div_iff_mul-le {k = size} {x = other} {y = number} some).1 (omega arith) in
-            let down : number / size < other + 1 = (div-lt_iff_lt-mul {k = size} {x = number} {y = other + 1} some).1 (omega arith) in
-            omega arith;
+        place = one.place;
+        lies = record {
+          piece = one.lies.piece;
+          there = there_still pieces (last ∷ []) one.place one.lies.piece one.lies.there;
+          above = one.lies.above;
+          below = one.lies.below;
+        };
+        only = λ other lies. elim (at_last pieces last other lies.piece lies.there) [
+          | inl h ↦ one.only other (record { piece = lies.piece; there = h; above = lies.above; below = lies.below })
+          | inr h ↦
+              let from : first ≤ number = subst (λ (p : Piece). p.first ≤ number) (sym h.1) lies.above in
+              absurd (omega arith)
+        ];
       }
 
-ceil_wide : (count workers : ℕ) → 0 < workers → count ≤ workers * (count / workers + min 1 (count % workers))
-ceil_wide count workers some =
-    let q : ℕ = count / workers in
-    let r : ℕ = count % workers in
-    let whole : workers * q + r ≡ count = div-add-mod count workers in
-    let left : r < workers = mod-lt count some in
-    let e : workers * (q + min 1 r) ≡ workers * q + workers * min 1 r = mul-add workers q (min 1 r) in
-    elim (cases_lt 0 r) [
-      | inl p ↦
-          let one : min 1 r ≡ 1 = omega arith in
-          let all : workers * min 1 r ≡ workers = ap (λ n. workers * n) one ∙ mul-one workers in
-          omega arith
-      | inr z ↦ omega arith
-    ]
+  -- a number of the last one lies in that alone
+  new : (number : ℕ) → first ≤ number → number < past → LiesInOne (pieces ++ last ∷ []) number
+  new number above below =
+      record {
+        place = length pieces;
+        lies = record { piece = last; there = there_last pieces last; above = above; below = below };
+        only = λ other lies. elim (at_last pieces last other lies.piece lies.there) [
+          | inl h ↦
+              let short : lies.piece.past ≤ first = all_at (λ piece. piece.past ≤ first) pieces other lies.piece before.within h in
+              let to : number < lies.piece.past = lies.below in
+              absurd (omega arith)
+          | inr h ↦ h.0
+        ];
+      }
 
-pub shares_out : (count size workers : ℕ) → 0 < workers → size ≡ count / workers + min 1 (count % workers) → ArePieces count (pieces_by count size workers)
-shares_out count size workers some is number low =
-    let wide : count ≤ workers * size = subst (λ n. count ≤ workers * n) (sym is) (ceil_wide count workers some) in
-    elim (cases_lt 0 size) [
-      | inl p ↦ lies_in_one count size workers p wide number low
-      | inr z ↦
-          let none : size ≡ 0 = omega arith in
-          let nothing : workers * size ≡ 0 = ap (λ n. workers * n) none ∙ mul-zero workers in
-          absurd (omega arith)
-    ]
+  pub one_more : AreUpTo past (pieces ++ last ∷ [])
+  one_more = record {
+    within = all_last (λ piece. piece.past ≤ past) pieces last wider (omega arith);
+    split = λ number low. elim (cases_lt number first) [
+      | inl p ↦ still number p
+      | inr q ↦ new number (omega arith) low
+    ];
+  }
+    where
+      wider : All (λ piece. piece.past ≤ past) pieces
+      wider k d low =
+          let short : (slice_index_or pieces k d).past ≤ first = before.within k d low in
+          omega arith

@@ -3,13 +3,15 @@
 //!
 //! - `word`: the shared word, and what a seat at it knows;
 //! - `lane`: a seat at the word as the bound of a search;
-//! - `pieces`: the pieces of the workers, even ranges of the first-part choices;
+//! - `shares`: about how much work the first-part choices are;
+//! - `pieces`: the pieces of the workers, ranges of the first-part choices with about as much work each;
 //! - `worker`: one worker, and its search at its seat;
 //! - `running`: the run of one worker;
 //! - `seating`: the workers of some pieces, each with a seat;
 //! - `threads`: the runs of all workers, each in a thread of its own;
 //! - `earliest`: the earliest of what they found;
 //! - `opening`: the word, with its first seat;
+//! - `sharing`: how many workers share a search;
 //! - `prepared`: all that a search on some workers needs, and the search;
 //! - `quoter`: the quoter that shares its search out.
 //!
@@ -24,6 +26,8 @@ mod prepared;
 mod quoter;
 mod running;
 mod seating;
+mod shares;
+mod sharing;
 mod threads;
 mod word;
 mod worker;
@@ -31,6 +35,7 @@ mod worker;
 pub use pieces::MOST_WORKERS;
 pub use prepared::Prepared;
 pub use quoter::SplitQuoter;
+pub use sharing::LEAST_SHARED_WORK;
 
 #[cfg(test)]
 mod tests;

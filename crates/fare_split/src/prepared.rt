@@ -10,7 +10,7 @@ use crate::threads::run_all;
 use crate::word::Word;
 use crate::worker::Worker;
 use fare_bounds::Rest;
-use fare_branch::{Piece, choices};
+use fare_branch::Piece;
 use fare_component::Table;
 use fare_outside::{Gate, NoMemory};
 use fare_rules::edition_is_valid;
@@ -56,11 +56,24 @@ impl<'a> Prepared<'a> {
         requires few { workers ≤ MOST_WORKERS }
         ensures { IfOk result (IsFresh edition.now trip.now workers) }
     {
-        edition_is_valid(edition);
-        let _sectors = trip.count();
         let table = Table::prepare(alloc, edition, trip)?;
+        Prepared::over(alloc, table, workers)
+    }
+
+    /// Prepares the search of a table on some workers.
+    pub(crate) fn over(
+        alloc: Global,
+        table: Table<'a>,
+        workers: u32,
+    ) -> Result<Prepared<'a>, NoMemory>
+        requires some { 1 ≤ workers }
+        requires few { workers ≤ MOST_WORKERS }
+        ensures { IfOk result (IsFresh table.entry.edition table.entry.trip workers) }
+    {
+        edition_is_valid(table.edition());
+        let _sectors = table.trip().count();
         let rest = Rest::of(&table);
-        let pieces = shared_out(alloc, choices(&table), workers)?;
+        let pieces = shared_out(alloc, &table, workers)?;
         let (word, seat) = opened(alloc, &table)?;
         let workers = seated(alloc, &word, seat, pieces.as_slice())?;
         Ok(Prepared {

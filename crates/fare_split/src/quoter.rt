@@ -6,7 +6,10 @@ ghost use Rattle.fare_split.specs.declared.pieces.TheConstants.{MOST_WORKERS};
 
 use crate::pieces::MOST_WORKERS;
 use crate::prepared::Prepared;
+use crate::shares::whole_work;
+use crate::sharing::workers_for;
 use fare_branch::BranchQuoter;
+use fare_component::Table;
 use fare_outside::{Gate, NoMemory, OpenGate};
 use fare_tariff::Edition;
 use fare_trip::Trip;
@@ -37,7 +40,8 @@ impl<'g, G: Gate> SplitQuoter<'g, G> {
     }
 
     /// The best construction of a trip in an edition, with its price, or nothing exactly where none is lawful, whatever
-    /// the gate. One worker starts no thread and shares no word, nor does a trip of one sector.
+    /// the gate. One worker starts no thread and shares no word, nor does a trip of one sector; and a search of little
+    /// work starts none.
     pub fn best<R: Threads + Sync>(
         &self,
         rt: &R,
@@ -51,7 +55,9 @@ impl<'g, G: Gate> SplitQuoter<'g, G> {
             self.gate.begin(0);
             return BranchQuoter.quote(rt, alloc, edition, trip);
         }
-        let mut prepared = Prepared::new(alloc, edition, trip, self.workers)?;
+        let table = Table::prepare(alloc, edition, trip)?;
+        let workers = workers_for(self.workers, whole_work(&table));
+        let mut prepared = Prepared::over(alloc, table, workers)?;
         Ok(prepared.solve(rt, self.gate))
     }
 }

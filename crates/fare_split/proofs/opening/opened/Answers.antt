@@ -1,4 +1,3 @@
-use Rattle.std.proofs.Common.{ℕ}
 use Rattle.fare_split.specs.PriceWord.{floor_of}
 use Rattle.fare_split.proofs.WordLemmas.{opens}
 use Rattle.fare_split.proofs.opening.opened.Goals as goal

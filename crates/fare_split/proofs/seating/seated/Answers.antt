@@ -1,4 +1,4 @@
-use Rattle.std.proofs.Common.{◌≡◌, ◌<◌, ℕ, arith}
+use Rattle.std.proofs.Common.{◌≡◌, arith}
 use Rattle.fare_split.specs.PriceWord.{floor_of}
 use Rattle.fare_split.proofs.WordLemmas.{copies}
 use Rattle.fare_split.proofs.seating.seated.Goals as goal

@@ -1,4 +1,4 @@
-use Rattle.std.proofs.Common.{rules, ◌≡◌, ◌<◌, ◌≤◌, ℕ, List, ◌++◌, All, map, take, drop, length, ap, sym, subst, ◌∙◌, arith}
+use Rattle.std.proofs.Common.{rules, ◌≡◌, ◌≤◌, List, ◌++◌, All, map, take, drop, length, ap, subst, ◌∙◌, arith}
 use Rattle.fare_trip.specs.Itinerary.{count}
 use Rattle.fare_rules.specs.Best.{IsBestAnswer}
 use Rattle.fare_branch.specs.declared.pieces.Piece.{Piece}
