@@ -7,12 +7,13 @@
 //! - `cursor`, `candidates`: the fares between two cities, in record order;
 //! - `entries`, `row`: all entries of a span, and of all spans from a point.
 
-ghost use Rattle.std.specs.Prelude.{◌≡◌, ◌<◌, ◌≤◌, length, map, All, IfOk, IfSome};
+ghost use Rattle.std.specs.Prelude.{◌≡◌, ◌*◌, ◌<◌, ◌≤◌, length, map, All, IfOk, IfSome};
+ghost use Rattle.std.specs.Option.{option_copied};
 ghost use Rattle.fare_trip.specs.Itinerary.{count};
 ghost use Rattle.fare_rules.specs.Numbers.{numbers};
 ghost use Rattle.fare_rules.specs.ComponentAmount.{component_amount};
 ghost use Rattle.fare_component.specs.Shared.{AreIndicators};
-ghost use Rattle.fare_component.specs.Table.{IsInBounds, entries_of, row_of};
+ghost use Rattle.fare_component.specs.Table.{IsInBounds, entries_of, entry_at, row_of, single_price};
 ghost use Rattle.fare_component.specs.Usable.{IsAmount};
 
 mod backhauls;
@@ -28,6 +29,7 @@ mod row;
 
 pub use entries::MOST_ENTRIES;
 pub use entry::Entry;
+use fare_codes::{FARE_LIMIT, Nuc};
 use fare_outside::NoMemory;
 use fare_rules::Amount;
 use fare_tariff::Edition;
@@ -91,20 +93,49 @@ impl<'a> Table<'a> {
         }
     }
 
+    /// The entry of the fare of a record number from a point to a later one; nothing where it has no amount there.
+    fn entry(&self, a: usize, b: usize, number: u32) -> Option<&Entry>
+        requires rises { a < b }
+        requires within { b ≤ count self.now.trip }
+        ensures entry { option_copied result ≡ entry_at self.now.edition self.now.trip a b number }
+        ensures bounds { IfSome result (λ entry. IsInBounds entry.now) }
+    {
+        for entry in self.entries(a, b) {
+            if entry.fare == number {
+                return Some(entry);
+            }
+        }
+        None
+    }
+
     /// What the fare of a record number costs from a point to a later one, priced back or not: its base, surcharge and
     /// amount; nothing exactly where the fare may not be used there or the record files no fare.
+    #[tactic(auto, using(crate::proofs::AmongLemmas::its_amount, crate::proofs::AmongLemmas::no_amount))]
     pub fn amount(&self, a: usize, b: usize, number: u32, back: bool) -> Option<Amount>
         requires rises { a < b }
         requires within { b ≤ count self.now.trip }
         ensures value { result ≡ component_amount self.now.edition self.now.trip a b number back }
         ensures bound { IfSome result IsAmount }
     {
-        for entry in self.entries(a, b) {
-            if entry.fare == number {
-                return entry.amount(back);
-            }
+        match self.entry(a, b, number) {
+            None => None,
+            Some(entry) => entry.amount(back),
         }
-        None
+    }
+
+    /// The price of the fare of a record number from a point to a later one as a unit of its own; nothing for a half
+    /// round trip, and where the fare may not be used there.
+    #[tactic(auto, using(crate::proofs::AmongLemmas::its_single, crate::proofs::AmongLemmas::no_single))]
+    pub fn single(&self, a: usize, b: usize, number: u32) -> Option<Nuc>
+        requires rises { a < b }
+        requires within { b ≤ count self.now.trip }
+        ensures value { result ≡ single_price self.now.edition self.now.trip a b number }
+        ensures bound { IfSome result (λ price. price < 2 * FARE_LIMIT) }
+    {
+        match self.entry(a, b, number) {
+            None => None,
+            Some(entry) => entry.single,
+        }
     }
 
     /// The edition that it was prepared from.

@@ -13,3 +13,4 @@ pub mod UnitLemmas
 pub mod PricedLemmas
 pub mod ShutLemmas
 pub mod FirstParts
+pub mod SingleLemmas

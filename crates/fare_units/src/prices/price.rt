@@ -1,6 +1,6 @@
 //! Unit price: what a pricing unit costs, by its kind, and what a construction costs.
 
-ghost use Rattle.std.specs.Prelude.{◌≡◌, ◌+◌, ◌*◌, ◌<◌, ◌≤◌, ◌^◌, IfSome, length, sum_by, None};
+ghost use Rattle.std.specs.Prelude.{◌≡◌, ◌+◌, ◌*◌, ◌<◌, ◌≤◌, ◌^◌, [], ◌∷◌, IfSome, length, sum_by, None};
 ghost use Rattle.std.specs.Option.{option_copied};
 ghost use Rattle.fare_trip.specs.Itinerary.{count};
 ghost use Rattle.fare_rules.specs.Construction.{own, misnumbered};
@@ -16,7 +16,7 @@ ghost use Rattle.fare_units.specs.Shut.{lacks_amount};
 
 use crate::construction::MOST_PARTS;
 use crate::parts::direction::is_back_in;
-use crate::parts::fares::{fare_of, holds_ow};
+use crate::parts::fares::{fare_of, holds_ow, is_ow};
 use crate::parts::own::{first_of, own};
 use crate::parts::places::{end_of, greatest_unit, part_at, start_of};
 use crate::prices::circle::unit_circle_minimum;
@@ -290,6 +290,57 @@ pub(crate) fn sheet_of(
     sheet_from(kind, sum, unit_minimum(edition, trip, parts, own, kind))
 }
 
+/// The place of the one part of a unit, where it has no more.
+fn lone(own: &[usize]) -> Option<usize>
+    ensures { IfSome result (λ k. own.now ≡ k ∷ []) }
+{
+    match own {
+        [k] => Some(*k),
+        _ => None,
+    }
+}
+
+/// The price of a part of a one way fare as a unit of its own, from a table.
+fn single_of_part(table: &Table, parts: &[Part], k: usize) -> Option<u64>
+    requires advances { Advances table.now.trip parts.now }
+    requires place { IsPlace parts.now k }
+    ensures price { IfSome result
+        (λ price. (unit_sheet table.now.edition table.now.trip parts.now (k ∷ [])).price ≡ price) }
+    ensures bound { IfSome result (λ price. price ≤ MOST_UNIT_PRICE) }
+{
+    if !is_ow(table.edition(), parts, k) {
+        return None;
+    }
+    let a = start_of(table.trip(), parts, k);
+    let b = end_of(parts, k);
+    match table.single(a, b, part_at(parts, k).fare) {
+        None => None,
+        Some(price) => Some(price.hundredths()),
+    }
+}
+
+/// The price of the unit of some places of parts, where a table tells it.
+fn told_price(
+    edition: &Edition,
+    trip: &Trip,
+    known: Option<&Table>,
+    parts: &[Part],
+    own: &[usize],
+) -> Option<u64>
+    requires advances { Advances trip.now parts.now }
+    requires places { ArePlaces parts.now own.now }
+    requires known { IfSome known (λ table. IsOf edition.now trip.now table.now) }
+    ensures price { IfSome result (λ price. (unit_sheet edition.now trip.now parts.now own.now).price ≡ price) }
+    ensures bound { IfSome result (λ price. price ≤ MOST_UNIT_PRICE) }
+{
+    let _edition = edition;
+    let _trip = trip;
+    match (known, lone(own)) {
+        (Some(table), Some(k)) => single_of_part(table, parts, k),
+        _ => None,
+    }
+}
+
 /// The price of a unit.
 pub(crate) fn unit_price(
     edition: &Edition,
@@ -306,7 +357,11 @@ pub(crate) fn unit_price(
     ensures bound { result ≤ MOST_UNIT_PRICE }
 {
     let own = own(parts, unit);
-    sheet_of(edition, trip, known, parts, own.as_slice()).price
+    let own = own.as_slice();
+    match told_price(edition, trip, known, parts, own) {
+        Some(price) => price,
+        None => sheet_of(edition, trip, known, parts, own).price,
+    }
 }
 
 /// The price of a construction whose units are numbered in order: the sum of the prices of its units.
