@@ -7,8 +7,8 @@ ghost use Rattle.fare_csv.specs.Pieces.{ends_a_line, is_unmarked, is_unquoted, i
 use crate::text_fault::TextFault;
 use std::alloc::{AllocError, AllocFailed, Global};
 
-/// A text isn't read in pieces: it can't be cut into whole lines, a piece has a fault, or memory is wanting. Read in its
-/// order, it tells which.
+/// A text isn't read in pieces: it can't be cut into whole lines, a piece has a fault, or memory is wanting. Read in
+/// its order, it tells which.
 #[derive(Clone, Copy, Debug, PartialEq, Eq)]
 pub(crate) struct NotInPieces;
 
