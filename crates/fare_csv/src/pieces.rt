@@ -62,7 +62,7 @@ fn ends_a_line(text: &[u8]) -> bool
 fn is_unquoted(text: &[u8]) -> bool
     ensures { result ≡ list_all is_unquoted text.now }
 {
-    text.iter().all(|byte| *byte != b'"')
+    !text.contains(&b'"')
 }
 
 /// Whether a text is of whole lines that can be read by themselves.
