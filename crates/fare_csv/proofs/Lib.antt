@@ -9,6 +9,7 @@ pub mod CanonicalLines
 pub mod PlainFields
 pub mod RecordsLemmas
 pub mod RowsOfPieces
+pub mod Unquoted
 pub mod Renumbered
 pub mod PiecesCut
 pub mod PiecesRead

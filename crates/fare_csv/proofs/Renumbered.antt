@@ -11,7 +11,6 @@ use Rattle.fare_csv.specs.declared.record_kind.RecordKind.TheVariants as kind
 use Rattle.fare_csv.specs.declared.text_fault.TextFault.{TextFault}
 use Rattle.fare_outside.specs.Memory.{◌>>=◌}
 use Rattle.fare_csv.specs.Fields.{counted, field, in_form}
-use Rattle.fare_csv.specs.RecordKind.{kind_named}
 use Rattle.fare_csv.specs.RecordText.{allowance_of, city_of, currency_of, fare_key_of, fare_of, fare_one_of, fare_two_of, mileage_of, pair_of, rule_of}
 use Rattle.fare_csv.specs.Rows.{Fields}
 use Rattle.fare_csv.specs.TariffText.{end_of, ended_by, followed_by, nothing_after, number_after, record_of, record_of_kind, records_of}

@@ -1,6 +1,6 @@
 -- The rows of a text of whole lines and of what stands behind it.
-use Rattle.std.proofs.Common.{◌≡◌, ◌-◌, ℕ, suc, List, [], ◌∷◌, ◌++◌, length, Bool, true, false, Option, Some, None, refl, sym, ap, ◌∙◌, arith}
-use Rattle.std.specs.Prelude.{◌==◌, ◌&&◌, not, slice_get, ⊤}
+use Rattle.std.proofs.Common.{◌≡◌, ◌-◌, ℕ, suc, List, [], ◌∷◌, ◌++◌, length, Bool, true, false, Option, Some, None, refl, ap, ◌∙◌, arith}
+use Rattle.std.specs.Prelude.{◌==◌, ◌&&◌, not, ⊤}
 use Rattle.std.specs.List.{list_all}
 use Rattle.csv.specs.Machine.{Read, in_field, next_record, start_field, step}
 use Rattle.csv.specs.Reading.{default_config, strip_bom}
@@ -9,7 +9,7 @@ use Rattle.csv.specs.declared.parser.Action.TheVariants as act
 use Rattle.csv.specs.declared.parser.State.{State}
 use Rattle.csv.specs.declared.parser.State.TheVariants as st
 use Rattle.fare_csv.specs.Rows.{Fields, rows_from, rows_of}
-use Rattle.fare_csv.specs.Pieces.{ends_a_line, is_line_feed, is_unmarked, is_unquoted, is_whole}
+use Rattle.fare_csv.specs.Pieces.{ends_a_line, is_unmarked, is_unquoted, is_whole}
 use Rattle.std.proofs.lemmas.Bool.{not-true}
 use Rattle.std.proofs.lemmas.Bool.Decides.{nat_tests}
 use Rattle.fare_csv.proofs.Streaming.{rows_from-end, rows_from-more, rows_of-from}

@@ -1,5 +1,5 @@
 -- The records of all pieces of a text in one list.
-use Rattle.std.specs.Prelude.{List, [], ◌∷◌, ◌++◌, Result, Ok, Err}
+use Rattle.std.specs.Prelude.{List, [], ◌∷◌, ◌++◌, Result, Ok}
 use Rattle.std.specs.Global.{Vec}
 use Rattle.fare_outside.specs.Memory.{◌>>=◌}
 use Rattle.fare_tariff.specs.declared.records.record.Record.{Record}

@@ -1,5 +1,6 @@
 -- A text in pieces of whole lines, of which each is read by itself.
-use Rattle.std.specs.Prelude.{ℕ, ◌≡◌, true, ◌-◌, Bool, List, [], ◌∷◌, codes, length, slice_get, Option, Some, None, Result, Ok, ◌==◌, ◌&&◌, not}
+use Rattle.std.specs.Prelude.{ℕ, ◌≡◌, true, ◌-◌, Bool, not, ◌==◌, ◌&&◌, List, [], ◌∷◌, codes, length, slice_get}
+use Rattle.std.specs.Prelude.{Option, Some, None, Result, Ok}
 use Rattle.std.specs.List.{list_all}
 use Rattle.std.specs.Str.{bytes_eq}
 use Rattle.fare_tariff.specs.declared.records.record.Record.{Record}

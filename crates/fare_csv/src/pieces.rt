@@ -7,8 +7,8 @@ ghost use Rattle.fare_csv.specs.Pieces.{ends_a_line, is_unmarked, is_unquoted, i
 use crate::text_fault::TextFault;
 use std::alloc::{AllocError, AllocFailed, Global};
 
-/// A text isn't read in pieces: it can't be cut into whole lines, a piece has a fault, or memory is wanting. Read in its
-/// order, it tells which.
+/// A text isn't read in pieces: it can't be cut into whole lines, a piece has a fault, or memory is wanting. Read in
+/// its order, it tells which.
 #[derive(Clone, Copy, Debug, PartialEq, Eq)]
 pub(crate) struct NotInPieces;
 
@@ -62,7 +62,7 @@ fn ends_a_line(text: &[u8]) -> bool
 fn is_unquoted(text: &[u8]) -> bool
     ensures { result ≡ list_all is_unquoted text.now }
 {
-    text.iter().all(|byte| *byte != b'"')
+    !text.contains(&b'"')
 }
 
 /// Whether a text is of whole lines that can be read by themselves.
