@@ -1,5 +1,5 @@
 #!/bin/sh
-# The desk over HTTP, for real: examples/serve.sh [PROGRAM [PORT]]. It publishes two editions in a new file, serves five
+# The desk over HTTP, for real: examples/serve.sh [PROGRAM [PORT]]. It publishes two editions in a new file, serves seven
 # connections, asks by curl, and ends. Needs curl.
 set -eu
 program=$(realpath "${1:-crates/fares/out/fares}")
@@ -27,14 +27,17 @@ ask() {
 
 tariff 1 2025-01-01 400.00 | "$program" publish --store editions
 tariff 2 2025-02-01 410.00 | "$program" publish --store editions
-"$program" serve --store editions --port "$port" --count 5 > summary &
+"$program" serve --store editions --port "$port" --count 7 > summary &
 tariff 3 2025-03-01 420.00 > march.txt
 trip 2025-01-15 > january.json
 trip 2025-03-15 > march.json
+printf '{"line":"LON Q1 ROM 420.00 YYYOW/1 NUC420.00END ROE0.750000","trip":%s}' "$(cat march.json)" > audit.json
 ask "localhost:$port/editions"
 ask -d @january.json "localhost:$port/quote"
 ask --data-binary @march.txt "localhost:$port/editions"
 ask -d @march.json "localhost:$port/quote"
+ask -d @march.json "localhost:$port/best/3"
+ask -d @audit.json "localhost:$port/audit"
 ask "localhost:$port/editions/9"
 wait
 cat summary

@@ -1,1 +1,4 @@
 pub mod EntryLemmas
+pub mod WalkLemmas
+pub mod PathLemmas
+pub mod StepLemmas

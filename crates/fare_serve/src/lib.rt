@@ -12,6 +12,8 @@ mod serve_fault;
 mod served_desk;
 mod service;
 mod serving;
+#[cfg(test)]
+mod tests;
 
 pub use rounds::serve_rounds;
 pub use serve_fault::ServeFault;

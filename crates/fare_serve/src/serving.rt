@@ -10,6 +10,7 @@ use crate::rounds::serve_rounds;
 use crate::{ServeFault, ServedDesk, Service};
 use fare_book::Book;
 use fare_codes::number_text;
+use fare_counter::CounterRoutes;
 use fare_desk::Routes;
 use fare_outside::{Door, Failed, Keeper};
 use fare_rounds::{Counts, DoorEnd, RoundHandler};
@@ -50,10 +51,11 @@ pub fn serve<R: Threads + Sync, P: Keeper, D: Door>(
     ensures keeper_faults { P.faults keeper.old ≤ P.faults keeper.new }
 {
     let routes = Routes::new(alloc)?;
+    let own = CounterRoutes::new(alloc)?;
     let Ok(room) = Vec::with_capacity(alloc, MOST_SUMMARY) else {
         return Err(ServeFault::Memory);
     };
-    let mut served = ServedDesk::over(routes, book, keeper, service.workers);
+    let mut served = ServedDesk::over(own, routes, book, keeper, service.workers);
     let text = serve_desk(rt, alloc, door, &mut served, service, room);
     let _keeper = served.into_keeper();
     text
@@ -73,18 +75,18 @@ fn serve_desk<R: Threads + Sync, P: Keeper, D: Door>(
     requires none_held { D.held door.old ≡ [] }
     requires empty { room.items ≡ [] }
     requires room { MOST_SUMMARY ≤ vec_capacity room }
-    ensures same_reference { served.new.desk.keeper.ghost_name ≡ served.old.desk.keeper.ghost_name }
-    ensures serves { ServesBook service.count service.round served.old.desk.book
+    ensures same_reference { served.new.counter.desk.keeper.ghost_name ≡ served.old.counter.desk.keeper.ghost_name }
+    ensures serves { ServesBook service.count service.round served.old.counter.desk.book
         (world_of (door_state (D.waiting door.old) (D.sent door.old) (D.faults door.old) (D.cuts door.old))
-        (P.bodies served.old.desk.keeper.now) (P.faults served.old.desk.keeper.now))
+        (P.bodies served.old.counter.desk.keeper.now) (P.faults served.old.counter.desk.keeper.now))
         (world_of (door_state (D.waiting door.new) (D.sent door.new) (D.faults door.new) (D.cuts door.new))
-        (P.bodies served.new.desk.keeper.now) (P.faults served.new.desk.keeper.now))
+        (P.bodies served.new.counter.desk.keeper.now) (P.faults served.new.counter.desk.keeper.now))
         result }
     ensures ends { OnErr result (result ≡ Err ServeFault.Door) }
     ensures cause { OnErr result (Rose (D.faults door.old) (D.faults door.new)) }
     ensures faults { D.faults door.old ≤ D.faults door.new }
     ensures cuts { D.cuts door.old ≤ D.cuts door.new }
-    ensures keeper_faults { P.faults served.old.desk.keeper.now ≤ P.faults served.new.desk.keeper.now }
+    ensures keeper_faults { P.faults served.old.counter.desk.keeper.now ≤ P.faults served.new.counter.desk.keeper.now }
 {
     match serve_port(rt, alloc, door, served, service, room) {
         Ok(text) => Ok(text),

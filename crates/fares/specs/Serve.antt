@@ -4,7 +4,7 @@ use Rattle.std.specs.Io.KnownBytes.{Appends}
 use Rattle.fare_outside.specs.Keeper.{BodiesStay, WhereTold}
 use Rattle.fare_outside.specs.Sink.{AppendsPrefix}
 use Rattle.fare_book.specs.Book.{BookState}
-use Rattle.fare_serve.specs.Desk.{DeskServesAll, DeskServesSome, World, world_of}
+use Rattle.fare_serve.specs.Desk.{CounterServesAll, CounterServesSome, World, world_of}
 use Rattle.fares.specs.declared.exit.Exit.{Exit}
 use Rattle.fares.specs.declared.exit.Exit.TheVariants as ended
 use Rattle.fares.specs.declared.words.Request.{Request}
@@ -31,11 +31,11 @@ pub record Opens (old : World) (Serves : BookState → World → Type 0) : Type 
 module _ (count most : ℕ) (old new : World) where
   -- the store was opened, all connections were served, and this is the summary
   abbrev pub OpensToAll : List ℕ → Type 0
-  OpensToAll text = Opens old (λ book opened. DeskServesAll count most book opened new text)
+  OpensToAll text = Opens old (λ book opened. CounterServesAll count most book opened new text)
 
   -- the store was opened, and some connections were served, or none
   abbrev pub OpensToSome : Type 0
-  OpensToSome = Opens old (λ book opened. DeskServesSome count most book opened new)
+  OpensToSome = Opens old (λ book opened. CounterServesSome count most book opened new)
 
   -- nobody was served: a call of the store failed, its bodies are damaged, or memory was wanting
   abbrev pub OpensToNobody : Exit → Type 0

@@ -10,7 +10,7 @@ use Rattle.matchit.specs.Seek.{first}
 use Rattle.fare_desk.specs.declared.routes.Route.{Route}
 use Rattle.fare_desk.specs.declared.routes.Route.TheVariants.{Editions, Edition, Quote, Batch}
 use Rattle.fare_desk.specs.Routes.{desk_rows, route_of}
-use Rattle.fare_serve.proofs.WalkLemmas.{Has, are_plain, seek-has}
+use Rattle.fare_counter.proofs.WalkLemmas.{Has, are_plain, seek-has}
 
 -- the row is that of the list of editions
 is_editions : RouteOf Route → Bool
