@@ -73,3 +73,12 @@ published_text (Already number) = codes "ALREADY " ++ decimal number ++ codes "\
 abbrev pub publication_answer : Result Published PublishFault → Answer
 publication_answer (Ok published) = Ok (published_text published)
 publication_answer (Err fault) = Err (publish_end fault)
+
+-- the text of how many bodies were replaced
+abbrev pub migrated_text : ℕ → List ℕ
+migrated_text count = codes "MIGRATED " ++ decimal count ++ codes "\n"
+
+-- a migration as an answer
+abbrev pub migration_answer : Result ℕ RestoreFault → Answer
+migration_answer (Ok count) = Ok (migrated_text count)
+migration_answer (Err fault) = Err (restore_end fault)

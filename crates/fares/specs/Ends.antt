@@ -69,11 +69,12 @@ IsRefusalOfServe ended.DoorFault = ⊤
 IsRefusalOfServe ended.Memory = ⊤
 IsRefusalOfServe other = ⊥
 
--- an end of a command that is missing
-abbrev pub IsRefusalOfMissing : Exit → Type 0
-IsRefusalOfMissing ended.NotYet = ⊤
-IsRefusalOfMissing ended.Memory = ⊤
-IsRefusalOfMissing other = ⊥
+-- an end of `migrate` without its text
+abbrev pub IsRefusalOfMigrate : Exit → Type 0
+IsRefusalOfMigrate ended.KeeperFault = ⊤
+IsRefusalOfMigrate (ended.Damaged place damage) = ⊤
+IsRefusalOfMigrate ended.Memory = ⊤
+IsRefusalOfMigrate other = ⊥
 
 -- an end of words that aren't taken
 abbrev pub IsRefusalOfNothing : Exit → Type 0
@@ -83,14 +84,14 @@ IsRefusalOfNothing other = ⊥
 
 -- an end of a request without its text
 abbrev pub IsRefusalOf : Request → Exit → Type 0
-IsRefusalOf request.Price exit = IsRefusalOfPrice exit
+IsRefusalOf (request.Price best) exit = IsRefusalOfPrice exit
 IsRefusalOf (request.Publish store) exit = IsRefusalOfPublish exit
 IsRefusalOf (request.List store) exit = IsRefusalOfList exit
 IsRefusalOf (request.Export store number) exit = IsRefusalOfExport exit
-IsRefusalOf (request.Quote store) exit = IsRefusalOfQuote exit
+IsRefusalOf (request.Quote store best) exit = IsRefusalOfQuote exit
 IsRefusalOf (request.Drill seed sectors extra) exit = IsRefusalOfDrill exit
 IsRefusalOf (request.Serve store port count round) exit = IsRefusalOfServe exit
-IsRefusalOf request.Missing exit = IsRefusalOfMissing exit
+IsRefusalOf (request.Migrate store) exit = IsRefusalOfMigrate exit
 IsRefusalOf request.Nothing exit = IsRefusalOfNothing exit
 
 -- an end of a request: `Done` and `WriteFault` where it has a text

@@ -21,4 +21,3 @@ status_of ended.BookFull = 13
 status_of (ended.Damaged place damage) = 14
 status_of (ended.NoSuch number) = 15
 status_of ended.Memory = 20
-status_of ended.NotYet = 30

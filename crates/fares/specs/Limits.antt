@@ -17,7 +17,7 @@ quote_limit = 65_536
 
 -- the most bytes that the source of a request may hold; a request that doesn't read the source asks for none of it
 abbrev pub limit_of : Request → ℕ
-limit_of request.Price = price_limit
+limit_of (request.Price best) = price_limit
 limit_of (request.Publish store) = publish_limit
-limit_of (request.Quote store) = quote_limit
+limit_of (request.Quote store best) = quote_limit
 limit_of other = 0

@@ -1,5 +1,5 @@
 -- How a run ends, whatever happens to its reads, its writes and the calls of its store.
-use Rattle.std.specs.Prelude.{◌≡◌, ◌⊎◌, ℕ, List, [], Option, Some, None, Ok, Err, ⊤}
+use Rattle.std.specs.Prelude.{◌≡◌, ◌≢◌, ◌⊎◌, ℕ, List, [], Option, Some, None, Ok, Err, ⊤}
 use Rattle.std.specs.Io.KnownBytes.{Appends}
 use Rattle.fare_outside.specs.Keeper.{BodiesStay, BodyAppended}
 use Rattle.fare_outside.specs.Sink.{AppendsPrefix}
@@ -11,7 +11,7 @@ use Rattle.fares.specs.declared.exit.Exit.TheVariants as ended
 use Rattle.fares.specs.declared.words.Request.{Request}
 use Rattle.fares.specs.declared.words.Request.TheVariants as request
 use Rattle.fares.specs.Answer.{Answer}
-use Rattle.fares.specs.StoreOutcome.{Bodies}
+use Rattle.fares.specs.StoreOutcome.{Bodies, MayMigrate}
 
 -- what a sink took stays as it was, where it is told
 abbrev pub WritesNothing : Option (List ℕ) → Option (List ℕ) → Type 0
@@ -50,6 +50,15 @@ PublishesNothing ended.KeeperFault = ⊥
 PublishesNothing ended.DoorFault = ⊥
 PublishesNothing other = ⊤
 
+-- a migration isn't cut off by want of memory, which may be between two bodies
+abbrev pub IsUncut : Request → Exit → Type 0
+IsUncut (request.Migrate store) exit = exit ≢ ended.Memory
+IsUncut other exit = ⊤
+
+-- an end of a request on which the bodies stay: nothing is published, and no migration is cut off
+abbrev pub LeavesBodiesAt : Request → Exit → Type 0
+LeavesBodiesAt request exit = PublishesNothing exit × IsUncut request exit
+
 -- the bodies are as before, or have the canonical text of the source's edition at the end
 abbrev pub MayPublish : List ℕ → Bodies → Bodies → Type 0
 MayPublish source old new =
@@ -57,9 +66,11 @@ MayPublish source old new =
     ⊎ ((edition : Tariff) × (edition_of source ≡ Ok edition) × BodyAppended (canonical_text edition) old new)
 
 -- what a request does to the bodies: `publish` may add the text of the edition of its source, where that is told, what
--- `serve` may add is said by `EndsServing`, and every other one leaves them
+-- `serve` may add is said by `EndsServing`, `migrate` may bring those at some first places into canonical spelling, and
+-- every other one leaves them
 abbrev pub LeavesBodies : Request → Option (List ℕ) → Bodies → Bodies → Type 0
 LeavesBodies (request.Publish store) None old new = ⊤
 LeavesBodies (request.Publish store) (Some source) old new = MayPublish source old new
 LeavesBodies (request.Serve store port count round) source old new = ⊤
+LeavesBodies (request.Migrate store) source old new = MayMigrate old new
 LeavesBodies other source old new = BodiesStay old new

@@ -1,7 +1,7 @@
 -- What a command with a store answers, and the bodies that it leaves. Each definition looks at one thing, in the order
 -- in which the refusals come: the length of the source, what it holds, the bodies of the store, and their editions.
 use Rattle.std.specs.Prelude.{◌≡◌, ℕ, List, Option, Some, None, Result, Ok, Err, MatchResult, MatchOption, MatchBool}
-use Rattle.std.specs.Prelude.{IfSome, nat_lt, length, ⊤}
+use Rattle.std.specs.Prelude.{IfSome, nat_lt, length, map, count_by, ⊤}
 use Rattle.fare_trip.specs.Itinerary.{Itinerary}
 use Rattle.fare_trip.specs.ItineraryText.{read_trip}
 use Rattle.fare_tariff.specs.Tariff.{Tariff}
@@ -9,21 +9,28 @@ use Rattle.fare_csv.specs.TariffText.{edition_of}
 use Rattle.fare_csv.specs.CanonicalText.{canonical_text}
 use Rattle.fare_book.specs.Book.{BookState, numbered}
 use Rattle.fare_book.specs.Editions.{editions_of}
+use Rattle.fare_book.specs.Migration.{MigratesInPart, SameEditions, canonical_body, is_old}
 use Rattle.fare_book.specs.Publish.{Answer as Publication, Offers}
+use Rattle.fare_counter.specs.BestText.{BestOver}
 use Rattle.fare_desk.specs.List.{list_text}
 use Rattle.fare_desk.specs.Quotation.{Quotation, Quotes}
 use Rattle.fares.specs.declared.exit.Exit.TheVariants as ended
-use Rattle.fares.specs.Answer.{Answer, answer_of, publication_answer}
+use Rattle.fares.specs.Answer.{Answer, answer_of, migrated_text, publication_answer}
 use Rattle.fares.specs.Limits.{publish_limit, quote_limit}
 
 -- the bodies of a store
 abbrev pub Bodies : Type 0
 Bodies = List (List ℕ)
 
--- the answer to a trip over editions: its quotation
-abbrev pub AnswersTrip : Itinerary → List Tariff → Answer → Type 0
-AnswersTrip trip editions answer =
-    (quotation : Quotation) × Quotes editions trip quotation × (answer ≡ answer_of quotation)
+-- what is told of a trip over editions: its quotation, or its first constructions where so many are asked for
+abbrev pub Tells : Option ℕ → List Tariff → Itinerary → Quotation → Type 0
+Tells None editions trip quotation = Quotes editions trip quotation
+Tells (Some k) editions trip quotation = BestOver editions trip k quotation
+
+-- the answer to a trip over editions: what is told of it
+abbrev pub AnswersTrip : Option ℕ → Itinerary → List Tariff → Answer → Type 0
+AnswersTrip best trip editions answer =
+    (quotation : Quotation) × Tells best editions trip quotation × (answer ≡ answer_of quotation)
 
 -- the answer over the editions that bodies stand for: `Damaged` where they stand for none
 abbrev pub AnswersOver : (List Tariff → Answer → Type 0) → Bodies → Answer → Type 0
@@ -41,17 +48,17 @@ Exports number editions answer =
     MatchOption (numbered number editions) (answer ≡ Err (ended.NoSuch number))
     (λ tariff. answer ≡ Ok (canonical_text tariff))
 
--- the answer to an itinerary text: `BadTrip` of its first fault, if it has one, and else the quotation of its trip
-abbrev pub AnswersItineraryOver : List ℕ → Bodies → Answer → Type 0
-AnswersItineraryOver text bodies answer =
-    MatchResult (read_trip text) (λ trip. AnswersOver (AnswersTrip trip) bodies answer)
+-- the answer to an itinerary text: `BadTrip` of its first fault, if it has one, and else that to its trip
+abbrev pub AnswersItineraryOver : Option ℕ → List ℕ → Bodies → Answer → Type 0
+AnswersItineraryOver best text bodies answer =
+    MatchResult (read_trip text) (λ trip. AnswersOver (AnswersTrip best trip) bodies answer)
     (λ fault. answer ≡ Err (ended.BadTrip fault))
 
 -- the answer to `quote`: `Limit` where the source is too long, and else that to its itinerary
-abbrev pub AnswersQuote : List ℕ → Bodies → Answer → Type 0
-AnswersQuote source bodies answer =
+abbrev pub AnswersQuote : Option ℕ → List ℕ → Bodies → Answer → Type 0
+AnswersQuote best source bodies answer =
     MatchBool (nat_lt quote_limit (length source)) (answer ≡ Err ended.Limit)
-    (AnswersItineraryOver source bodies answer)
+    (AnswersItineraryOver best source bodies answer)
 
 -- the answer to an edition over the editions that the bodies stand for, and what is left of the bodies: as that edition
 -- is published in the settled book of these
@@ -71,6 +78,20 @@ abbrev pub AnswersPublish : List ℕ → Bodies → Bodies → Answer → Type 0
 AnswersPublish source bodies left answer =
     MatchBool (nat_lt publish_limit (length source)) (answer ≡ Err ended.Limit)
     (AnswersTariffOver source bodies left answer)
+
+-- all bodies are in the canonical spelling of their editions, and the answer is how many weren't
+abbrev pub MigratesAll : Bodies → Bodies → Answer → Type 0
+MigratesAll bodies left answer =
+    (left ≡ map canonical_body bodies) × (answer ≡ Ok (migrated_text (count_by is_old bodies)))
+
+-- the answer to `migrate`, and what is left of the bodies, where they stand for editions
+abbrev pub AnswersMigrate : Bodies → Bodies → Answer → Type 0
+AnswersMigrate bodies left answer = AnswersOver (λ _. MigratesAll bodies left) bodies answer
+
+-- the bodies at some first places are in the canonical spelling of their editions, the others are as before, and they
+-- stand for the same editions, or have the same damage
+abbrev pub MayMigrate : Bodies → Bodies → Type 0
+MayMigrate bodies left = MigratesInPart bodies left × SameEditions bodies left
 
 -- a refusal leaves the bodies
 abbrev pub RefusalLeaves : Answer → Bodies → Bodies → Type 0

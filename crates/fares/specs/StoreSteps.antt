@@ -2,14 +2,16 @@
 use Rattle.std.specs.Prelude.{◌≡◌, ◌⊎◌, ℕ, List, Option, Some, None, Result, Ok, Err, IfSome, ⊤}
 use Rattle.fare_tariff.specs.Tariff.{Tariff}
 use Rattle.fare_csv.specs.CanonicalText.{canonical_text}
-use Rattle.fare_outside.specs.Keeper.{BodiesStay, BodyAppended}
+use Rattle.fare_outside.specs.Keeper.{BodiesStay, BodyAppended, ToldAfter}
 use Rattle.fare_book.specs.declared.damage.Damage.{Damage}
+use Rattle.fare_book.specs.declared.restore_fault.RestoreFault.{RestoreFault}
 use Rattle.fare_book.specs.Book.{BookState}
 use Rattle.fare_book.specs.Editions.{editions_of}
+use Rattle.fare_book.specs.Migration.{Migrates}
 use Rattle.fare_book.specs.Publish.{Answer as Publication, Offers}
 use Rattle.fares.specs.declared.exit.Exit.{Exit}
 use Rattle.fares.specs.declared.exit.Exit.TheVariants as ended
-use Rattle.fares.specs.Answer.{Answer, publication_answer}
+use Rattle.fares.specs.Answer.{Answer, migration_answer, publication_answer}
 use Rattle.fares.specs.Steps.{IsCutOff}
 use Rattle.fares.specs.StoreOutcome.{Bodies, Told}
 
@@ -34,6 +36,12 @@ abbrev pub AnswersOffer : List Tariff → Tariff → Told → Told → Answer �
 AnswersOffer editions edition before after answer =
     (published : Publication) × (book : BookState) × Offers editions edition published book before after
     × (answer ≡ publication_answer published)
+
+-- the answer to a migration of an open store
+abbrev pub AnswersMigration : Told → Told → Answer → Type 0
+AnswersMigration before after answer =
+    (old new : BookState) × (migration : Result ℕ RestoreFault)
+    × ToldAfter before after (Migrates old new migration) × (answer ≡ migration_answer migration)
 
 -- the bodies are as before, or have the canonical text of an edition at the end
 abbrev pub MayAdd : Tariff → Bodies → Bodies → Type 0

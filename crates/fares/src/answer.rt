@@ -9,7 +9,7 @@ ghost use Rattle.fares.specs.Ends.{IsRefusalOf};
 ghost use Rattle.fares.specs.Limits.{limit_of};
 ghost use Rattle.fares.specs.Outcome.{AnswersRequest};
 ghost use Rattle.fares.specs.Request.{HasText, IsWithin, LeavesDoor, LeavesSource, LeavesStore, UsesDoor};
-ghost use Rattle.fares.specs.Run.{LeavesBodies, PublishesNothing, ServesNobodyAt};
+ghost use Rattle.fares.specs.Run.{LeavesBodies, LeavesBodiesAt, ServesNobodyAt};
 ghost use Rattle.fares.specs.Serve.{ServesRequest};
 ghost use Rattle.fares.specs.Steps.{Answers, IsKeeping, IsReading};
 
@@ -17,6 +17,7 @@ use crate::drill::drill;
 use crate::exit::Exit;
 use crate::export::export;
 use crate::list::list;
+use crate::migrate::migrate;
 use crate::price::price;
 use crate::publish::publish;
 use crate::serve::serve;
@@ -52,7 +53,7 @@ pub fn answer<R: Threads + Sync, S: Source, P: Keeper, D: Door>(
     ensures store { LeavesStore request.now → store.new ≡ store.old }
     ensures bodies { WhereTold (P.bodies store.old) (P.bodies store.new)
         (LeavesBodies request.now (S.left src.old)) }
-    ensures refused { IfErr result (λ exit. PublishesNothing exit →
+    ensures refused { IfErr result (λ exit. LeavesBodiesAt request.now exit →
         WhereTold (P.bodies store.old) (P.bodies store.new) BodiesStay) }
     ensures keeping { IsKeeping result (P.faults store.old) (P.faults store.new) }
 
@@ -69,15 +70,15 @@ pub fn answer<R: Threads + Sync, S: Source, P: Keeper, D: Door>(
     ensures cuts { D.cuts door.old ≤ D.cuts door.new }
 {
     match request {
-        Request::Price => price(rt, alloc, quoter, src),
+        Request::Price { best } => price(rt, alloc, quoter, src, *best),
         Request::Publish { store: name } => publish(rt, alloc, src, store, name.as_str()),
         Request::List { store: name } => list(rt, alloc, store, name.as_str()),
         Request::Export {
             store: name,
             edition,
         } => export(rt, alloc, store, name.as_str(), *edition),
-        Request::Quote { store: name } => {
-            stored_quote(rt, alloc, quoter, src, store, name.as_str())
+        Request::Quote { store: name, best } => {
+            stored_quote(rt, alloc, quoter, src, store, name.as_str(), *best)
         }
         Request::Drill {
             seed,
@@ -90,15 +91,22 @@ pub fn answer<R: Threads + Sync, S: Source, P: Keeper, D: Door>(
             count,
             round,
         } => {
-            let service = Service {
-                port: *port,
-                count: *count,
-                round: *round,
-                workers: quoter.workers,
-            };
+            let service = service_of(*port, *count, *round, quoter.workers);
             serve(rt, alloc, store, door, name.as_str(), service)
         }
-        Request::Missing => Err(Exit::NotYet),
+        Request::Migrate { store: name } => migrate(rt, alloc, store, name.as_str()),
         Request::Nothing => Err(Exit::Usage),
+    }
+}
+
+/// The service of a port, of so many connections in rounds, by so many workers.
+fn service_of(port: u16, count: u32, round: u32, workers: u32) -> Service
+    ensures { result ≡ record { port = port; count = count; round = round; workers = workers } }
+{
+    Service {
+        port,
+        count,
+        round,
+        workers,
     }
 }

@@ -40,8 +40,6 @@ pub enum Exit {
     NoSuch(u32),
     /// Memory was wanting.
     Memory,
-    /// The words ask for a command, or an option, that the program doesn't have yet.
-    NotYet,
 }
 
 impl Exit {
@@ -68,7 +66,6 @@ impl Exit {
             Exit::Damaged(_, _) => 14,
             Exit::NoSuch(_) => 15,
             Exit::Memory => 20,
-            Exit::NotYet => 30,
         }
     }
 }

@@ -35,7 +35,6 @@ pub fn fault_text(alloc: Global, exit: &Exit) -> Result<Vec<u8>, NoMemory>
         Exit::Damaged(place, damage) => damaged(alloc, *place, damage),
         Exit::NoSuch(number) => numbered(alloc, b"NO SUCH EDITION ", *number),
         Exit::Memory => words(alloc, b"NO MEMORY"),
-        Exit::NotYet => words(alloc, b"NOT YET"),
     }
 }
 

@@ -4,7 +4,8 @@
 //! - `words`: what the words of the command line ask for;
 //! - `source`, `input`: the bytes of the source, and the itinerary and the tariff in them;
 //! - `store`: the book of a store; `quote`: the quotation of a trip over a book;
-//! - `price`, `publish`, `list`, `export`, `stored_quote`, `drill`, `serve`: the commands, a file each;
+//! - `price`, `publish`, `list`, `export`, `stored_quote`, `drill`, `serve`, `migrate`: the commands, a file each, and
+//!   `numbered_line`, the line that two of them answer;
 //! - `answer`, `run`: what a request is answered, and the whole program, from its words to what it ends in;
 //! - `exit`, `refused`, `fault_line`: what a run ends in, the ends for what the crates below refuse, and the status and
 //!   the line on standard error of each.
@@ -17,6 +18,8 @@ mod export;
 mod fault_line;
 mod input;
 mod list;
+mod migrate;
+mod numbered_line;
 mod price;
 mod publish;
 mod quote;

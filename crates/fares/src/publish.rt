@@ -1,6 +1,6 @@
 //! The command `publish`.
 
-ghost use Rattle.std.specs.Prelude.{◌≡◌, ◌++◌, true, codes, decimal, IfErr, IfOk, IfSome, IsTrue};
+ghost use Rattle.std.specs.Prelude.{◌≡◌, true, IfErr, IfSome, IsTrue};
 ghost use Rattle.fare_outside.specs.Keeper.{BodiesStay, ToldAfter, WhereTold};
 ghost use Rattle.fare_book.specs.Reopens.{Stay};
 ghost use Rattle.fares.specs.Ends.{IsRefusalOfPublish};
@@ -12,12 +12,12 @@ ghost use Rattle.fares.specs.StoreSteps.{AnswersOffer, IsEndOfOffer, MayAdd};
 
 use crate::exit::Exit;
 use crate::input::edition_in;
+use crate::numbered_line::numbered_line;
 use crate::source::source_up_to;
 use crate::store::book_of;
 use fare_book::{Book, Published};
-use fare_outside::{Keeper, NoMemory, Source};
+use fare_outside::{Keeper, Source};
 use fare_tariff::Edition;
-use fare_text::push_labelled;
 use std::alloc::Global;
 use std::thread::Threads;
 
@@ -96,14 +96,4 @@ fn publish_in<R: Threads + Sync, P: Keeper>(
         Published::New(_) => Ok(new),
         Published::Already(_) => Ok(already),
     }
-}
-
-/// A line of a word and a number.
-fn numbered_line(alloc: Global, word: &[u8], number: u32) -> Result<Vec<u8>, NoMemory>
-    ensures { IfOk result (λ text. text.items ≡ word.now ++ decimal number ++ codes "\n") }
-{
-    let mut text = Vec::new(alloc);
-    push_labelled(&mut text, word, number)?;
-    text.push(b'\n')?;
-    Ok(text)
 }

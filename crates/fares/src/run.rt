@@ -10,7 +10,7 @@ ghost use Rattle.fares.specs.Ends.{IsEndOf};
 ghost use Rattle.fares.specs.Limits.{limit_of};
 ghost use Rattle.fares.specs.Outcome.{IsOutcome};
 ghost use Rattle.fares.specs.Request.{asked, LeavesDoor, LeavesSource, LeavesStore, UsesDoor};
-ghost use Rattle.fares.specs.Run.{EndsIn, IsSilent, LeavesBodies, PublishesNothing, ServesNobodyAt};
+ghost use Rattle.fares.specs.Run.{EndsIn, IsSilent, LeavesBodies, LeavesBodiesAt, ServesNobodyAt};
 ghost use Rattle.fares.specs.Serve.{EndsServing};
 
 use crate::answer::answer;
@@ -27,8 +27,8 @@ use std::thread::Threads;
 /// define, or in want of memory, `ReadFault`, `KeeperFault` or `WriteFault`; these three come only where the source's,
 /// the store's and the sink's count rose in this call. All text is built before the first write, so the sink is left
 /// alone on every end but `Done` and `WriteFault`, which leave the same store. Only `publish` changes the bodies of the
-/// store, by the text of one edition, and `serve`, by the publications that it answers; a run that ends in want of
-/// memory has stored nothing.
+/// store, by the text of one edition, `serve`, by the publications that it answers, and `migrate`, which spells some
+/// first ones anew and changes no edition; a run that ends in want of memory has stored nothing else.
 ///
 /// `serve` lets connections in by the door, which may hold none, and answers them in rounds over the book of the store.
 /// It is the only command that touches the door, and lets nobody in where it ends in anything but `Done`, `WriteFault`
@@ -72,7 +72,8 @@ pub fn run<R: Threads + Sync, S: Source, K: Sink, P: Keeper, D: Door, G: Gate>(
     // What the store is left with.
     ensures bodies { WhereTold (P.bodies store.old) (P.bodies store.new)
         (LeavesBodies (asked (map string_bytes words.now)) (S.left src.old)) }
-    ensures refused { PublishesNothing result → WhereTold (P.bodies store.old) (P.bodies store.new) BodiesStay }
+    ensures refused { LeavesBodiesAt (asked (map string_bytes words.now)) result →
+        WhereTold (P.bodies store.old) (P.bodies store.new) BodiesStay }
 
     // The source never loses more than one byte above the limit, and no count falls.
     ensures within { TakesUpTo (limit_of (asked (map string_bytes words.now)) + 1) (S.left src.old) (S.left src.new) }

@@ -210,14 +210,6 @@ fn other_words_are_not_taken(rt: HostRuntime) -> Result<(), Fail> {
     assert!(rt; status_of(&rt, alloc, &["prices"])? == 2);
     assert!(rt; status_of(&rt, alloc, &["price", "LON"])? == 2);
     assert!(rt; status_of(&rt, alloc, &["quote"])? == 2);
-    Ok(())
-}
-
-#[test]
-fn missing_commands_and_options_are_told(rt: HostRuntime) -> Result<(), Fail> {
-    let alloc = rt.alloc();
-    assert!(rt; status_of(&rt, alloc, &["migrate", "--store", "editions"])? == 30);
-    assert!(rt; status_of(&rt, alloc, &["quote", "--store", "editions", "--best", "2"])? == 30);
-    assert!(rt; status_of(&rt, alloc, &["price", "--best=3"])? == 30);
+    assert!(rt; status_of(&rt, alloc, &["price", "--best=11"])? == 2);
     Ok(())
 }

@@ -3,7 +3,7 @@
 ghost use Rattle.std.specs.Prelude.{◌≡◌, ◌≤◌, IfOk, IfSome, map, string_bytes};
 ghost use Rattle.fare_words.specs.Limits.{most_workers};
 ghost use Rattle.fare_words.specs.WithinLimits.{IsWithinLimits};
-ghost use Rattle.fares.specs.Request.{asked, request_of, IsWithin};
+ghost use Rattle.fares.specs.Request.{asked, request_by, request_of, IsWithin};
 ghost use Rattle.fares.specs.Sharing.{workers_asked, workers_of};
 
 use fare_outside::NoMemory;
@@ -13,8 +13,10 @@ use std::alloc::Global;
 /// What the words of a command line ask for.
 #[derive(Debug, Drop)]
 pub enum Request<'a> {
-    /// The command `price`, without `--best`.
-    Price,
+    /// The command `price`, of so many first constructions where it says how many.
+    Price {
+        best: Option<u32>,
+    },
     /// The command `publish`.
     Publish {
         store: StoreName<'a>,
@@ -28,9 +30,10 @@ pub enum Request<'a> {
         store: StoreName<'a>,
         edition: u32,
     },
-    /// The command `quote`, without `--best`.
+    /// The command `quote`, of so many first constructions where it says how many.
     Quote {
         store: StoreName<'a>,
+        best: Option<u32>,
     },
     /// The command `drill`.
     Drill {
@@ -45,8 +48,10 @@ pub enum Request<'a> {
         count: u32,
         round: u32,
     },
-    /// A command, or an option, that the program doesn't have yet.
-    Missing,
+    /// The command `migrate`.
+    Migrate {
+        store: StoreName<'a>,
+    },
     /// Nothing: the words aren't taken.
     Nothing,
 }
@@ -96,7 +101,6 @@ fn workers_of(taken: &Option<Command<'_>>) -> u32
 }
 
 /// What the command that words give asks for, or their refusal.
-#[tactic(auto, unfolding(fare_words::specs::WithinLimits::IsWithinLimits))]
 fn request_of(taken: Option<Command<'_>>) -> Request<'_>
     requires { IfSome taken IsWithinLimits }
     ensures request { result ≡ request_of taken.entry }
@@ -104,43 +108,45 @@ fn request_of(taken: Option<Command<'_>>) -> Request<'_>
 {
     match taken {
         None => Request::Nothing,
-        Some(Command::Price { best: None, .. }) => Request::Price,
-        Some(Command::Publish { store }) => Request::Publish { store },
-        Some(Command::List { store }) => Request::List { store },
-        Some(Command::Export { store, edition }) => Request::Export { store, edition },
-        Some(
-            Command::Quote {
-                store,
-                best: None,
-                ..
-            },
-        ) => Request::Quote { store },
-        Some(
-            Command::Drill {
-                seed,
-                sectors,
-                extra,
-                ..
-            },
-        ) => Request::Drill {
+        Some(command) => request_by(command),
+    }
+}
+
+/// What a command asks for.
+#[tactic(auto, unfolding(fare_words::specs::WithinLimits::IsWithinLimits))]
+fn request_by(command: Command<'_>) -> Request<'_>
+    requires { IsWithinLimits command }
+    ensures request { result ≡ request_by command.entry }
+    ensures within { IsWithin result }
+{
+    match command {
+        Command::Price { best, .. } => Request::Price { best },
+        Command::Publish { store } => Request::Publish { store },
+        Command::List { store } => Request::List { store },
+        Command::Export { store, edition } => Request::Export { store, edition },
+        Command::Quote { store, best, .. } => Request::Quote { store, best },
+        Command::Drill {
+            seed,
+            sectors,
+            extra,
+            ..
+        } => Request::Drill {
             seed,
             sectors,
             extra,
         },
-        Some(
-            Command::Serve {
-                store,
-                port,
-                count,
-                round,
-                ..
-            },
-        ) => Request::Serve {
+        Command::Serve {
+            store,
+            port,
+            count,
+            round,
+            ..
+        } => Request::Serve {
             store,
             port,
             count,
             round,
         },
-        Some(_) => Request::Missing,
+        Command::Migrate { store } => Request::Migrate { store },
     }
 }

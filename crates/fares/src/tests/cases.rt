@@ -1,7 +1,9 @@
 //! Sources of `price`, with what comes of them.
 
 pub mod allowances;
+pub mod best;
 pub mod keepers;
+pub mod migrations;
 pub mod mileage;
 pub mod one_sector;
 pub mod points;

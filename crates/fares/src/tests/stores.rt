@@ -1,6 +1,8 @@
 //! The commands with a store, over keepers in memory.
 
+use super::cases::best::BEST;
 use super::cases::keepers::KEPT;
+use super::cases::migrations::{FORMER, MIGRATED, ONE_FORMER};
 use super::cases::steps::{FAILURES, ONE_EDITION, REFUSED_SOURCES, THREE_EDITIONS};
 use super::cases::{Failure, Kept, Step};
 use super::tariffs::{END, HEAD_1, MILES, PLACES, THROUGH, TWO_PLACES};
@@ -65,6 +67,23 @@ fn the_sale_day_selects(rt: HostRuntime) -> Result<(), Fail> {
 }
 
 #[test]
+fn the_first_constructions_are_told(rt: HostRuntime) -> Result<(), Fail> {
+    let alloc = rt.alloc();
+    let mut store = PlainKeeper::new(Bodies::new(alloc));
+    go(&rt, alloc, &mut store, BEST.as_slice())
+}
+
+#[test]
+fn an_edition_in_the_former_version_is_migrated_once(rt: HostRuntime) -> Result<(), Fail> {
+    let alloc = rt.alloc();
+    let mut bodies = Bodies::new(alloc);
+    bodies.push(FORMER.as_bytes())?;
+    bodies.push(b"HEAD,2,2,2025-02-01\nEND\n")?;
+    let mut store = PlainKeeper::new(bodies);
+    go(&rt, alloc, &mut store, ONE_FORMER.as_slice())
+}
+
+#[test]
 fn a_refused_source_opens_no_store(rt: HostRuntime) -> Result<(), Fail> {
     let alloc = rt.alloc();
     let mut store = failing(alloc, Bodies::new(alloc), &[(1, false)])?;
@@ -120,12 +139,22 @@ fn keeps<R: Threads + Sync + Abort>(rt: &R, alloc: Global, case: &Kept) -> Resul
     Ok(())
 }
 
-#[test]
-fn stores_are_left_as_they_are_to_be(rt: HostRuntime) -> Result<(), Fail> {
-    for case in KEPT.as_slice() {
-        keeps(&rt, rt.alloc(), case)?;
+/// Each case of a table.
+fn keeps_all<R: Threads + Sync + Abort>(rt: &R, alloc: Global, cases: &[Kept]) -> Result<(), Fail> {
+    for case in cases {
+        keeps(rt, alloc, case)?;
     }
     Ok(())
+}
+
+#[test]
+fn stores_are_left_as_they_are_to_be(rt: HostRuntime) -> Result<(), Fail> {
+    keeps_all(&rt, rt.alloc(), KEPT.as_slice())
+}
+
+#[test]
+fn a_migration_goes_on_where_it_was_cut_off(rt: HostRuntime) -> Result<(), Fail> {
+    keeps_all(&rt, rt.alloc(), MIGRATED.as_slice())
 }
 
 #[test]

@@ -8,6 +8,8 @@ use crate::tests::tariffs::{
 
 const LIST: &[&str] = &["list", "--store=s"];
 
+const MIGRATE: &[&str] = &["migrate", "--store=s"];
+
 const PUBLISH: &[&str] = &["publish", "--store=s"];
 
 const QUOTE: &[&str] = &["quote", "--store=s"];
@@ -154,9 +156,39 @@ pub static REFUSED_SOURCES: [Step; 4] = [
     },
 ];
 
-/// The publication of one edition in an empty store, with each call that may fail; the store's calls are `open`, `len`
-/// and `append`.
-pub static FAILURES: [Failure; 7] = [
+/// The publication of one edition in an empty store, and a migration of none, with each call that may fail; the store's
+/// calls are `open`, `len` and `append`.
+pub static FAILURES: [Failure; 10] = [
+    Failure {
+        words: MIGRATE,
+        read: &[],
+        write: &[],
+        room: 9,
+        store: &[],
+        status: 9,
+        text: "MIGRATED ",
+        bodies: 0,
+    },
+    Failure {
+        words: MIGRATE,
+        read: &[],
+        write: &[],
+        room: 4096,
+        store: &[(1, false)],
+        status: 10,
+        text: "",
+        bodies: 0,
+    },
+    Failure {
+        words: MIGRATE,
+        read: &[],
+        write: &[],
+        room: 4096,
+        store: &[(2, false)],
+        status: 10,
+        text: "",
+        bodies: 0,
+    },
     Failure {
         words: PUBLISH,
         read: &[1],

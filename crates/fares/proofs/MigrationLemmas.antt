@@ -1,0 +1,92 @@
+-- What a migration answers and leaves, from the opening of its store on.
+use Rattle.std.proofs.Common.{◌≡◌, ◌≢◌, ◌∙◌, ℕ, inl, inr, List, [], ◌++◌, length, map, take, drop, Option, Some, None, Result, Ok, Err, Vec, IfErr, sym, refl}
+use Rattle.std.specs.Prelude.{count_by}
+use Rattle.std.proofs.Math.Seq.{take-length, drop-length}
+use Rattle.std.proofs.lemmas.List.{append-nil}
+use Rattle.fare_outside.specs.Keeper.{BodiesStay, ToldAfter, WhereTold}
+use Rattle.fare_book.specs.declared.restore_fault.RestoreFault.{RestoreFault}
+use Rattle.fare_book.specs.declared.restore_fault.RestoreFault.TheVariants.{Memory, KeeperFault, Damaged}
+use Rattle.fare_book.specs.Book.{BookState}
+use Rattle.fare_book.specs.Editions.{DamageAt, editions_of}
+use Rattle.fare_book.specs.Migration.{Migrates, MigratesInPart, SameEditions, canonical_body, is_old, migrated}
+use Rattle.fare_book.specs.Reopens.{Stay}
+use Rattle.fares.specs.declared.exit.Exit.{Exit}
+use Rattle.fares.specs.declared.exit.Exit.TheVariants as ended
+use Rattle.fares.specs.Answer.{Answer, migrated_text, migration_answer, restore_end}
+use Rattle.fares.specs.Run.{PublishesNothing}
+use Rattle.fares.specs.Steps.{Answers, IsRefusal}
+use Rattle.fares.specs.StoreOutcome.{AnswersMigrate, Bodies, MayMigrate, OverStore, RefusalLeaves, Told}
+use Rattle.fares.specs.StoreSteps.{AnswersMigration}
+
+-- the answer to a migration and the bodies that are left, for the bodies with which a store was opened
+abbrev AnswersBodies : Answer → Bodies → Bodies → Type 0
+AnswersBodies answer bodies left = AnswersMigrate bodies left answer × RefusalLeaves answer bodies left
+
+-- where all bodies are in canonical spelling, those at their first places are
+all_in_part : (bodies left : Bodies) → left ≡ map canonical_body bodies → left ≡ migrated (length bodies) bodies
+all_in_part bodies left spelled =
+    rw (take-length bodies, drop-length bodies) (spelled ∙ sym (append-nil (map canonical_body bodies)))
+
+-- whatever a migration answers, some first bodies are in canonical spelling, and the others are left
+in_part : (old new : BookState) (migration : Result ℕ RestoreFault) (bodies left : Bodies) → Migrates old new migration bodies left → MigratesInPart bodies left
+in_part old new (Ok count) bodies left migrates = (length bodies, all_in_part bodies left migrates.2)
+in_part old new (Err (Damaged place damage)) bodies left migrates = (0, migrates.2)
+in_part old new (Err Memory) bodies left (inl same) = (0, same.1)
+in_part old new (Err Memory) bodies left (inr part) = part.1
+in_part old new (Err KeeperFault) bodies left (inl same) = (0, same.1)
+in_part old new (Err KeeperFault) bodies left (inr part) = part.1
+
+-- and so in the store
+pub may_migrate : (before after : Told) (old new : BookState) (migration : Result ℕ RestoreFault) → ToldAfter before after (Migrates old new migration) → ToldAfter before after SameEditions → ToldAfter before after MayMigrate
+may_migrate before None old new migration told same = tt
+may_migrate None (Some left) old new migration told same = absurd told
+may_migrate (Some bodies) (Some left) old new migration told same =
+    (in_part old new migration bodies left told, same)
+
+-- a migration of an opened store is one of the store
+pub migrates_store : (before between after : Told) → WhereTold before between BodiesStay → ToldAfter between after MayMigrate → WhereTold before after MayMigrate
+migrates_store None between after stay told = tt
+migrates_store (Some old) between None stay told = tt
+migrates_store (Some old) None (Some left) stay told = absurd told
+migrates_store (Some old) (Some middle) (Some left) stay told = rw stay at told
+
+-- a refusal for damage leaves the bodies
+pub refused_stays : (before after : Told) (old new : BookState) (fault : RestoreFault) → ToldAfter before after (Migrates old new (Err fault)) → PublishesNothing (restore_end fault) → restore_end fault ≢ ended.Memory → Stay before after
+refused_stays before after old new Memory told silent uncut = absurd (uncut refl)
+refused_stays before after old new KeeperFault told silent uncut = absurd silent
+refused_stays before None old new (Damaged place damage) told silent uncut = tt
+refused_stays None (Some left) old new (Damaged place damage) told silent uncut = absurd told
+refused_stays (Some bodies) (Some left) old new (Damaged place damage) told silent uncut = told.2
+
+-- and so in the store
+pub store_stays : (before between after : Told) → WhereTold before between BodiesStay → Stay between after → WhereTold before after BodiesStay
+store_stays None between after stay stays = tt
+store_stays (Some old) between None stay stays = tt
+store_stays (Some old) None (Some left) stay stays = absurd stays
+store_stays (Some old) (Some middle) (Some left) stay stays = stays ∙ stay
+
+-- what a migration answers to the bodies of an opened store
+opened : (old new : BookState) (migration : Result ℕ RestoreFault) (answer : Answer) (bodies left : Bodies) → Migrates old new migration bodies left → answer ≡ migration_answer migration → IfErr answer IsRefusal → AnswersBodies answer bodies left
+opened old new (Ok count) answer bodies left migrates e refusal =
+    rw (e, migrates.0.1, sym migrates.1) ((migrates.2, refl), tt)
+opened old new (Err (Damaged place damage)) answer bodies left migrates e refusal =
+    rw (e, migrates.0) (refl, migrates.2)
+opened old new (Err Memory) answer bodies left migrates e refusal = absurd (rw e at refusal)
+opened old new (Err KeeperFault) answer bodies left migrates e refusal = absurd (rw e at refusal)
+
+-- and so to those of the store
+over_store : (before between after : Told) (old new : BookState) (migration : Result ℕ RestoreFault) (answer : Answer) → WhereTold before between BodiesStay → ToldAfter between after (Migrates old new migration) → answer ≡ migration_answer migration → IfErr answer IsRefusal → OverStore before after (AnswersBodies answer)
+over_store before between None old new migration answer stay told e refusal = tt
+over_store before None (Some left) old new migration answer stay told e refusal = absurd told
+over_store None (Some middle) (Some left) old new migration answer stay told e refusal =
+    (middle, tt, opened old new migration answer middle left told e refusal)
+over_store (Some bodies) (Some middle) (Some left) old new migration answer stay told e refusal =
+    (middle, sym stay, opened old new migration answer middle left told e refusal)
+
+-- and so is the answer of a function that migrates it
+pub migrates : {A : Type 0} → (before between after : Told) (result : Result (Vec ℕ A) Exit) → WhereTold before between BodiesStay → Answers (AnswersMigration between after) result → Answers (λ answer. OverStore before after (AnswersBodies answer)) result
+migrates before between after (Ok made) stay (old, new, migration, told, e) =
+    over_store before between after old new migration (Ok made.items) stay told e tt
+migrates before between after (Err exit) stay (inl cut) = inl cut
+migrates before between after (Err exit) stay (inr (refusal, (old, new, migration, told, e))) =
+    inr (refusal, over_store before between after old new migration (Err exit) stay told e refusal)
