@@ -1,5 +1,5 @@
-//! A greedy dive: from the cheapest of the choices of a piece on, always the part with the least floor. What it comes
-//! to is tried first, so that a price is known early.
+//! The steps of a dive: to first parts of a piece, or from some first parts to those that one more follows, by the
+//! least floor.
 
 ghost use Rattle.std.specs.Prelude.{◌≡◌, ◌+◌, ◌<◌, ◌≤◌, IfSome};
 ghost use Rattle.fare_trip.specs.Itinerary.{count};
@@ -7,9 +7,9 @@ ghost use Rattle.fare_units.specs.Walk.{next_start};
 ghost use Rattle.fare_branch.specs.Endings.{AreEndings};
 ghost use Rattle.fare_branch.specs.Floors.{IsMadeWith};
 ghost use Rattle.fare_branch.specs.Dive.{GoesFrom, StartsIn};
-ghost use Rattle.fare_branch.specs.Search.{BeginsIn};
 
 use crate::closing::closer_floor;
+use crate::cramped::is_cramped;
 use crate::endings::Endings;
 use crate::partial::Partial;
 use crate::pieces::{Piece, choice, choices};
@@ -20,9 +20,16 @@ use fare_rules::Part;
 type Step = Option<(Partial, u64)>;
 
 /// The one with the lesser floor of what was found and some first parts that one more follows, where these can bring
-/// anything.
+/// anything and their floor isn't below a number.
 #[tactic(auto, using(crate::proofs::DiveLemmas::goes_next))]
-fn lesser_step(table: &Table, endings: &Endings, front: &Partial, part: Part, found: Step) -> Step
+fn lesser_step(
+    table: &Table,
+    endings: &Endings,
+    front: &Partial,
+    part: Part,
+    from: u64,
+    found: Step,
+) -> Step
     requires endings { AreEndings table.now.edition table.now.trip endings.now }
     requires made { IsMadeWith table.now front.now }
     requires found { IfSome found (GoesFrom table.now front.now) }
@@ -31,9 +38,15 @@ fn lesser_step(table: &Table, endings: &Endings, front: &Partial, part: Part, fo
     let Some(longer) = front.next(table, part) else {
         return found;
     };
+    if is_cramped(table, &longer) {
+        return found;
+    }
     let Some(floor) = closer_floor(table, endings, &longer) else {
         return found;
     };
+    if floor < from {
+        return found;
+    }
     match found {
         Some((parts, least)) if least <= floor => Some((parts, least)),
         _ => Some((longer, floor)),
@@ -47,6 +60,7 @@ fn least_by_units(
     front: &Partial,
     end: usize,
     fare: u32,
+    from: u64,
     found: Step,
 ) -> Step
     requires endings { AreEndings table.now.edition table.now.trip endings.now }
@@ -64,7 +78,7 @@ fn least_by_units(
             unit: unit as u8,
             fare,
         };
-        found = lesser_step(table, endings, front, part, found);
+        found = lesser_step(table, endings, front, part, from, found);
     }
     found
 }
@@ -75,6 +89,7 @@ fn least_by_entries(
     endings: &Endings,
     front: &Partial,
     end: usize,
+    from: u64,
     found: Step,
 ) -> Step
     requires endings { AreEndings table.now.edition table.now.trip endings.now }
@@ -86,13 +101,13 @@ fn least_by_entries(
 {
     let mut found = found;
     for entry in table.entries(front.next_start(table.trip()), end) {
-        found = least_by_units(table, endings, front, end, entry.fare, found);
+        found = least_by_units(table, endings, front, end, entry.fare, from, found);
     }
     found
 }
 
-/// Some first parts that one more follows, with the least floor; nothing where none follows.
-fn least_step(table: &Table, endings: &Endings, front: &Partial) -> Step
+/// Some first parts that one more follows, with the least floor that isn't below a number; nothing where none follows.
+pub(crate) fn least_step(table: &Table, endings: &Endings, front: &Partial, from: u64) -> Step
     requires endings { AreEndings table.now.edition table.now.trip endings.now }
     requires made { IsMadeWith table.now front.now }
     ensures { IfSome result (GoesFrom table.now front.now) }
@@ -100,25 +115,32 @@ fn least_step(table: &Table, endings: &Endings, front: &Partial) -> Step
     let trip = table.trip();
     let mut found = None;
     for end in (front.next_start(trip) + 1..trip.count() + 1).rev() {
-        found = least_by_entries(table, endings, front, end, found);
+        found = least_by_entries(table, endings, front, end, from, found);
     }
     found
 }
 
-/// The first part with the least floor among the choices of a piece.
-fn first_step(table: &Table, endings: &Endings, piece: Piece) -> Step
+/// The first part with the least floor, not below a number, among the choices of a piece.
+pub(crate) fn first_step(table: &Table, endings: &Endings, piece: Piece, from: u64) -> Step
     requires endings { AreEndings table.now.edition table.now.trip endings.now }
     ensures { IfSome result (StartsIn table.now piece) }
 {
     let mut found = None;
     for number in piece.first..piece.past.min(choices(table)) {
-        found = lesser_start(table, endings, piece, number, found);
+        found = lesser_start(table, endings, piece, number, from, found);
     }
     found
 }
 
 /// The one with the lesser floor of what was found and the first part of a choice.
-fn lesser_start(table: &Table, endings: &Endings, piece: Piece, number: u32, found: Step) -> Step
+fn lesser_start(
+    table: &Table,
+    endings: &Endings,
+    piece: Piece,
+    number: u32,
+    from: u64,
+    found: Step,
+) -> Step
     requires endings { AreEndings table.now.edition table.now.trip endings.now }
     requires low { piece.first ≤ number }
     requires high { number < piece.past }
@@ -140,24 +162,11 @@ fn lesser_start(table: &Table, endings: &Endings, piece: Piece, number: u32, fou
     let Some(floor) = closer_floor(table, endings, &first) else {
         return found;
     };
+    if floor < from {
+        return found;
+    }
     match found {
         Some((parts, least)) if least <= floor => Some((parts, least)),
         _ => Some((first, floor)),
     }
-}
-
-/// What a dive comes to in a piece: first parts that begin with one of its choices, and often a whole construction;
-/// nothing where no choice can bring anything.
-pub(crate) fn dive(table: &Table, endings: &Endings, piece: Piece) -> Option<Partial>
-    requires endings { AreEndings table.now.edition table.now.trip endings.now }
-    ensures { IfSome result (BeginsIn table.now.edition table.now.trip piece) }
-{
-    let (mut front, _floor) = first_step(table, endings, piece)?;
-    for _part in 0..table.trip().count() {
-        let Some((longer, _floor)) = least_step(table, endings, &front) else {
-            return Some(front);
-        };
-        front = longer;
-    }
-    Some(front)
 }

@@ -11,7 +11,9 @@
 //! - `nearness`: which units may end where the trip does;
 //! - `endings`: what the rest of a trip costs at least, where its last part ends a unit;
 //! - `closing`: what first parts cost at least, with all that may follow and the way in which the trip must end;
-//! - `diving`: a greedy dive for a price to begin with;
+//! - `cramped`: whether first parts leave little room;
+//! - `diving`: the steps of a dive;
+//! - `descent`: a dive for a price to begin with;
 //! - `walking`: the walk over the constructions that begin with some parts;
 //! - `searching`: the search of a piece;
 //! - `quoter`: the quoter that searches all of them.
@@ -22,6 +24,8 @@
 mod bound;
 mod closing;
 mod costs;
+mod cramped;
+mod descent;
 mod diving;
 mod endings;
 mod floors;

@@ -36,7 +36,7 @@ fn lie_together(edition: &Edition, a: City, b: City) -> bool
 }
 
 /// Whether two cities are the same, or lie in one country.
-fn are_near(edition: &Edition, a: City, b: City) -> bool
+pub(crate) fn are_near(edition: &Edition, a: City, b: City) -> bool
     ensures { result ≡ are_near edition.now a b }
 {
     a.is(b) || lie_together(edition, a, b)

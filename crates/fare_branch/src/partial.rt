@@ -45,6 +45,15 @@ impl Partial {
         self.parts.parts()
     }
 
+    /// The same parts once more.
+    pub(crate) fn copy(&self) -> Partial
+        ensures { result ≡ self.now }
+    {
+        Partial {
+            parts: copied(self.parts()),
+        }
+    }
+
     /// Its parts as a construction.
     pub(crate) fn construction(&self) -> &Construction
         ensures { result.now ≡ self.now }

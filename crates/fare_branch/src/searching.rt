@@ -8,7 +8,7 @@ ghost use Rattle.fare_branch.specs.Dive.{IsDived};
 ghost use Rattle.fare_branch.specs.Walked.{IsWalk, IsUnderAll};
 
 use crate::bound::Bound;
-use crate::diving::dive;
+use crate::descent::dive;
 use crate::endings::{Endings, endings_of};
 use crate::partial::Partial;
 use crate::pieces::{Piece, choice, choices};

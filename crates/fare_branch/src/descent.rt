@@ -1,0 +1,89 @@
+//! A dive: from the cheapest of the choices of a piece on, the followers with the least floors first, until a lawful
+//! construction is found or some hundred lists of parts were seen. It is tried first, so that a price is known early.
+
+ghost use Rattle.std.specs.Prelude.{IfSome};
+ghost use Rattle.fare_branch.specs.Endings.{AreEndings};
+ghost use Rattle.fare_branch.specs.Floors.{IsMadeWith};
+ghost use Rattle.fare_branch.specs.Search.{BeginsIn};
+
+use crate::diving::{first_step, least_step};
+use crate::endings::Endings;
+use crate::partial::Partial;
+use crate::pieces::Piece;
+use fare_component::Table;
+use fare_units::lawful_price;
+
+/// How many lists of parts a dive goes on to.
+const MOST_LISTS: u32 = 300;
+
+/// With how many of those that follow some first parts a dive goes on.
+const MOST_FOLLOWERS: usize = 4;
+
+/// The most parts of a construction.
+const MOST_DEPTH: u32 = 16;
+
+/// A whole construction, where it is lawful.
+fn whole(table: &Table, piece: Piece, front: &Partial) -> Option<Partial>
+    requires begins { BeginsIn table.now.edition table.now.trip piece front.now }
+    ensures { IfSome result (BeginsIn table.now.edition table.now.trip piece) }
+{
+    match lawful_price(table.edition(), table.trip(), front.construction()) {
+        Err(_) => None,
+        Ok(_price) => Some(front.copy()),
+    }
+}
+
+/// The first lawful construction that a dive finds from some first parts on.
+#[cycle(descend)]
+fn descend(
+    table: &Table,
+    endings: &Endings,
+    piece: Piece,
+    front: &Partial,
+    depth: u32,
+    lists: &mut u32,
+) -> Option<Partial>
+    requires endings { AreEndings table.now.edition table.now.trip endings.now }
+    requires begins { BeginsIn table.now.edition table.now.trip piece front.now }
+    requires made { IsMadeWith table.now front.now }
+    ensures { IfSome result (BeginsIn table.now.edition table.now.trip piece) }
+{
+    if front.end() == table.trip().count() {
+        return whole(table, piece, front);
+    }
+    if depth == 0 {
+        return None;
+    }
+    let mut from = 0;
+    for _follower in 0..MOST_FOLLOWERS {
+        if *lists == 0 {
+            return None;
+        }
+        *lists -= 1;
+        let (longer, floor) = least_step(table, endings, front, from)?;
+        from = floor.saturating_add(1);
+        let found = descend(table, endings, piece, &longer, depth - 1, lists);
+        if found.is_some() {
+            return found;
+        }
+    }
+    None
+}
+
+/// What a dive comes to in a piece: a construction that begins with one of its choices; nothing where it finds none.
+pub(crate) fn dive(table: &Table, endings: &Endings, piece: Piece) -> Option<Partial>
+    requires endings { AreEndings table.now.edition table.now.trip endings.now }
+    ensures { IfSome result (BeginsIn table.now.edition table.now.trip piece) }
+{
+    let mut lists = MOST_LISTS;
+    let mut from = 0;
+    for _first in 0..MOST_FOLLOWERS {
+        let (first, floor) = first_step(table, endings, piece, from)?;
+        from = floor.saturating_add(1);
+        let found = descend(table, endings, piece, &first, MOST_DEPTH, &mut lists);
+        if found.is_some() {
+            return found;
+        }
+    }
+    None
+}
