@@ -14,7 +14,7 @@ use fare_component::Table;
 use fare_units::lawful_price;
 
 /// How many lists of parts a dive goes on to.
-const MOST_LISTS: u32 = 300;
+const MOST_LISTS: u32 = 200;
 
 /// With how many of those that follow some first parts a dive goes on.
 const MOST_FOLLOWERS: usize = 4;

@@ -19,6 +19,14 @@ use fare_rules::Part;
 /// Some first parts with their floor, where there are any.
 type Step = Option<(Partial, u64)>;
 
+/// Whether the floor of what was found is no more than another.
+fn is_no_dearer(found: &Step, floor: u64) -> bool {
+    match found {
+        None => false,
+        Some((_parts, least)) => *least <= floor,
+    }
+}
+
 /// The one with the lesser floor of what was found and some first parts that one more follows, where these can bring
 /// anything and their floor isn't below a number.
 #[tactic(auto, using(crate::proofs::DiveLemmas::goes_next))]
@@ -38,19 +46,13 @@ fn lesser_step(
     let Some(longer) = front.next(table, part) else {
         return found;
     };
-    if is_cramped(table, &longer) {
-        return found;
-    }
     let Some(floor) = closer_floor(table, endings, &longer) else {
         return found;
     };
-    if floor < from {
+    if floor < from || is_no_dearer(&found, floor) || is_cramped(table, &longer) {
         return found;
     }
-    match found {
-        Some((parts, least)) if least <= floor => Some((parts, least)),
-        _ => Some((longer, floor)),
-    }
+    Some((longer, floor))
 }
 
 /// Over the units of a part that ends at a point and has a fare.
@@ -162,11 +164,8 @@ fn lesser_start(
     let Some(floor) = closer_floor(table, endings, &first) else {
         return found;
     };
-    if floor < from {
+    if floor < from || is_no_dearer(&found, floor) {
         return found;
     }
-    match found {
-        Some((parts, least)) if least <= floor => Some((parts, least)),
-        _ => Some((first, floor)),
-    }
+    Some((first, floor))
 }
