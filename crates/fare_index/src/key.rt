@@ -2,9 +2,10 @@ ghost use Rattle.std.specs.Prelude.{◌≡◌};
 ghost use Rattle.fare_index.specs.Key.{same_via};
 
 use fare_codes::{City, Country, Indicator, RuleId};
+use std::hash::{Hash, Hasher};
 
 /// The key by which a filed record is found. Fares share one where their cities and their indicator are the same.
-#[derive(Clone, Copy, Debug, Hash)]
+#[derive(Clone, Copy, Debug)]
 pub enum Key {
     /// A city.
     City(City),
@@ -52,6 +53,43 @@ impl Eq for Key {
     ghost use Rattle.fare_index.specs.SameKeys.{same_key-IsEquivalence};
 
     ghost laws = { same_key-IsEquivalence };
+}
+
+/// Its codes alone are hashed, since each write costs as much as the comparison of a key: the few keys of one pair of
+/// cities that differ in their kind or their indicator share a hash.
+impl Hash for Key {
+    ghost use Rattle.fare_index.specs.Hashed.{written, written_alike};
+
+    ghost hash_input = { written };
+
+    ghost respects_eq = { written_alike };
+
+    fn hash<H: Hasher>(&self, state: &mut H) {
+        match self {
+            Key::City(city) => city.hash(state),
+            Key::Currency(country) => state.write(country.text().as_bytes()),
+            Key::Rule(id) => id.hash(state),
+            Key::Fares(from, to, _) => {
+                from.hash(state);
+                to.hash(state);
+            }
+            Key::Permitted(first, second, _) => {
+                second.hash(state);
+                first.hash(state);
+            }
+            Key::Ticketed(first, second) => {
+                second.hash(state);
+                first.hash(state);
+            }
+            Key::Extra(first, second, _, via) => {
+                second.hash(state);
+                first.hash(state);
+                if let Some(city) = via {
+                    city.hash(state);
+                }
+            }
+        }
+    }
 }
 
 /// Whether two via fields are the same, of which nothing is every way.
