@@ -20,8 +20,8 @@ use Rattle.fare_branch.specs.declared.endings.Endings.{Endings}
 abbrev pub are_near : Tariff → City → City → Bool
 are_near tariff a b = bytes_eq a b || lie_together tariff a b
 
--- a unit that begins at a point of a trip may end where the trip does: the point is the trip's last city, or lies in its
--- country
+-- a unit that begins at a point of a trip may end where the trip does: the point is the trip's last city, or lies in
+-- its country
 abbrev pub is_near_end : Tariff → Itinerary → ℕ → Bool
 is_near_end tariff trip i = are_near tariff (point trip (count trip)) (point trip i)
 
@@ -39,7 +39,8 @@ cost_to trip alone end entry =
 -- the least of what some entries cost so
 abbrev pub cheapest_to : Itinerary → Bool → ℕ → List Entry → Option ℕ
 cheapest_to trip alone end [] = None
-cheapest_to trip alone end (entry ∷ entries) = lesser (cost_to trip alone end entry) (cheapest_to trip alone end entries)
+cheapest_to trip alone end (entry ∷ entries) =
+    lesser (cost_to trip alone end entry) (cheapest_to trip alone end entries)
 
 -- an amount is there, and no more than some number
 abbrev pub IsUpTo : ℕ → Option ℕ → Type 0
