@@ -1,4 +1,5 @@
-ghost use Rattle.std.specs.Prelude.{IfErr};
+ghost use Rattle.std.specs.Prelude.{◌≤◌, IfErr, Some, None};
+ghost use Rattle.fare_words.specs.Limits.{most_best};
 ghost use Rattle.fares.specs.Request.{MayAsk};
 ghost use Rattle.fares.specs.Steps.{Answers, IsEndOfQuoting};
 ghost use Rattle.fares.specs.StoreOutcome.{AnswersTrip};
@@ -26,7 +27,31 @@ pub fn quote<R: Threads + Sync, Q: Quoter>(
     ensures ends { IfErr result IsEndOfQuoting }
 {
     match best {
-        None => Ok(quote_text(rt, alloc, book, quoter, trip)?),
-        Some(k) => Ok(best_text(alloc, book, trip, k)?),
+        None => quotation(rt, alloc, quoter, book, trip),
+        Some(k) => first(alloc, book, trip, k),
     }
+}
+
+/// The quotation of a trip over a book.
+fn quotation<R: Threads + Sync, Q: Quoter>(
+    rt: &R,
+    alloc: Global,
+    quoter: &Q,
+    book: &Book,
+    trip: &Trip,
+) -> Result<Vec<u8>, Exit>
+    ensures answer { Answers (AnswersTrip None trip.now book.now.editions) result }
+    ensures ends { IfErr result IsEndOfQuoting }
+{
+    Ok(quote_text(rt, alloc, book, quoter, trip)?)
+}
+
+/// The first constructions of a trip over a book.
+fn first(alloc: Global, book: &Book, trip: &Trip, k: u32) -> Result<Vec<u8>, Exit>
+    requires some { 1 ≤ k }
+    requires few { k ≤ most_best }
+    ensures answer { Answers (AnswersTrip (Some k) trip.now book.now.editions) result }
+    ensures ends { IfErr result IsEndOfQuoting }
+{
+    Ok(best_text(alloc, book, trip, k)?)
 }
