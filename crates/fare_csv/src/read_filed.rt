@@ -41,7 +41,11 @@ fn read_head_alone(alloc: Global, text: &[u8]) -> Result<Head, NotInPieces>
 
 /// HEAD and the records of a text, in pieces.
 #[tactic(auto, using(crate::proofs::PiecesRead::tariff_in_pieces))]
-fn read_at_once<R: Threads + Sync>(rt: &R, alloc: Global, text: &[u8]) -> Result<Filed, NotInPieces>
+pub(crate) fn read_at_once<R: Threads + Sync>(
+    rt: &R,
+    alloc: Global,
+    text: &[u8],
+) -> Result<Filed, NotInPieces>
     ensures reading { IfOk result (λ filed. tariff_of (rows_of text.now) ≡ Ok (filed_tariff filed)) }
     ensures range { IfOk result (λ filed. (0 < filed.number) × (filed.number ≤ LAST_EDITION)) }
 {
