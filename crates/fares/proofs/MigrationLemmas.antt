@@ -1,5 +1,5 @@
 -- What a migration answers and leaves, from the opening of its store on.
-use Rattle.std.proofs.Common.{◌≡◌, ◌≢◌, ◌∙◌, ℕ, inl, inr, List, [], ◌++◌, length, map, take, drop, Option, Some, None, Result, Ok, Err, Vec, IfErr, sym, refl}
+use Rattle.std.proofs.Common.{◌≡◌, ◌≢◌, ◌⊎◌, ◌∙◌, ℕ, inl, inr, List, [], ◌++◌, length, map, take, drop, Option, Some, None, Result, Ok, Err, Vec, IfErr, sym, refl}
 use Rattle.std.specs.Prelude.{count_by}
 use Rattle.std.proofs.Math.Seq.{take-length, drop-length}
 use Rattle.std.proofs.lemmas.List.{append-nil}
@@ -14,7 +14,7 @@ use Rattle.fares.specs.declared.exit.Exit.{Exit}
 use Rattle.fares.specs.declared.exit.Exit.TheVariants as ended
 use Rattle.fares.specs.Answer.{Answer, migrated_text, migration_answer, restore_end}
 use Rattle.fares.specs.Run.{PublishesNothing}
-use Rattle.fares.specs.Steps.{Answers, IsRefusal}
+use Rattle.fares.specs.Steps.{Answers, IsCutOff, IsRefusal}
 use Rattle.fares.specs.StoreOutcome.{AnswersMigrate, Bodies, MayMigrate, OverStore, RefusalLeaves, Told}
 use Rattle.fares.specs.StoreSteps.{AnswersMigration}
 
@@ -90,3 +90,9 @@ migrates before between after (Ok made) stay (old, new, migration, told, e) =
 migrates before between after (Err exit) stay (inl cut) = inl cut
 migrates before between after (Err exit) stay (inr (refusal, (old, new, migration, told, e))) =
     inr (refusal, over_store before between after old new migration (Err exit) stay told e refusal)
+
+-- a migration of an open store that was refused or cut off is answered so
+pub answers_fault : (before after : Told) (old new : BookState) (fault : RestoreFault) → ToldAfter before after (Migrates old new (Err fault)) → IsCutOff (restore_end fault) ⊎ (IsRefusal (restore_end fault) × AnswersMigration before after (Err (restore_end fault)))
+answers_fault before after old new Memory told = inl tt
+answers_fault before after old new KeeperFault told = inl tt
+answers_fault before after old new (Damaged place damage) told = inr (tt, (old, new, Err (Damaged place damage), told, refl))

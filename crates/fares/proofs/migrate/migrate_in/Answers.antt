@@ -1,4 +1,6 @@
-use Rattle.fares.proofs.MigrationLemmas.{may_migrate}
+use Rattle.std.proofs.Common.{◌≡◌, Err, rules}
+use Rattle.fares.specs.Answer.{restore_end}
+use Rattle.fares.proofs.MigrationLemmas.{answers_fault, may_migrate}
 use Rattle.fares.proofs.migrate.migrate_in.Goals as goal
 
 pub returns-clause-bodies : goal.returns-clause-bodies
@@ -6,3 +8,8 @@ returns-clause-bodies g c = may_migrate _ _ _ _ _ c.migrate.ensures.answer c.mig
 
 pub returns-in_err-numbered_line-clause-bodies : goal.returns-in_err-numbered_line-clause-bodies
 returns-in_err-numbered_line-clause-bodies g c = may_migrate _ _ _ _ _ c.migrate.ensures.answer c.migrate.ensures.editions
+
+pub returns-in_err-count-clause-answer : goal.returns-in_err-count-clause-answer
+returns-in_err-count-clause-answer g c =
+    let out : c.from_residual.result ≡ Err (restore_end c.in_err-count.field-0.0) = search rules in
+    rw out (answers_fault _ _ _ _ c.in_err-count.field-0.0 c.in_err-count.ensures.answer)
