@@ -47,6 +47,9 @@ fn stopped<R: Threads + Sync>(
         log: Fuse::new(old.log, log_calls),
         db: Fuse::new(old.db, db_calls),
     };
+    if !files.log.may_be_used() || !files.db.may_be_used() {
+        Err("a disk that doesn't stop may be used")?;
+    }
     match Connection::open_files(alloc, files, Options::new(2)) {
         Ok(conn) => Ok(migrated(rt, alloc, conn)),
         Err((_, left)) => Ok(Left {
@@ -82,6 +85,9 @@ fn migrate_all<R: Threads + Sync, P: Keeper>(
 
 /// How many bodies are left to a migration of the store that is opened again.
 fn left_over<R: Threads + Sync>(rt: &R, alloc: Global, files: Stopping) -> Result<u32, Fail> {
+    if !files.log.may_be_used() || !files.db.may_be_used() {
+        Err("a disk that doesn't stop may be used")?;
+    }
     match Connection::open_files(alloc, files, Options::new(3)) {
         Ok(conn) => finished(rt, alloc, &mut SqliteKeeper::over(conn)),
         Err(_) => Err("the store opens again")?,
