@@ -6,7 +6,7 @@ use fare_book::{Book, RestoreFault};
 use fare_outside::Keeper;
 use fare_sqlite::SqliteKeeper;
 use sqlite::{Connection, FileStore, Files, Options};
-use sqlite_disk::{Fuse, Memory};
+use sqlite_disk::{Disk, Fuse, Memory};
 use std::alloc::Global;
 use std::test::Fail;
 use std::thread::Threads;
