@@ -1,16 +1,15 @@
 //! What a JSON text asks to be audited.
 
-ghost use Rattle.std.specs.Prelude.{◌≡◌, ◌⊎◌, Err, IfOk, MatchOption, Result, option_map};
+ghost use Rattle.std.specs.Prelude.{◌≡◌, ◌⊎◌, Err, MatchOption, Result, option_map};
 ghost use Rattle.serde_json.specs.Find.{get, as_str};
 ghost use Rattle.serde_json.specs.View.{view};
-ghost use Rattle.fare_trip.specs.ItineraryText.{json_of};
 ghost use Rattle.fare_audit.specs.AuditText.{IsLineReading, ReadsLine, ReadsObject, ReadsUnlessWanting, ReadsValue};
 ghost use Rattle.fare_audit.specs.AuditText.{beside, line_string, trip_member};
 
 use crate::fault::AuditFault;
 use fare_line::{BadLine, Line, read_line};
 use fare_outside::NoMemory;
-use fare_trip::{Member, Trip, TripFault, trip_of};
+use fare_trip::{Member, Trip, TripFault, read_json, trip_of};
 use serde_json::Value;
 use std::alloc::Global;
 
@@ -25,22 +24,6 @@ pub fn read_audit(alloc: Global, bytes: &[u8]) -> Result<(Line, Trip), AuditFaul
         Err(NoMemory) => Err(AuditFault::Memory),
         Ok(None) => Err(AuditFault::Trip(TripFault::NotJson)),
         Ok(Some(value)) => value_in(alloc, &value),
-    }
-}
-
-/// The JSON value of a text, if it has one.
-fn read_json(alloc: Global, text: &[u8]) -> Result<Option<Value>, NoMemory>
-    ensures { IfOk result (λ found. option_map view found ≡ json_of text.now) }
-{
-    match Value::from_slice(alloc, text) {
-        Ok(value) => Ok(Some(value)),
-        Err(error) => {
-            if error.is_memory() {
-                Err(NoMemory)
-            } else {
-                Ok(None)
-            }
-        }
     }
 }
 

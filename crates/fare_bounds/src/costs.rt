@@ -8,7 +8,7 @@ use crate::limits::COST_LIMIT;
 use fare_component::{Amount, Entry};
 
 /// The lesser of two amounts, of which either may be missing.
-pub(crate) fn lesser(a: Option<u64>, b: Option<u64>) -> Option<u64>
+pub fn lesser(a: Option<u64>, b: Option<u64>) -> Option<u64>
     ensures { result ≡ lesser a b }
 {
     match (a, b) {

@@ -10,6 +10,6 @@ mod costs;
 mod limits;
 mod rest;
 
-pub use costs::least_cost;
+pub use costs::{least_cost, lesser};
 pub use limits::COST_LIMIT;
-pub use rest::Rest;
+pub use rest::{Rest, begin_after, sum_of};

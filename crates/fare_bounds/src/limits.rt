@@ -2,6 +2,3 @@
 
 /// What one entry costs at least is below this many hundredths: twice the greatest fare.
 pub const COST_LIMIT: u64 = 2_000_000_000;
-
-/// How many points a trip can have.
-pub(crate) const MOST_POINTS: usize = 17;

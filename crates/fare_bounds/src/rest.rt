@@ -5,9 +5,9 @@ ghost use Rattle.fare_bounds.specs.Covers.{AreRests, IsCover, IsLeast, rest_at};
 ghost use Rattle.fare_bounds.specs.Search.{AreInBounds, AreRestsFrom, sum_of};
 
 use crate::costs::{cheapest, lesser};
-use crate::limits::{COST_LIMIT, MOST_POINTS};
+use crate::limits::COST_LIMIT;
 use fare_component::{Table, entries_are_of_fares};
-use fare_rules::{MOST_SECTORS, PRICE_LIMIT};
+use fare_rules::{MOST_POINTS, MOST_SECTORS, PRICE_LIMIT};
 use fare_trip::Trip;
 use std::marker::Model;
 
@@ -19,7 +19,7 @@ pub struct Rest {
 
 impl Model for Rest {
     ghost use Rattle.std.specs.Prelude.{◌≡◌, List, ℕ, Option, length};
-    ghost use Rattle.fare_bounds.specs.declared.limits.TheConstants.{MOST_POINTS};
+    ghost use Rattle.fare_rules.specs.declared.limits.TheConstants.{MOST_POINTS};
     ghost use Rattle.fare_bounds.specs.Search.{AreInBounds};
 
     ghost Value = { List (Option ℕ) };
@@ -56,7 +56,7 @@ impl Rest {
 }
 
 /// Where the first leg behind a point begins: there, or one point later where a surface sector stands there.
-fn begin_after(trip: &Trip, i: usize) -> usize
+pub fn begin_after(trip: &Trip, i: usize) -> usize
     requires { i < count trip.now }
     ensures value { result ≡ begin_after trip.now i }
     ensures low { i ≤ result }
@@ -68,7 +68,7 @@ fn begin_after(trip: &Trip, i: usize) -> usize
 }
 
 /// The sum of two amounts, where there are both.
-fn sum_of(a: Option<u64>, b: Option<u64>) -> Option<u64>
+pub fn sum_of(a: Option<u64>, b: Option<u64>) -> Option<u64>
     requires first { IfSome a (λ cost. cost < COST_LIMIT) }
     requires second { IfSome b (λ rest. rest < PRICE_LIMIT) }
     ensures value { result ≡ sum_of a b }

@@ -1,15 +1,11 @@
--- The items of a batch, and the value of its text.
-use Rattle.std.proofs.Common.{◌≡◌, ℕ, ◌+◌, ◌<◌, ◌≤◌, ◌++◌, ◌∷◌, Bool, true, false, List, [], length, drop, get_or, Some, None, refl, sym, ◌∙◌, append_assoc, append-nil, add-one, drop-cons}
+-- The items of a batch.
+use Rattle.std.proofs.Common.{◌≡◌, ℕ, ◌+◌, ◌<◌, ◌≤◌, ◌++◌, ◌∷◌, List, [], length, drop, get_or, refl, ◌∙◌, append_assoc, append-nil, add-one, drop-cons}
 use Rattle.std.proofs.lemmas.List.{drop_all}
-use Rattle.std.specs.Str.{IsUtf8, is_utf8}
-use Rattle.std.proofs.lemmas.Str.{IsUtf8-from_is_utf8, is_utf8-from_IsUtf8}
-use Rattle.serde_json.specs.Data.{Data}
 use Rattle.serde_json.specs.Events.{items_len}
-use Rattle.serde_json.specs.Read.{read}
 use Rattle.serde_json.specs.View.{items_view, view}
 use Rattle.serde_json.specs.declared.value.Value.{Value}
 use Rattle.serde_json.proofs.Views.{items_len-items_view}
-use Rattle.fare_trip.specs.ItineraryText.{json_of, trip_of}
+use Rattle.fare_trip.specs.ItineraryText.{trip_of}
 use Rattle.fare_tariff.specs.Tariff.{Tariff}
 use Rattle.fare_http.specs.declared.reply.Reply.{Reply}
 use Rattle.fare_desk.specs.Viewing.{IsBatchText, IsQuoteReply, item_text}
@@ -17,20 +13,6 @@ use Rattle.fare_desk.specs.Viewing.{IsBatchText, IsQuoteReply, item_text}
 -- the items of an array are as many as its values
 pub counted : (values : List Value) → items_len (items_view values) ≡ length values
 counted values = items_len-items_view values
-
--- bytes that are UTF-8 have the value that is read
-pub json-read : (bytes : List ℕ) (value : Data) → IsUtf8 bytes → read bytes ≡ Some value → Some value ≡ json_of bytes
-unfolding json_of
-json-read bytes value text found = sym (rw (is_utf8-from_IsUtf8 bytes text) found)
-
-by-utf8 : (bytes : List ℕ) (test : Bool) → is_utf8 bytes ≡ test → (IsUtf8 bytes → read bytes ≡ None) → None ≡ json_of bytes
-unfolding json_of
-by-utf8 bytes true is none = sym (rw is (none (IsUtf8-from_is_utf8 bytes is)))
-by-utf8 bytes false is none = sym (rw is)
-
--- bytes that are no UTF-8, or have no value, are no JSON
-pub json-none : (bytes : List ℕ) → (IsUtf8 bytes → read bytes ≡ None) → None ≡ json_of bytes
-json-none bytes none = by-utf8 bytes (is_utf8 bytes) refl none
 
 -- whatever follows from the items behind a place follows, with the text so far in front, from all items
 abbrev pub Continues : List Tariff → List Value → ℕ → ℕ → List ℕ → Type 0

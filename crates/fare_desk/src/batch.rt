@@ -1,8 +1,8 @@
 //! The reply to a batch of itineraries.
 
-ghost use Rattle.std.specs.Prelude.{◌≡◌, ◌≤◌, ◌++◌, IfOk, OnOk, length, option_map};
+ghost use Rattle.std.specs.Prelude.{◌≡◌, ◌≤◌, ◌++◌, IfOk, OnOk, length};
 ghost use Rattle.serde_json.specs.View.{items_view, view};
-ghost use Rattle.fare_trip.specs.ItineraryText.{json_of, trip_of};
+ghost use Rattle.fare_trip.specs.ItineraryText.{trip_of};
 ghost use Rattle.fare_desk.specs.Viewing.{IsArrayReply, IsBatchReply, IsBatchText, IsItemsReply, IsQuoteReply};
 ghost use Rattle.fare_desk.specs.Viewing.{item_text};
 
@@ -12,7 +12,7 @@ use fare_book::Book;
 use fare_http::{Reply, Status};
 use fare_outside::NoMemory;
 use fare_text::{push_labelled, push_number};
-use fare_trip::{Member, TripFault, trip_of};
+use fare_trip::{Member, TripFault, read_json, trip_of};
 use fare_units::Quoter;
 use serde_json::Value;
 use std::alloc::Global;
@@ -34,22 +34,6 @@ pub(crate) fn batch_reply<R: Threads + Sync, Q: Quoter>(
     match read_json(alloc, text)? {
         Some(value) => array_reply(rt, alloc, book, quoter, &value),
         None => fault_reply(alloc, &TripFault::NotJson),
-    }
-}
-
-/// The JSON value of a text, if it has one.
-fn read_json(alloc: Global, text: &[u8]) -> Result<Option<Value>, NoMemory>
-    ensures { IfOk result (λ found. option_map view found ≡ json_of text.now) }
-{
-    match Value::from_slice(alloc, text) {
-        Ok(value) => Ok(Some(value)),
-        Err(error) => {
-            if error.is_memory() {
-                Err(NoMemory)
-            } else {
-                Ok(None)
-            }
-        }
     }
 }
 

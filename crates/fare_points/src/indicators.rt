@@ -6,11 +6,9 @@ ghost use Rattle.fare_points.specs.Stretch.{AreIndicatorsFrom};
 use crate::crossings::Crossings;
 use crate::stretch::Stretch;
 use fare_codes::Indicator;
+use fare_rules::MOST_POINTS;
 use fare_tariff::Edition;
 use fare_trip::Trip;
-
-/// How many points a trip can have.
-pub const MOST_POINTS: usize = 17;
 
 /// The global indicator of the sectors of a trip from point `a` to point `b`, by the oceans that they cross.
 pub fn indicator(edition: &Edition, trip: &Trip, a: usize, b: usize) -> Indicator

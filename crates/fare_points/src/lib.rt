@@ -21,6 +21,6 @@ mod stretch;
 pub use backhauls::{backhaul, minimum_above};
 pub use comparison::is_compared;
 pub use highers::higher;
-pub use indicators::{MOST_POINTS, indicator, indicator_of, indicators_from};
+pub use indicators::{indicator, indicator_of, indicators_from};
 pub use places::placed;
 pub use references::{every_carrier, reference};

@@ -24,7 +24,7 @@ pub use laws::{
     one_way_unit_costs_its_fare, order_is_total, parts_have_amounts, price_is_bounded,
     whole_year_holds_each_day,
 };
-pub use limits::{MOST_AMOUNT, MOST_SECTORS, MOST_SURCHARGE, PRICE_LIMIT};
+pub use limits::{MOST_AMOUNT, MOST_POINTS, MOST_SECTORS, MOST_SURCHARGE, PRICE_LIMIT};
 pub use miles::{Mileage, Miles};
 pub use part::Part;
 pub use unit_sheet::{UnitKind, UnitSheet};

@@ -11,3 +11,6 @@ pub const PRICE_LIMIT: u64 = 40_000_000_000;
 
 /// The most sectors of a trip.
 pub const MOST_SECTORS: usize = 16;
+
+/// How many points a trip can have.
+pub const MOST_POINTS: usize = 17;

@@ -46,13 +46,3 @@ read_trip_some bytes value answer found h = gives_same answer (trip_of_json (jso
 pub read_trip_none : (bytes : List ℕ) → json_of bytes ≡ None → Err fault.NotJson ≡ read_trip bytes
 unfolding read_trip
 read_trip_none bytes h = rw h
-
--- a refusal for want of memory fits any text, and another one a text without a value
-pub refused_gives : (bytes : List ℕ) (found : TripFault) (Memory : Type 0)
-    → ((found ≡ fault.Memory) × Memory) ⊎ ((found ≡ fault.NotJson) × ¬ Memory) → (¬ Memory → json_of bytes ≡ None)
-    → Gives fault.Memory (λ (trip : Itinerary). trip) (Err found) (read_trip bytes)
-refused_gives bytes found Memory told h =
-    elim told [
-      | inl wanting ↦ λ other. absurd (other wanting.0)
-      | inr refused ↦ rw refused.0 (λ other. sym (read_trip_none bytes (h refused.1)))
-    ]

@@ -1,10 +1,9 @@
 //! The text of an itinerary: a JSON object.
 
-ghost use Rattle.std.specs.Prelude.{◌≡◌, ◌≤◌, ◌⊎◌, length, false};
-ghost use Rattle.serde_json.specs.Errors.{IsMemory};
+ghost use Rattle.std.specs.Prelude.{◌≡◌, ◌≤◌, IfOk, false, length, option_map};
 ghost use Rattle.serde_json.specs.View.{view, items_view};
 ghost use Rattle.fare_trip.specs.ItineraryText.{sector_members, sector_of, placed_sector, sectors_of, counted_trip};
-ghost use Rattle.fare_trip.specs.ItineraryText.{placed_trip, trip_members, trip_of, read_trip};
+ghost use Rattle.fare_trip.specs.ItineraryText.{placed_trip, trip_members, trip_of, read_trip, json_of};
 ghost use Rattle.fare_outside.specs.Memory.{Gives};
 ghost use Rattle.fare_trip.specs.Steps.{seen};
 
@@ -15,7 +14,8 @@ use crate::sector::Sector;
 use crate::trip::{Trip, carried};
 use arrayvec::ArrayVec;
 use fare_codes::{City, Day};
-use serde_json::{Error, Value};
+use fare_outside::NoMemory;
+use serde_json::Value;
 use std::alloc::Global;
 
 /// The sector of an object's members.
@@ -131,26 +131,31 @@ pub fn trip_of(_alloc: Global, value: &Value) -> Result<Trip, TripFault>
     }
 }
 
-/// The trip that a JSON text stands for, or its first fault: NotJson exactly where the bytes are no UTF-8 or no JSON
-/// value. Want of memory may come for any text.
-#[tactic(auto, unfolding(crate::specs::ItineraryText::read_trip, crate::specs::ItineraryText::json_of))]
-pub fn read_trip(alloc: Global, bytes: &[u8]) -> Result<Trip, TripFault>
-    ensures { Gives TripFault.Memory (λ trip. trip) result (read_trip bytes.now) }
+/// The JSON value of a text; nothing exactly where the bytes are no UTF-8 or no JSON value. Want of memory may come for
+/// any text.
+pub fn read_json(alloc: Global, text: &[u8]) -> Result<Option<Value>, NoMemory>
+    ensures { IfOk result (λ found. option_map view found ≡ json_of text.now) }
 {
-    match Value::from_slice(alloc, bytes) {
-        Ok(value) => trip_of(alloc, &value),
-        Err(error) => Err(refusal(&error)),
+    match Value::from_slice(alloc, text) {
+        Ok(value) => Ok(Some(value)),
+        Err(error) => {
+            if error.is_memory() {
+                Err(NoMemory)
+            } else {
+                Ok(None)
+            }
+        }
     }
 }
 
-/// Why a text has no value: want of memory, or that it is no JSON.
-fn refusal(error: &Error) -> TripFault
-    ensures { ((result ≡ TripFault.Memory) × IsMemory error.now)
-        ⊎ ((result ≡ TripFault.NotJson) × ¬ IsMemory error.now) }
+/// The trip that a JSON text stands for, or its first fault: NotJson exactly where the bytes are no UTF-8 or no JSON
+/// value. Want of memory may come for any text.
+pub fn read_trip(alloc: Global, bytes: &[u8]) -> Result<Trip, TripFault>
+    ensures { Gives TripFault.Memory (λ trip. trip) result (read_trip bytes.now) }
 {
-    if error.is_memory() {
-        TripFault::Memory
-    } else {
-        TripFault::NotJson
+    match read_json(alloc, bytes) {
+        Err(NoMemory) => Err(TripFault::Memory),
+        Ok(None) => Err(TripFault::NotJson),
+        Ok(Some(value)) => trip_of(alloc, &value),
     }
 }

@@ -15,7 +15,7 @@ mod trip;
 mod written;
 
 pub use fault::{Member, TripFault};
-pub use itinerary_text::{read_trip, trip_of};
+pub use itinerary_text::{read_json, read_trip, trip_of};
 pub use sector::Sector;
 pub use short_line::read_short;
 pub use trip::Trip;

@@ -1,3 +1,5 @@
+//! A line of a word and a number.
+
 ghost use Rattle.std.specs.Prelude.{◌≡◌, ◌++◌, codes, decimal, IfOk};
 
 use fare_outside::NoMemory;

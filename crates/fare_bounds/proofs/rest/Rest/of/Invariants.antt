@@ -1,6 +1,6 @@
 -- the rests are known from this point on
 use Rattle.std.proofs.Common.{◌≡◌, length}
-use Rattle.fare_bounds.specs.declared.limits.TheConstants.{MOST_POINTS}
+use Rattle.fare_rules.specs.declared.limits.TheConstants.{MOST_POINTS}
 use Rattle.fare_bounds.specs.Search.{AreInBounds, AreRestsFrom}
 use Rattle.fare_bounds.proofs.rest.Rest.of.Given as goal
 
