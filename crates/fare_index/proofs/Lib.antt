@@ -1,2 +1,4 @@
+pub mod SharedSlots
 pub mod Passed
+pub mod Walked
 pub mod SamePairs

@@ -1,78 +1,132 @@
 -- A list of keys passed from the back: what is known of the part that has been passed.
-use Rattle.std.proofs.Common.{◌≡◌, ℕ, ◌+◌, ◌<◌, ◌≤◌, Bool, cond, List, [], ◌∷◌, length, get_or, set, drop, Option, Some, refl, ap, subst, sym, ◌∙◌, arith, zero, suc}
-use Rattle.std.specs.Cmp.{IsEquivalence}
+use Rattle.std.proofs.Common.{◌≡◌, ◌⊎◌, ℕ, ◌+◌, ◌<◌, ◌≤◌, Bool, true, false, cond, List, [], ◌∷◌, length, get_or, set, drop, replicate, Option, Some, None, inl, inr, refl, ap, subst, sym, ◌∙◌, arith, zero, suc, ⊎_elim, get_or-set_other, get_or-set_same}
 use Rattle.std.specs.List.{position_from}
-use Rattle.std.specs.HashMap.{HashMap, get, IsEmpty}
-use Rattle.std.specs.Map.{lookup}
-use Rattle.std.proofs.lemmas.List.{at_drop_more, at_drop_all, drop-set, length-set}
+use Rattle.std.proofs.lemmas.Bool.{cases_eq, cases_lt, eqb-true, eq-eqb}
+use Rattle.std.proofs.lemmas.List.{at_drop_more, at_drop_all, drop-set, length-set, get_or_default}
+use Rattle.fare_index.specs.declared.key.Key.{Key}
 use Rattle.fare_index.specs.declared.places.Places.{Places}
-use Rattle.fare_index.specs.Places.{ArePlaces, next_places}
+use Rattle.fare_index.specs.Slots.{slot_of, has_slot, share_slot}
+use Rattle.fare_index.specs.Places.{AreChained, AreHeads, ArePlaces, LeadsOn, next_places}
+use Rattle.fare_index.proofs.SharedSlots.{shares_own, share_alike}
 
--- the first places, and the next places, of the keys from a place on
-pub record IsPassed {K S : Type 0} (eq : K → K → Bool) (keys : List K) (place : ℕ) (first : HashMap K ℕ S) (next : List (Option ℕ)) : Type 0 where
-  pub same_length : length next ≡ length keys
-  pub first_places : (key : K) → get eq first key ≡ position_from (eq key) place (drop place keys)
-  pub next_are : drop place next ≡ next_places eq place (drop place keys)
+-- the first places of the slots, the next places of the keys from a place on, and those that are the first of theirs
+pub record IsPassed (slots : ℕ) (keys : List Key) (place : ℕ) (heads links : List (Option ℕ)) (leads : List Bool) : Type 0 where
+  pub many_heads : length heads ≡ slots
+  pub are_heads : AreHeads slots place (drop place keys) heads
+  pub many_links : length links ≡ length keys
+  pub are_links : drop place links ≡ next_places slots place (drop place keys)
+  pub many_leads : length leads ≡ length keys
+  pub lead : (q : ℕ) (d : Key) → place ≤ q → q < length keys → get_or leads q false ≡ true → position_from (share_slot slots (get_or keys q d)) place (drop place keys) ≡ Some q
 
-module _ {K S : Type 0} (eq : K → K → Bool) where
-  -- before the pass
-  pub passed_none : (keys : List K) (first : HashMap K ℕ S) (next : List (Option ℕ)) → IsEmpty first → length next ≡ length keys → IsPassed eq keys (length keys) first next
-  passed_none keys first next empty same = record {
-    same_length = same;
-    first_places = λ q. ap (lookup (eq q)) empty ∙ sym (at_drop_all (position_from (eq q) (length keys)) keys (length keys) (omega arith));
-    next_are = at_drop_all (λ l. l) next (length keys) (omega (arith, same)) ∙ sym (at_drop_all (next_places eq (length keys)) keys (length keys) (omega arith));
-  }
+-- a place from another on is that one or one behind it
+here_or_further : (place q : ℕ) → place ≤ q → (q ≡ place) ⊎ (place + 1 ≤ q)
+here_or_further place q low = ⊎_elim (λ lt. inl (omega (arith, lt, low))) (λ ge. inr ge) (cases_lt q (place + 1))
 
-  -- one key more, before those that have been passed
-  pub passed_more : IsEquivalence eq → (keys : List K) (till place : ℕ) (key : K) (first new : HashMap K ℕ S) (next : List (Option ℕ)) (old : Option ℕ) → till ≡ place + 1 → place < length keys → key ≡ get_or keys place key → old ≡ get eq first key → ((q : K) → get eq new q ≡ cond (eq key q) (Some place) (get eq first q)) → IsPassed eq keys till first next → IsPassed eq keys place new (set next place old)
-  passed_more laws keys till place key first new next old one within at was updated till_there =
-      let passed = subst (λ n. IsPassed eq keys n first next) one till_there in
-      let split : drop place keys ≡ key ∷ drop (place + 1) keys = at_drop_more (λ l. l) keys place key within ∙ ap (λ k. k ∷ drop (place + 1) keys) (sym at) in
-      let in_next : place < length next = omega (arith, within, passed.same_length) in
-      record {
-        same_length = length-set next place old ∙ passed.same_length;
-        first_places = λ q.
-            updated q
-            ∙ ap (cond (eq key q) (Some place)) (passed.first_places q)
-            ∙ ap (λ t. cond t (Some place) (position_from (eq q) (place + 1) (drop (place + 1) keys))) (laws.symm key q)
-            ∙ ap (position_from (eq q) place) (sym split);
-        next_are = drop-set next place old in_next
-            ∙ ap (λ l. old ∷ l) passed.next_are
-            ∙ ap (λ o. o ∷ next_places eq (place + 1) (drop (place + 1) keys)) (was ∙ passed.first_places key)
-            ∙ ap (next_places eq place) (sym split);
-      }
+-- the first of its slot after a key, where it isn't the later one of that key's slot, is its first with it too
+leads_on : (slots place q : ℕ) (key other : Key) (rest : List Key) (later : Option ℕ) → later ≡ position_from (share_slot slots key) (place + 1) rest → (later ≡ Some q → ⊥) → position_from (share_slot slots other) (place + 1) rest ≡ Some q → position_from (share_slot slots other) place (key ∷ rest) ≡ Some q
+leads_on slots place q key other rest later is another first = go (share_slot slots other key) refl
+  where
+    go : (t : Bool) → share_slot slots other key ≡ t → cond t (Some place) (position_from (share_slot slots other) (place + 1) rest) ≡ Some q
+    go true same =
+        absurd (another (is ∙ ap (λ test. position_from test (place + 1) rest) (share_alike slots other key same) ∙ first))
+    go false differs = first
+
+-- nothing is at a slot of none
+none_at : (n slot : ℕ) (o : Option ℕ) → get_or (replicate n o) slot o ≡ o
+none_at zero slot o = refl
+none_at (suc n) zero o = refl
+none_at (suc n) (suc slot) o = none_at n slot o
+
+-- a test that isn't true
+not_true : (t : Bool) → (t ≡ true → ⊥) → t ≡ false
+not_true true never = absurd (never refl)
+not_true false never = refl
+
+-- before the pass
+pub passed_none : (slots : ℕ) (keys : List Key) (heads links : List (Option ℕ)) (leads : List Bool) → heads ≡ replicate slots None → length heads ≡ slots → length links ≡ length keys → length leads ≡ length keys → IsPassed slots keys (length keys) heads links leads
+passed_none slots keys heads links leads empty many_heads many_links many_leads = record {
+  many_heads = many_heads;
+  are_heads = λ slot h. ap (λ l. get_or l slot None) empty ∙ none_at slots slot None ∙ sym (at_drop_all (position_from (has_slot slots slot) (length keys)) keys (length keys) (omega arith));
+  many_links = many_links;
+  are_links = at_drop_all (λ l. l) links (length keys) (omega (arith, many_links)) ∙ sym (at_drop_all (next_places slots (length keys)) keys (length keys) (omega arith));
+  many_leads = many_leads;
+  lead = λ q d low high led. absurd (omega (arith, low, high));
+}
+
+-- one key more, before those that have been passed
+pub passed_more : (slots : ℕ) (keys : List Key) (till place slot : ℕ) (key : Key) (heads links : List (Option ℕ)) (leads still : List Bool) (later : Option ℕ) → till ≡ place + 1 → place < length keys → key ≡ get_or keys place key → slot ≡ slot_of slots key → slot < slots → later ≡ get_or heads slot later → length still ≡ length leads → ((q : ℕ) → get_or still q false ≡ true → LeadsOn leads later q) → IsPassed slots keys till heads links leads → IsPassed slots keys place (set heads slot (Some place)) (set links place later) still
+passed_more slots keys till place slot key heads links leads still later one within at slot_is slot_within was as_many leading till_there =
+    let passed = subst (λ n. IsPassed slots keys n heads links leads) one till_there in
+    let rest = drop (place + 1) keys in
+    let split : drop place keys ≡ key ∷ drop (place + 1) keys = at_drop_more (λ l. l) keys place key within ∙ ap (λ k. k ∷ drop (place + 1) keys) (sym at) in
+    let in_heads : slot < length heads = omega (arith, slot_within, passed.many_heads) in
+    let in_links : place < length links = omega (arith, within, passed.many_links) in
+    let later_is : later ≡ position_from (share_slot slots key) (place + 1) (drop (place + 1) keys) =
+    was ∙ get_or_default heads slot later None in_heads ∙ passed.are_heads slot slot_within ∙ ap (λ s. position_from (has_slot slots s) (place + 1) (drop (place + 1) keys)) slot_is in
+    record {
+      many_heads = length-set heads slot (Some place) ∙ passed.many_heads;
+      are_heads = λ s h. more_heads s h (passed.are_heads s h) slot_is in_heads ∙ ap (position_from (has_slot slots s) place) (sym split);
+      many_links = length-set links place later ∙ passed.many_links;
+      are_links = drop-set links place later in_links
+          ∙ ap (λ l. later ∷ l) passed.are_links
+          ∙ ap (λ o. o ∷ next_places slots (place + 1) (drop (place + 1) keys)) later_is
+          ∙ ap (next_places slots place) (sym split);
+      many_leads = as_many ∙ passed.many_leads;
+      lead = λ q d low high led.
+          ap (position_from (share_slot slots (get_or keys q d)) place) split
+          ∙ ⊎_elim
+          (λ (here : q ≡ place).
+          let own : get_or keys q d ≡ key = ap (λ i. get_or keys i d) here ∙ get_or_default keys place d key within ∙ sym at in
+          ap (λ k. cond (share_slot slots k key) (Some place) (position_from (share_slot slots k) (place + 1) (drop (place + 1) keys))) own
+          ∙ ap (λ t. cond t (Some place) (position_from (share_slot slots key) (place + 1) (drop (place + 1) keys))) (shares_own slots key)
+          ∙ ap Some (sym here))
+          (λ (further : place + 1 ≤ q).
+          let on = leading q led in
+          leads_on slots place q key (get_or keys q d) (drop (place + 1) keys) later later_is on.is_another (passed.lead q d further high on.led))
+          (here_or_further place q low);
+    }
+  where
+    more_heads : (s : ℕ) → s < slots → get_or heads s None ≡ position_from (has_slot slots s) (place + 1) (drop (place + 1) keys) → slot ≡ slot_of slots key → slot < length heads → get_or (set heads slot (Some place)) s None ≡ position_from (has_slot slots s) place (key ∷ drop (place + 1) keys)
+    more_heads s h there own in_heads = ⊎_elim
+        (λ (same : s ≡ slot).
+        ap (λ i. get_or (set heads slot (Some place)) i None) same
+        ∙ get_or-set_same heads slot (Some place) None in_heads
+        ∙ ap (λ t. cond t (Some place) (position_from (has_slot slots s) (place + 1) (drop (place + 1) keys))) (sym (eq-eqb (slot_of slots key) s (sym own ∙ sym same))))
+        (λ (differs : s ≡ slot → ⊥).
+        get_or-set_other heads slot s (Some place) None differs
+        ∙ there
+        ∙ ap (λ t. cond t (Some place) (position_from (has_slot slots s) (place + 1) (drop (place + 1) keys))) (sym (not_true (has_slot slots s key) (λ e. differs (sym (eqb-true (slot_of slots key) s e) ∙ sym own)))))
+        (cases_eq s slot)
 
 -- after the pass
-pub passed_all : {K : Type 0} (eq : K → K → Bool) (keys : List K) (place : ℕ) (places : Places K) → place ≤ 0 → IsPassed eq keys place places.first places.next.items → ArePlaces eq keys places
-passed_all eq keys place places none till_there =
+pub passed_all : (slots : ℕ) (keys : List Key) (place : ℕ) (places : Places) → place ≤ 0 → 0 < slots → IsPassed slots keys place places.heads.items places.links.items places.leads.items → ArePlaces keys places
+passed_all slots keys place places none some till_there =
     let start : place ≡ 0 = omega arith in
-    let passed = subst (λ n. IsPassed eq keys n places.first places.next.items) start till_there in
-    record { first = passed.first_places; next = passed.next_are }
+    let passed = subst (λ n. IsPassed slots keys n places.heads.items places.links.items places.leads.items) start till_there in
+    subst (λ n. AreChained n keys places) (sym passed.many_heads) (record {
+      some_slot = some;
+      many_heads = passed.many_heads;
+      heads = passed.are_heads;
+      many_links = passed.many_links;
+      links = passed.are_links;
+      many_leads = passed.many_leads;
+      lead = λ q d high led. passed.lead q d (omega arith) high led;
+    })
 
-module _ {K : Type 0} (eq : K → K → Bool) where
-  -- each key has a next place, or none
-  pub length-next_places : (from : ℕ) (keys : List K) → length (next_places eq from keys) ≡ length keys
-  length-next_places from [] = refl
-  length-next_places from (x ∷ xs) = ap suc (length-next_places (from + 1) xs)
+-- the next place of the slot of the key at a place is sought from the place after it
+next_at : (slots : ℕ) (keys : List Key) (from place : ℕ) (d : Key) (o : Option ℕ) → place < length keys → get_or (next_places slots from keys) place o ≡ position_from (share_slot slots (get_or keys place d)) (from + (place + 1)) (drop (place + 1) keys)
+next_at slots [] from place d o h = absurd (omega arith)
+next_at slots (x ∷ xs) from zero d o h = refl
+next_at slots (x ∷ xs) from (suc k) d o h =
+    let shifted : (from + 1) + (k + 1) ≡ from + (suc k + 1) = omega arith in
+    let further : suc k + 1 ≡ suc (k + 1) = omega arith in
+    next_at slots xs (from + 1) k d o (omega arith)
+    ∙ ap (λ n. position_from (share_slot slots (get_or xs k d)) n (drop (k + 1) xs)) shifted
+    ∙ ap (λ n. position_from (share_slot slots (get_or xs k d)) (from + (suc k + 1)) (drop n (x ∷ xs))) (sym further)
 
-  -- the next place of the key at a place is sought from the place after it
-  pub next_at : (keys : List K) (from place : ℕ) (d : K) (o : Option ℕ) → place < length keys → get_or (next_places eq from keys) place o ≡ position_from (eq (get_or keys place d)) (from + (place + 1)) (drop (place + 1) keys)
-  next_at [] from place d o h = absurd (omega arith)
-  next_at (x ∷ xs) from zero d o h = refl
-  next_at (x ∷ xs) from (suc k) d o h =
-      let shifted : (from + 1) + (k + 1) ≡ from + (suc k + 1) = omega arith in
-      let further : suc k + 1 ≡ suc (k + 1) = omega arith in
-      next_at xs (from + 1) k d o (omega arith)
-      ∙ ap (λ n. position_from (eq (get_or xs k d)) n (drop (k + 1) xs)) shifted
-      ∙ ap (λ n. position_from (eq (get_or xs k d)) (from + (suc k + 1)) (drop n (x ∷ xs))) (sym further)
-
-  -- the same of a list that is seen as another
-  pub next_seen : (keys now : List K) (next : List (Option ℕ)) (place : ℕ) (d : K) (o : Option ℕ) → keys ≡ now → next ≡ next_places eq 0 keys → place < length now → get_or next place o ≡ position_from (eq (get_or now place d)) (place + 1) (drop (place + 1) now)
-  next_seen keys now next place d o seen are within =
-      let start : 0 + (place + 1) ≡ place + 1 = omega arith in
-      ap (λ l. get_or l place o) (are ∙ ap (next_places eq 0) seen)
-      ∙ next_at now 0 place d o within
-      ∙ ap (λ n. position_from (eq (get_or now place d)) n (drop (place + 1) now)) start
-
-  pub length_seen : (keys now : List K) (next : List (Option ℕ)) → keys ≡ now → next ≡ next_places eq 0 keys → length next ≡ length now
-  length_seen keys now next seen are = ap length (are ∙ ap (next_places eq 0) seen) ∙ length-next_places 0 now
+pub linked_at : (slots : ℕ) (keys : List Key) (links : List (Option ℕ)) (place : ℕ) (d : Key) (o : Option ℕ) → links ≡ next_places slots 0 keys → place < length keys → get_or links place o ≡ position_from (share_slot slots (get_or keys place d)) (place + 1) (drop (place + 1) keys)
+linked_at slots keys links place d o are within =
+    let start : 0 + (place + 1) ≡ place + 1 = omega arith in
+    ap (λ l. get_or l place o) are
+    ∙ next_at slots keys 0 place d o within
+    ∙ ap (λ n. position_from (share_slot slots (get_or keys place d)) n (drop (place + 1) keys)) start

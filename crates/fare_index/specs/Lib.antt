@@ -1,5 +1,6 @@
 pub mod Key
 pub mod SameKeys
 pub mod Pairs
-pub mod Places
 pub mod Hashed
+pub mod Slots
+pub mod Places

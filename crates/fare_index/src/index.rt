@@ -4,7 +4,8 @@ ghost use Rattle.fare_index.specs.declared.key.Key.{Key};
 ghost use Rattle.fare_index.specs.Key.{same_key};
 
 use crate::key::Key;
-use crate::places::{Places, places_of};
+use crate::places::{Places, places_of, seek};
+use crate::slots::slot_of;
 use fare_outside::NoMemory;
 use std::alloc::Global;
 use std::marker::Model;
@@ -13,20 +14,19 @@ use std::marker::Model;
 #[derive(Drop)]
 pub struct Index {
     keys: Vec<Key>,
-    places: Places<Key>,
+    places: Places,
 }
 
 impl Model for Index {
     ghost use Rattle.std.specs.Prelude.{List};
     ghost use Rattle.fare_index.specs.declared.key.Key.{Key};
-    ghost use Rattle.fare_index.specs.Key.{same_key};
     ghost use Rattle.fare_index.specs.Places.{ArePlaces};
 
     ghost Value = { List Key };
 
     ghost view = { λ i. i.keys.items };
 
-    ghost invariant = { λ i. ArePlaces same_key i.keys.items i.places };
+    ghost invariant = { λ i. ArePlaces i.keys.items i.places };
 }
 
 impl Index {
@@ -42,7 +42,25 @@ impl Index {
     pub fn first(&self, key: &Key) -> Option<usize>
         ensures { result ≡ position_from (same_key key.now) 0 self.now }
     {
-        index_of(self.places.first.get(key).copied())
+        let slot = slot_of(key, self.places.heads.len());
+        seek(
+            self.keys.as_slice(),
+            &self.places,
+            key,
+            0,
+            self.places.heads[slot],
+        )
+    }
+
+    /// The first place of the key at a place, found at once where that is the place.
+    pub fn first_at(&self, place: usize) -> Option<usize>
+        requires { place < length self.now }
+        ensures { (d : Key) → result ≡ position_from (same_key (slice_index_or self.now place d)) 0 self.now }
+    {
+        if self.places.leads[place] {
+            return Some(place);
+        }
+        self.first(&self.keys[place])
     }
 
     /// The next place of the key at a place; nothing where the key doesn't come again.
@@ -51,16 +69,12 @@ impl Index {
         ensures { (d : Key) → result
             ≡ position_from (same_key (slice_index_or self.now place d)) (place + 1) (drop (place + 1) self.now) }
     {
-        index_of(self.places.next[place])
-    }
-}
-
-/// A place of 32 bits as an index of a list.
-fn index_of(place: Option<u32>) -> Option<usize>
-    ensures { result ≡ place }
-{
-    match place {
-        Some(at) => Some(at as usize),
-        None => None,
+        seek(
+            self.keys.as_slice(),
+            &self.places,
+            &self.keys[place],
+            place + 1,
+            self.places.links[place],
+        )
     }
 }

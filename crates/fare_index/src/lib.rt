@@ -3,7 +3,8 @@
 //!
 //! - `key`: the key of a filed record, in which a pair of cities is unordered where the record's is;
 //! - `pairs`: the keys of unordered pairs;
-//! - `places`: one pass over a list of keys, from its back;
+//! - `slots`: the slot of a key, by its hash;
+//! - `places`: the places of the keys of a slot, linked in one pass over a list of keys from its back;
 //! - `index`: the index of a list of keys.
 #![tactic(auto)]
 
@@ -11,6 +12,7 @@ mod index;
 mod key;
 mod pairs;
 mod places;
+mod slots;
 
 pub use index::Index;
 pub use key::Key;

@@ -1,35 +1,85 @@
-//! The first place of each key of a list, and after each place the next of its key: one pass from the back.
+//! The places of the keys of a list: the first place of each slot, and after each place the next one of its slot. They
+//! are made in one pass from the back in which no two keys are compared; only a look-up compares keys.
 
-ghost use Rattle.std.specs.Prelude.{IfOk};
-ghost use Rattle.fare_index.specs.Places.{ArePlaces};
+ghost use Rattle.std.specs.Prelude.{ℕ, ◌≡◌, ◌≤◌, true, false, IfOk, length, drop, slice_index_or};
+ghost use Rattle.std.specs.List.{position_from};
+ghost use Rattle.fare_index.specs.Key.{same_key};
+ghost use Rattle.fare_index.specs.Slots.{share_slot};
+ghost use Rattle.fare_index.specs.Places.{ArePlaces, LeadsOn};
 
+use crate::key::Key;
+use crate::slots::slot_of;
 use fare_outside::NoMemory;
 use std::alloc::Global;
-use std::collections::HashMap;
-use std::hash::Hash;
 
-/// The first place of each key, and for each place the next of its key.
+/// The first place of each slot, and for each place the next of its slot and whether it is the first one.
 #[derive(Drop)]
-pub(crate) struct Places<K: Eq + Hash> {
-    pub(crate) first: HashMap<K, u32>,
-    pub(crate) next: Vec<Option<u32>>,
+pub(crate) struct Places {
+    pub(crate) heads: Vec<Option<u32>>,
+    pub(crate) links: Vec<Option<u32>>,
+    pub(crate) leads: Vec<bool>,
+}
+
+/// Notes that a place isn't the first of its slot.
+fn follow(leads: &mut Vec<bool>, later: Option<u32>)
+    ensures same_length { length leads.new.items ≡ length leads.old.items }
+    ensures leads { (k : ℕ) → slice_index_or leads.new.items k false ≡ true → LeadsOn leads.old.items later k }
+{
+    match later {
+        None => {}
+        Some(place) => {
+            if (place as usize) < leads.len() {
+                leads[place as usize] = false;
+            }
+        }
+    }
 }
 
 /// The places of a list of keys. A list whose places don't fit 32 bits is answered as want of memory.
-pub(crate) fn places_of<K: Eq + Hash + Copy>(
-    alloc: Global,
-    keys: &[K],
-) -> Result<Places<K>, NoMemory>
-    ensures { IfOk result (ArePlaces K.eq keys.now) }
+pub(crate) fn places_of(alloc: Global, keys: &[Key]) -> Result<Places, NoMemory>
+    ensures { IfOk result (ArePlaces keys.now) }
 {
     if keys.len() > u32::MAX as usize {
         return Err(NoMemory);
     }
-    // About half of the keys of an edition are told apart.
-    let mut first = HashMap::with_capacity(alloc, keys.len() / 2)?;
-    let mut next = vec![in alloc; None; keys.len()]?;
+    let slots = keys.len().max(1).next_power_of_two();
+    let mut heads = vec![in alloc; None; slots]?;
+    let mut links = vec![in alloc; None; keys.len()]?;
+    let mut leads = vec![in alloc; true; keys.len()]?;
     for place in (0..keys.len()).rev() {
-        next[place] = first.insert(keys[place], place as u32)?;
+        let slot = slot_of(&keys[place], slots);
+        let later = heads[slot];
+        follow(&mut leads, later);
+        links[place] = later;
+        heads[slot] = Some(place as u32);
     }
-    Ok(Places { first, next })
+    Ok(Places {
+        heads,
+        links,
+        leads,
+    })
+}
+
+/// The first place of a key from a place on, by the first place of its slot from there on.
+pub(crate) fn seek(
+    keys: &[Key],
+    places: &Places,
+    key: &Key,
+    from: usize,
+    first: Option<u32>,
+) -> Option<usize>
+    requires places { ArePlaces keys.now places.now }
+    requires within { from ≤ length keys.now }
+    requires first { first
+        ≡ position_from (share_slot (length places.now.heads.items) key.now) from (drop from keys.now) }
+    ensures { result ≡ position_from (same_key key.now) from (drop from keys.now) }
+{
+    let mut at = first;
+    while let Some(place) = at {
+        if *key == keys[place as usize] {
+            return Some(place as usize);
+        }
+        at = places.links[place as usize];
+    }
+    None
 }

@@ -23,6 +23,13 @@ pub first_seen : (records now : List Record) (index : List Key) (key : Key) → 
 first_seen records now index key seen keys =
     ap (position_from (same_key key) 0) (keys ∙ ap (map own_key) seen) ∙ position_from-keys (same_key key) 0 now
 
+-- the first place of the key at a place
+pub first_at_seen : (records now : List Record) (index : List Key) (place : ℕ) (d : Record) → records ≡ now → index ≡ map own_key records → position_from (same_key (get_or index place (own_key d))) 0 index ≡ position_from (has_own_key (own_key (get_or now place d))) 0 now
+first_at_seen records now index place d seen keys =
+    ap (λ l. position_from (same_key (get_or l place (own_key d))) 0 l) (keys ∙ ap (map own_key) seen)
+    ∙ ap (λ k. position_from (same_key k) 0 (map own_key now)) (get_or-keys now place d)
+    ∙ position_from-keys (same_key (own_key (get_or now place d))) 0 now
+
 -- and the next place
 pub next_seen : (records now : List Record) (index : List Key) (place : ℕ) (d : Record) → records ≡ now → index ≡ map own_key records → position_from (same_key (get_or index place (own_key d))) (place + 1) (drop (place + 1) index) ≡ position_from (has_own_key (own_key (get_or now place d))) (place + 1) (drop (place + 1) now)
 next_seen records now index place d seen keys =

@@ -116,11 +116,6 @@ pub kind_tells : (all : List Record) (place : ℕ) (one : Record) → place < le
 kind_tells all place one within limit read =
     kind_at all place one within read ∙ in_order all (take place all) one (in_limit place all (omega (arith, within)) limit)
 
--- a record that is no fare clashes where an earlier one has its key
-pub clash_other : (earlier : List Record) (one : Record) (found : Option ℕ) (some : Bool) → ((fare : FareRecord) → one ≡ filed.Fare fare → ⊥) → found ≡ first_number (has_key_of one) earlier → some ≡ is_some found → some ≡ clash_of earlier one
-clash_other earlier (filed.Fare r) found some isnt at tells = absurd (isnt r refl)
-clash_other earlier one found some isnt at tells = tells ∙ ap is_some at
-
 -- a fare clashes by its own key and season
 pub clash_fare : (earlier : List Record) (one : Record) (r : FareRecord) (key : FareKey) (season : Season) (clash : Bool) → one ≡ filed.Fare r → key ≡ key_of r → season ≡ r.season → clash ≡ clashes earlier key season → clash ≡ clash_of earlier one
 clash_fare earlier one r key season clash is key_is season_is at =

@@ -14,3 +14,4 @@ pub mod Found
 pub mod FoundFares
 pub mod OneFare
 pub mod FoundOptions
+pub mod Zipped

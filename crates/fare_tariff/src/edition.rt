@@ -46,7 +46,7 @@ impl Edition {
         requires in_range { number ≤ LAST_EDITION }
         ensures { Gives CheckFault.Memory (λ edition. edition) result (check_edition number effective records.items) }
     {
-        let Ok(filed) = Filed::of(alloc, records) else {
+        let Ok(filed) = Filed::of(rt, alloc, records) else {
             return Err(CheckFault::Memory);
         };
         let _records = filed.records();

@@ -1,7 +1,7 @@
 //! Records with the places of their keys.
 
 ghost use Rattle.std.specs.Prelude.{◌≡◌, ◌+◌, ◌<◌, true, find, map, IfOk, IfSome, OnOk, length, drop, slice_index_or};
-ghost use Rattle.std.specs.List.{list_all, position_from};
+ghost use Rattle.std.specs.List.{AllZip, list_all, position_from};
 ghost use Rattle.std.specs.Option.{option_copied};
 ghost use Rattle.fare_tariff.specs.declared.records.record.Record.{Record};
 ghost use Rattle.fare_tariff.specs.Check.{has_amount_in_range};
@@ -13,8 +13,10 @@ use crate::towns::Towns;
 use fare_codes::City;
 use fare_index::{Index, Key};
 use fare_outside::NoMemory;
-use std::alloc::Global;
-use std::marker::Model;
+use rayon::prelude::*;
+use std::alloc::{AllocError, Global};
+use std::marker::{Model, Sync};
+use std::thread::Threads;
 
 /// A list of records in which each is found by its key. It is seen as the list.
 #[derive(Drop)]
@@ -38,10 +40,14 @@ impl Model for Filed {
 
 impl Filed {
     /// The records with the places of their keys.
-    pub(crate) fn of(alloc: Global, records: Vec<Record>) -> Result<Filed, NoMemory>
+    pub(crate) fn of<R: Threads + Sync>(
+        rt: &R,
+        alloc: Global,
+        records: Vec<Record>,
+    ) -> Result<Filed, NoMemory>
         ensures { IfOk result (λ filed. filed ≡ records.items) }
     {
-        let keys = own_keys(alloc, records.as_slice())?;
+        let keys = own_keys(rt, alloc, records.as_slice())?;
         let towns = Towns::of(alloc, keys.as_slice())?;
         let index = Index::of(alloc, keys)?;
         Ok(Filed {
@@ -71,6 +77,15 @@ impl Filed {
         ensures { result ≡ position_from (has_own_key key.now) 0 self.now }
     {
         self.index.first(key)
+    }
+
+    /// The first place of a record with the key of the record at a place.
+    pub(crate) fn first_at(&self, place: usize) -> Option<usize>
+        requires { place < length self.now }
+        ensures { (d : Record) → result
+            ≡ position_from (has_own_key (own_key (slice_index_or self.now place d))) 0 self.now }
+    {
+        self.index.first_at(place)
     }
 
     /// The next place of a record with the key of the record at a place.
@@ -118,14 +133,33 @@ pub(crate) fn own_key(one: &Record) -> Key
     }
 }
 
+/// The keys of the records of a list, made on all processors.
+fn collect_keys<R: Threads + Sync>(
+    rt: &R,
+    alloc: Global,
+    records: &[Record],
+) -> Result<Vec<Key>, AllocError>
+    ensures { IfOk result (λ keys. AllZip (λ one key. (key ≡ own_key one) × (has_amount_in_range one ≡ true))
+        records.now keys.items) }
+{
+    records
+        .par_iter()
+        .map(
+            |one: &Record| -> Key
+                ensures { (result ≡ own_key one.now) × (has_amount_in_range one.now ≡ true) }
+            { own_key(one) },
+        )
+        .collect(rt, alloc)
+}
+
 /// The keys of the records of a list.
-fn own_keys(alloc: Global, records: &[Record]) -> Result<Vec<Key>, NoMemory>
+fn own_keys<R: Threads + Sync>(
+    rt: &R,
+    alloc: Global,
+    records: &[Record],
+) -> Result<Vec<Key>, NoMemory>
     ensures keys { IfOk result (λ keys. keys.items ≡ map own_key records.now) }
     ensures amounts { OnOk result (list_all has_amount_in_range records.now ≡ true) }
 {
-    let mut keys = Vec::with_capacity(alloc, records.len())?;
-    for one in records {
-        keys.push(own_key(one))?;
-    }
-    Ok(keys)
+    Ok(collect_keys(rt, alloc, records)?)
 }

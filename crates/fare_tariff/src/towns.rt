@@ -6,8 +6,9 @@ use fare_outside::NoMemory;
 use std::alloc::Global;
 use std::hash::{FoldHasher, Hash, Hasher};
 
-/// Some forty times as many as an edition of thousands of cities needs, so that few cities share a slot.
-const SLOTS: usize = 65_536;
+/// Some forty times as many slots as an edition of thousands of cities needs, so that few cities share one. A shorter
+/// edition has at least as many as it has records.
+const MOST_SLOTS: usize = 65_536;
 
 /// A place for each slot, of which a city has one. A city that shares its slot is found by its key.
 #[derive(Drop)]
@@ -15,20 +16,21 @@ pub(crate) struct Towns {
     places: Vec<usize>,
 }
 
-/// The slot of a city.
-fn slot_of(city: City) -> usize {
+/// The slot of a city among so many, a power of two.
+fn slot_of(city: City, slots: usize) -> usize {
     let mut hasher = FoldHasher::default();
     city.hash(&mut hasher);
-    hasher.finish() as usize % SLOTS
+    hasher.finish() as usize & (slots.max(1) - 1)
 }
 
 impl Towns {
     /// The places of the cities among the keys of some records.
     pub(crate) fn of(alloc: Global, keys: &[Key]) -> Result<Towns, NoMemory> {
-        let mut places = vec![in alloc; 0; SLOTS]?;
+        let slots = keys.len().min(MOST_SLOTS).next_power_of_two();
+        let mut places = vec![in alloc; 0; slots]?;
         for (place, key) in keys.iter().enumerate() {
             if let Key::City(city) = key {
-                if let Some(slot) = places.get_mut(slot_of(*city)) {
+                if let Some(slot) = places.get_mut(slot_of(*city, slots)) {
                     *slot = place;
                 }
             }
@@ -38,6 +40,9 @@ impl Towns {
 
     /// Where the record of a city may stand.
     pub(crate) fn place(&self, city: City) -> usize {
-        self.places.get(slot_of(city)).copied().unwrap_or(0)
+        self.places
+            .get(slot_of(city, self.places.len()))
+            .copied()
+            .unwrap_or(0)
     }
 }

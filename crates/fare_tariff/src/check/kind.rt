@@ -1,6 +1,6 @@
 //! The least kind of a record, and the fault of the least record that has one.
 
-ghost use Rattle.std.specs.Prelude.{◌≡◌, ◌<◌, ◌≤◌, length, take, IfNone};
+ghost use Rattle.std.specs.Prelude.{◌≡◌, ◌<◌, ◌≤◌, length, slice_index_or, take, IfNone};
 ghost use Rattle.fare_tariff.specs.Check.{kind_of, first_fault};
 ghost use Rattle.fare_tariff.specs.Faulty.{is_faulty, has_kind_at, fault_of, first_faulty};
 
@@ -53,9 +53,10 @@ fn kind_of(filed: &Filed, place: usize, one: &Record) -> Option<CheckKind>
     overlap_of(filed, place, one).map(|first| CheckKind::Overlap(first))
 }
 
-/// Whether a record at a place in the limit has a kind.
+/// Whether the record at a place in the limit has a kind.
 fn is_faulty(filed: &Filed, place: usize, one: &Record) -> bool
-    requires { place ≤ MOST_RECORDS }
+    requires within { place < length filed.now }
+    requires at { one.now ≡ slice_index_or filed.now place one.now }
     ensures { result ≡ is_faulty filed.now (take place filed.now) one.now }
 {
     clash_at(filed, place, one)

@@ -3,4 +3,4 @@ use Rattle.fare_index.proofs.Passed.{IsPassed}
 use Rattle.fare_index.proofs.places.places_of.Given as goal
 
 abbrev pub invariant-loop-place : goal.invariant-loop-place
-invariant-loop-place g l = IsPassed g.K.PartialEq.eq l.keys l.place l.first l.next.items
+invariant-loop-place l = IsPassed l.slots l.keys l.place l.heads.items l.links.items l.leads.items

@@ -5,7 +5,7 @@ use Rattle.fare_tariff.proofs.Clashes.{clear_first, clear_end, clear_past, clear
 use Rattle.fare_tariff.proofs.check.clash.clashes.Goals as goal
 
 pub loop-at-init : goal.loop-at-init
-loop-at-init c = clear_first c.args.filed.now c.args.place c.args.key.now c.args.season c.first-at.result c.first-at.ensures
+loop-at-init c = clear_first c.args.filed.now c.args.place c.args.key.now c.args.season c.args.first c.requires
 
 pub returns-then-other-place : goal.returns-then-other-place
 returns-then-other-place c =

@@ -1,0 +1,10 @@
+-- the key isn't at the places that were passed
+use Rattle.std.proofs.Common.{length}
+use Rattle.fare_index.proofs.Walked.{IsWalked, left_from}
+use Rattle.fare_index.proofs.places.seek.Given as goal
+
+abbrev pub invariant-loop-at : goal.invariant-loop-at
+invariant-loop-at l = IsWalked (length l.places.heads.items) l.keys l.key l.from l.at
+
+abbrev pub decreases-loop-at : goal.decreases-loop-at
+decreases-loop-at l = left_from l.keys l.at
