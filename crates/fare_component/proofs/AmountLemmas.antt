@@ -1,18 +1,21 @@
 -- The amount of a fare by what is asked of it, one thing after another.
-use Rattle.std.proofs.Common.{◌≡◌, ℕ, Bool, true, false, cond, not, ◌&&◌, ◌<◌, Option, Some, None, refl, ap, sym, ◌∙◌, arith}
+use Rattle.std.proofs.Common.{◌≡◌, ℕ, Bool, true, false, cond, not, ◌&&◌, ◌<◌, Option, Some, None, refl, ap, sym, ◌∙◌, arith, inl, inr}
 use Rattle.std.specs.Prelude.{IfSome, option_map, is_some}
 use Rattle.fare_codes.specs.declared.indicator.Indicator.{Indicator}
 use Rattle.fare_codes.specs.Same.{same_indicator}
+use Rattle.std.proofs.lemmas.Bool.{cases_Bool}
 use Rattle.fare_trip.specs.Itinerary.{Itinerary}
 use Rattle.fare_tariff.specs.Record.{FareRecord}
+use Rattle.fare_tariff.specs.Lookup.{fare_at}
 use Rattle.fare_tariff.specs.Tariff.{Tariff}
 use Rattle.fare_rules.specs.declared.amount.Amount.{Amount}
 use Rattle.fare_rules.specs.Base.{base}
-use Rattle.fare_rules.specs.ComponentAmount.{span_surcharge, is_applicable, is_allowed, amount_from, fare_amount, repeats_city, runs_between, may_be_priced, has_indicator, covers_cabins, covers_carriers, in_season}
+use Rattle.fare_rules.specs.ComponentAmount.{span_surcharge, is_applicable, is_allowed, amount_from, component_amount, fare_amount, is_half_round_trip, repeats_city, runs_between, may_be_priced, has_indicator, covers_cabins, covers_carriers, in_season}
 use Rattle.fare_rules.specs.Indicator.{indicator}
 use Rattle.fare_rules.specs.Span.{holds_surface}
 use Rattle.fare_rules.specs.Terms.{stops_hold, transfers_hold, advance_holds}
-use Rattle.fare_rules.specs.UnitPrice.{at_least}
+use Rattle.fare_rules.specs.UnitPrice.{at_least, one_way_price}
+use Rattle.fare_component.specs.Table.{single_price}
 use Rattle.fare_component.specs.Usable.{is_for_span, is_usable}
 
 -- the amount by whether the fare is usable, by the surcharge and by whether that is allowed
@@ -91,18 +94,34 @@ granted tariff trip a b back fare step e s t =
     by_terms tariff trip a b back fare step e s
     ∙ ap (λ t. cond t (Some (amount_from (base tariff trip a b fare back) step)) None) t
 
+and_swapped : (x y : Bool) → (x && y) ≡ (y && x)
+and_swapped true true = refl
+and_swapped true false = refl
+and_swapped false true = refl
+and_swapped false false = refl
+
 -- whether a fare is for a span that can be a component and has an indicator
 pub is_for_plain_span : (tariff : Tariff) (trip : Itinerary) (a b : ℕ) (back : Bool) (fare : FareRecord) (ind : Indicator)
     → (not (holds_surface trip a b) && not (repeats_city trip a b)) ≡ true → ind ≡ indicator tariff trip a b
     → is_for_span tariff trip a b back fare
-    ≡ (runs_between trip a b back fare && may_be_priced back fare && same_indicator fare.ind ind && covers_cabins trip a b fare && covers_carriers trip a b fare && in_season trip a fare)
+    ≡ (may_be_priced back fare && runs_between trip a b back fare && same_indicator fare.ind ind && covers_cabins trip a b fare && covers_carriers trip a b fare && in_season trip a fare)
 unfolding is_for_span has_indicator
 is_for_plain_span tariff trip a b back fare ind plain e =
     ap (λ t. t && runs_between trip a b back fare && may_be_priced back fare && has_indicator tariff trip a b fare && covers_cabins trip a b fare && covers_carriers trip a b fare && in_season trip a fare) plain
     ∙ ap (λ x. runs_between trip a b back fare && may_be_priced back fare && same_indicator fare.ind x && covers_cabins trip a b fare && covers_carriers trip a b fare && in_season trip a fare) (sym e)
+    ∙ ap (λ t. t && same_indicator fare.ind ind && covers_cabins trip a b fare && covers_carriers trip a b fare && in_season trip a fare) (and_swapped (runs_between trip a b back fare) (may_be_priced back fare))
 
 -- the greater of an amount and a minimum is below what both are below
 pub at_least_bound : (amount limit : ℕ) (minimum : Option ℕ) → amount < limit → IfSome minimum (λ x. x < limit)
     → at_least amount minimum < limit
 at_least_bound amount limit None ha hm = ha
 at_least_bound amount limit (Some minimum) ha hm = omega arith
+
+-- a fare that has no amount priced out has no price as a unit of its own
+pub no_single_there : (tariff : Tariff) (trip : Itinerary) (a b number : ℕ) (fare : FareRecord)
+    → fare_at tariff number ≡ Some fare → is_for_span tariff trip a b false fare ≡ false
+    → single_price tariff trip a b number ≡ None
+unfolding one_way_price component_amount
+no_single_there tariff trip a b number fare filed none =
+    let amount = unsuitable tariff trip a b false fare none in
+    rw (filed, filed, amount) (elim (cases_Bool (is_half_round_trip fare)) [ inl t ↦ rw t refl | inr f ↦ rw f refl ])

@@ -1,12 +1,14 @@
 pub mod AmongLemmas
 pub mod AmountLemmas
-pub mod BaseLemmas
 pub mod CandidateLemmas
 pub mod Counts
 pub mod CursorLemmas
 pub mod EntryLemmas
 pub mod LawLemmas
+pub mod OwnLemmas
+pub mod ReachLemmas
 pub mod ReferenceLemmas
+pub mod SpanLemmas
 pub mod TableLemmas
 pub mod WalkLemmas
 pub mod WorkedEntries

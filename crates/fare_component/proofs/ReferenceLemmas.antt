@@ -4,16 +4,17 @@ use Rattle.std.specs.Prelude.{Option, Some, None, IfSome}
 use Rattle.std.proofs.lemmas.Bool.{cases_eq, cases_lt}
 use Rattle.std.proofs.lemmas.Grind.{get_or-set_at}
 use Rattle.std.proofs.lemmas.List.{get_or-replicate, get_or-set_other, get_or_past, length-replicate, length-set}
-use Rattle.fare_codes.specs.declared.day.Day.{Day}
 use Rattle.fare_trip.specs.Itinerary.{Itinerary, count}
 use Rattle.fare_tariff.specs.Record.{FareRecord}
+use Rattle.fare_tariff.specs.Lookup.{terms}
 use Rattle.fare_tariff.specs.Tariff.{Tariff}
 use Rattle.fare_rules.specs.Backhaul.{greatest_reference}
 use Rattle.fare_rules.specs.Base.{base, compared_pairs, greatest_amount}
 use Rattle.fare_rules.specs.Reference.{reference}
+use Rattle.fare_rules.specs.Terms.{terms_of_fare}
 use Rattle.fare_component.specs.declared.table.references.Form.{Form}
 use Rattle.fare_component.specs.declared.table.references.References.{References}
-use Rattle.fare_component.specs.References.{AreReferences, IsOfForm, IsReference}
+use Rattle.fare_component.specs.References.{AreReferences, IsOfForm, IsReach, IsReference}
 
 -- at each place of a list of one value stands that value, and behind it too where that is what stands behind
 pub same_at : {A : Type 0} (x : A) (n place : ℕ) → get_or (replicate n x) place x ≡ x
@@ -45,29 +46,38 @@ pub references_put : (tariff : Tariff) (trip : Itinerary) (known : References) (
     → IsReference tariff trip known.form i j found
     → AreReferences tariff trip (record known { found = set known.found (i * 17 + j) (Some found) })
 references_put tariff trip known i j found short rises within right one =
-    λ p q up last. at_put known.found (i * 17 + j) (p * 17 + q) found (IsReference tariff trip known.form p q)
-    (λ same.
-    let first : i ≡ p = omega arith in
-    let second : j ≡ q = omega arith in
-    subst (λ (n : ℕ). IsReference tariff trip known.form n q found) first
-    (subst (λ (n : ℕ). IsReference tariff trip known.form i n found) second one))
-    (right p q up last)
+    record {
+      found = λ p q up last. at_put known.found (i * 17 + j) (p * 17 + q) found (IsReference tariff trip known.form p q)
+          (λ same.
+          let first : i ≡ p = omega arith in
+          let second : j ≡ q = omega arith in
+          subst (λ (n : ℕ). IsReference tariff trip known.form n q found) first
+          (subst (λ (n : ℕ). IsReference tariff trip known.form i n found) second one))
+          (right.found p q up last);
+      reach = right.reach;
+      asked = right.asked;
+    }
 
 -- where nothing is known, what is known is right
 pub nothing_known : (tariff : Tariff) (trip : Itinerary) (known : References)
-    → ((place : ℕ) → get_or known.found place None ≡ None) → AreReferences tariff trip known
-nothing_known tariff trip known none =
-    λ i j up last. subst (λ (o : Option (Option ℕ)). IfSome o (IsReference tariff trip known.form i j)) (sym (none (i * 17 + j))) tt
+    → ((place : ℕ) → get_or known.found place None ≡ None) → IsReach tariff trip known.form known.reach
+    → known.asked ≡ terms_of_fare tariff known.form.fare → AreReferences tariff trip known
+nothing_known tariff trip known none reach asked =
+    record {
+      found = λ i j up last. subst (λ (o : Option (Option ℕ)). IfSome o (IsReference tariff trip known.form i j)) (sym (none (i * 17 + j))) tt;
+      reach = reach;
+      asked = asked;
+    }
 
 -- the fare of a form with what tells its references apart taken from a fare
-abbrev moulded : FareRecord → FareRecord → FareRecord
+abbrev pub moulded : FareRecord → FareRecord → FareRecord
 moulded fare other =
     record other { carrier = fare.carrier; class = fare.class; kind = fare.kind; rule = fare.rule }
 
 -- that is the fare of the form
-is_moulded : (fare : FareRecord) (back : Bool) (on : Day) (form : Form) → IsOfForm fare back on form
+pub is_moulded : (fare : FareRecord) (back : Bool) (form : Form) → IsOfForm fare back form
     → form.fare ≡ moulded fare form.fare
-is_moulded fare back on form of_form =
+is_moulded fare back form of_form =
     λ i. record form.fare { carrier = of_form.carrier i; class = of_form.class i; kind = of_form.kind i; rule = of_form.rule i }
 
 -- and compares with what the fare does
@@ -82,20 +92,25 @@ unfolding greatest_reference reference
 moulded_greatest tariff trip a b fare other = refl
 
 -- the base of a fare by the references of its form
-pub base_of_form : (tariff : Tariff) (trip : Itinerary) (a b : ℕ) (fare : FareRecord) (back : Bool) (on : Day) (form : Form)
-    → IsOfForm fare back on form
+pub base_of_form : (tariff : Tariff) (trip : Itinerary) (a b : ℕ) (fare : FareRecord) (back : Bool) (form : Form)
+    → IsOfForm fare back form
     → greatest_amount fare.amount (compared_pairs tariff trip a b form.fare form.back) ≡ base tariff trip a b fare back
 unfolding base
-base_of_form tariff trip a b fare back on form of_form =
+base_of_form tariff trip a b fare back form of_form =
     ap (greatest_amount fare.amount)
-    (ap (λ f. compared_pairs tariff trip a b f form.back) (is_moulded fare back on form of_form)
+    (ap (λ f. compared_pairs tariff trip a b f form.back) (is_moulded fare back form of_form)
     ∙ moulded_pairs tariff trip a b fare form.fare form.back
     ∙ ap (compared_pairs tariff trip a b fare) of_form.direction)
 
 -- the greatest reference of a fare by those of its form
-pub greatest_of_form : (tariff : Tariff) (trip : Itinerary) (a b : ℕ) (fare : FareRecord) (back : Bool) (on : Day)
-    (form : Form) → IsOfForm fare back on form
+pub greatest_of_form : (tariff : Tariff) (trip : Itinerary) (a b : ℕ) (fare : FareRecord) (back : Bool)
+    (form : Form) → IsOfForm fare back form
     → greatest_reference tariff trip a b form.fare ≡ greatest_reference tariff trip a b fare
-greatest_of_form tariff trip a b fare back on form of_form =
-    ap (greatest_reference tariff trip a b) (is_moulded fare back on form of_form)
+greatest_of_form tariff trip a b fare back form of_form =
+    ap (greatest_reference tariff trip a b) (is_moulded fare back form of_form)
     ∙ moulded_greatest tariff trip a b fare form.fare
+
+-- the terms of a fare are those of its form
+pub terms_of_form : (tariff : Tariff) (fare : FareRecord) (back : Bool) (form : Form) → IsOfForm fare back form
+    → terms_of_fare tariff form.fare ≡ terms_of_fare tariff fare
+terms_of_form tariff fare back form of_form = ap (λ rule. terms tariff rule) of_form.rule

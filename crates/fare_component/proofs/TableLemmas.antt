@@ -1,13 +1,13 @@
 -- The rows of a table, one entry on, and what stands at a place of them.
-use Rattle.std.proofs.Common.{◌≡◌, refl, ℕ, ◌+◌, ◌-◌, ◌<◌, ◌≤◌, Bool, false, List, [], ◌∷◌, ◌++◌, length, map, get_or, ap, sym, subst, ◌∙◌, arith, inl, inr}
-use Rattle.std.specs.List.{range_with_len}
+use Rattle.std.proofs.Common.{◌≡◌, ℕ, ◌+◌, ◌-◌, ◌<◌, ◌≤◌, false, List, [], ◌∷◌, ◌++◌, length, map, reverse, get_or, ap, sym, ◌∙◌, arith, inl, inr}
 use Rattle.std.proofs.lemmas.Bool.{and_left, and_right, le-ltb, lt-leb, cases_lt}
+use Rattle.std.proofs.lemmas.Grind.{reverse_onto}
 use Rattle.std.proofs.lemmas.List.{map_push, get_or_past, length-map}
 use Rattle.std.proofs.lemmas.List.FromFn.{get_or-map-range_with_len, length-range_with_len}
 use Rattle.fare_trip.specs.Itinerary.{Itinerary, count}
 use Rattle.fare_tariff.specs.Tariff.{Tariff}
 use Rattle.fare_rules.specs.Numbers.{numbers}
-use Rattle.fare_rules.proofs.NumberLemmas.{numbers_more}
+use Rattle.fare_rules.proofs.NumberLemmas.{numbers_more, numbers_next, numbers_none}
 use Rattle.fare_component.specs.declared.table.entry.Entry.{Entry}
 use Rattle.fare_component.specs.Table.{entries_of, is_span, row_of}
 use Rattle.fare_component.proofs.EntryLemmas.{no_entries_beyond}
@@ -68,3 +68,26 @@ pub behind_table : (tariff : Tariff) (trip : Itinerary) (rows : List (List (List
 behind_table tariff trip rows a b made behind =
     let long : length rows ≡ count trip = ap length made ∙ made_length (row_of tariff trip) (count trip) in
     no_entries_beyond tariff trip a b (no_span_behind trip a b (omega arith))
+
+-- what is made of a range that begins one earlier, last first
+made_before : {A : Type 0} (f : ℕ → A) (first past : ℕ) → first < past
+    → reverse (map f (numbers first past)) ≡ reverse (map f (numbers (first + 1) past)) ++ f first ∷ []
+made_before f first past h =
+    ap (λ l. reverse (map f l)) (numbers_next first past h) ∙ reverse_onto (map f (numbers (first + 1) past)) (f first) []
+
+-- the values of the last numbers of a range, last first, once one more is made
+pub made_on : {A : Type 0} (f : ℕ → A) (rows : List A) (one : A) (past done a : ℕ) → a + 1 + done ≡ past
+    → rows ≡ reverse (map f (numbers (past - done) past)) → one ≡ f a
+    → rows ++ one ∷ [] ≡ reverse (map f (numbers (past - (done + 1)) past))
+made_on f rows one past done a e whole made =
+    let first : past - (done + 1) ≡ a = omega arith in
+    let next : past - done ≡ a + 1 = omega arith in
+    ap (λ l. l ++ one ∷ []) whole
+    ∙ ap (λ (k : ℕ). reverse (map f (numbers k past)) ++ one ∷ []) next
+    ∙ ap (λ last. reverse (map f (numbers (a + 1) past)) ++ last ∷ []) made
+    ∙ sym (made_before f a past (omega arith))
+    ∙ ap (λ (k : ℕ). reverse (map f (numbers k past))) (sym first)
+
+-- at first there are none
+pub made_none : {A : Type 0} (f : ℕ → A) (past : ℕ) → [] ≡ reverse (map f (numbers (past - 0) past))
+made_none f past = sym (ap (λ l. reverse (map f l)) (numbers_none (past - 0) past (omega arith)))

@@ -6,5 +6,6 @@ pub use Rattle.fare_rules.specs.ComponentAmount
 pub mod Candidates
 pub mod References
 pub mod Shared
+pub mod Spans
 pub mod Table
 pub mod Usable

@@ -1,45 +1,86 @@
 -- References between the points of a trip that a table has looked up, each once for all fares that share it.
-use Rattle.std.specs.Prelude.{◌≡◌, ℕ, ◌+◌, ◌*◌, ◌<◌, ◌≤◌, Bool, List, Option, None, IfSome, All, slice_index_or}
-use Rattle.fare_codes.specs.declared.day.Day.{Day}
+use Rattle.std.specs.Prelude.{◌≡◌, ℕ, ◌+◌, ◌*◌, ◌<◌, ◌≤◌, Bool, ◌&&◌, List, Option, None, IfSome, All, slice_index_or}
+use Rattle.std.specs.Prelude.{option_map, filter_map, flat_map, if◌then◌else◌}
 use Rattle.fare_codes.specs.declared.nuc.Nuc.{Nuc}
 use Rattle.fare_codes.specs.declared.nuc.TheConstants.{FARE_LIMIT}
 use Rattle.fare_trip.specs.Itinerary.{Itinerary, count}
 use Rattle.fare_tariff.specs.Record.{FareRecord}
 use Rattle.fare_tariff.specs.Tariff.{Tariff}
-use Rattle.fare_rules.specs.Base.{reference_between}
-use Rattle.fare_rules.specs.Span.{first_day}
+use Rattle.fare_rules.specs.Numbers.{numbers}
+use Rattle.fare_rules.specs.Base.{Compared, with_amount, is_end_or_stopover, reference_between, greatest_amount}
+use Rattle.fare_rules.specs.Span.{first_day, is_stopover}
+use Rattle.fare_rules.specs.Terms.{terms_of_fare}
 use Rattle.fare_component.specs.declared.table.references.Form.{Form}
+use Rattle.fare_component.specs.declared.table.references.Reach.{Reach}
 use Rattle.fare_component.specs.declared.table.references.References.{References}
 
--- a fare has the same references in a direction on a day as the fare of a form: their carriers, classes, kinds and
--- rules are the same, and so are the direction and the day
-pub record IsOfForm (fare : FareRecord) (back : Bool) (on : Day) (form : Form) : Type 0 where
+-- a fare has the same references in a direction as the fare of a form on the form's day: their carriers, classes, kinds
+-- and rules are the same, and so is the direction
+pub record IsOfForm (fare : FareRecord) (back : Bool) (form : Form) : Type 0 where
   pub carrier : form.fare.carrier ≡ fare.carrier
   pub class : form.fare.class ≡ fare.class
   pub kind : form.fare.kind ≡ fare.kind
   pub rule : form.fare.rule ≡ fare.rule
   pub direction : form.back ≡ back
-  pub day : form.on ≡ on
 
 -- what is known of two points: nothing yet, or what was found between them
 abbrev pub known_at : References → ℕ → ℕ → Option (Option Nuc)
 known_at known i j = slice_index_or known.found (i * 17 + j) None
 
+-- the reference of a form between two points
+abbrev pub reference_of : Tariff → Itinerary → Form → ℕ → ℕ → Option Nuc
+reference_of tariff trip form i j = reference_between tariff trip form.fare form.back form.on i j
+
 -- what was found between two points is the reference of a form, which is below every fare's limit
 pub record IsReference (tariff : Tariff) (trip : Itinerary) (form : Form) (i j : ℕ) (found : Option Nuc) : Type 0 where
-  pub value : found ≡ reference_between tariff trip form.fare form.back form.on i j
+  pub value : found ≡ reference_of tariff trip form i j
   pub bound : IfSome found (λ amount. amount < FARE_LIMIT)
 
--- what is known is right: of two points of the trip nothing yet, or their reference
-abbrev pub AreReferences : Tariff → Itinerary → References → Type 0
-AreReferences tariff trip known = (i j : ℕ) → i < j → j ≤ count trip
-    → IfSome (known_at known i j) (IsReference tariff trip known.form i j)
+-- what a form has between a point that begins a pair which is compared, as the start of a component or a stopover, and
+-- a later point
+abbrev pub pair_to : Tariff → Itinerary → Form → ℕ → ℕ → ℕ → Option Compared
+pair_to tariff trip form a j i =
+    option_map (with_amount i j) (if is_end_or_stopover trip a i then reference_of tariff trip form i j else None)
 
--- what is known of each form is right
-abbrev pub AreForms : Tariff → Itinerary → List References → Type 0
-AreForms tariff trip items = All (AreReferences tariff trip) items
+-- the greatest of what a form has between such points, from one on, and a later point; 0 where it has nothing
+unfoldable pub greatest_to : Tariff → Itinerary → Form → ℕ → ℕ → ℕ → Nuc
+greatest_to tariff trip form a first j = greatest_amount 0 (filter_map (pair_to tariff trip form a j) (numbers first j))
+
+-- what a form has for a pair of points that is compared in each component from a point to one behind the pair: a pair
+-- from the component's start or a stopover to a stopover
+abbrev pub inner_pair : Tariff → Itinerary → Form → ℕ → ℕ → ℕ → Option Compared
+inner_pair tariff trip form a i j =
+    option_map (with_amount i j)
+    (if is_stopover trip j && is_end_or_stopover trip a i then reference_of tariff trip form i j else None)
+
+-- what it has for those of them that begin at a point and end before another
+abbrev pub inner_from : Tariff → Itinerary → Form → ℕ → ℕ → ℕ → List Compared
+inner_from tariff trip form a past i = filter_map (inner_pair tariff trip form a i) (numbers (i + 1) past)
+
+-- the greatest of what it has for those that end before a point; 0 where it has nothing
+unfoldable pub greatest_inner : Tariff → Itinerary → Form → ℕ → ℕ → Nuc
+greatest_inner tariff trip form a past =
+    greatest_amount 0 (flat_map (inner_from tariff trip form a past) (numbers a past))
+
+-- a form has come from a point to a later one: it knows the greatest of what it has for the pairs that end before,
+-- which is below every fare's limit
+pub record IsReach (tariff : Tariff) (trip : Itinerary) (form : Form) (reach : Reach) : Type 0 where
+  pub rises : reach.from < reach.past
+  pub value : reach.high ≡ greatest_inner tariff trip form reach.from reach.past
+  pub bound : reach.high < FARE_LIMIT
+
+-- what is known is right: of two points of the trip nothing yet, or their reference; how far the form has come; and the
+-- terms of its rule
+pub record AreReferences (tariff : Tariff) (trip : Itinerary) (known : References) : Type 0 where
+  pub found : (i j : ℕ) → i < j → j ≤ count trip → IfSome (known_at known i j) (IsReference tariff trip known.form i j)
+  pub reach : IsReach tariff trip known.form known.reach
+  pub asked : known.asked ≡ terms_of_fare tariff known.form.fare
 
 -- what is known is right, and of the day of a component's first sector
 pub record AreReferencesFrom (tariff : Tariff) (trip : Itinerary) (a : ℕ) (known : References) : Type 0 where
   pub right : AreReferences tariff trip known
   pub day : known.form.on ≡ first_day trip a
+
+-- what is known of each form is right, and of the day of a component's first sector
+abbrev pub AreForms : Tariff → Itinerary → ℕ → List References → Type 0
+AreForms tariff trip a items = All (AreReferencesFrom tariff trip a) items

@@ -11,12 +11,13 @@ mod spans;
 mod surcharges;
 mod terms;
 
-pub(crate) use fares::is_half_round_trip;
+pub(crate) use fares::{greatest_rank, has_carrier, has_rank, is_half_round_trip, one_carrier};
 pub use fares::{
     covers_cabins, covers_carriers, has_indicator, in_season, may_be_priced, runs_between,
 };
 pub use spans::{holds_surface, repeats_city};
+pub(crate) use spans::{stopovers, transfers};
 pub(crate) use surcharges::{span_surcharge, surcharge_by};
 pub use surcharges::{excess_holds, mileage_holds};
-pub(crate) use terms::{is_allowed, terms_allow};
+pub(crate) use terms::{is_allowed, terms_allow, terms_of_fare};
 pub use terms::{advance_holds, stops_hold, transfers_hold};

@@ -1,8 +1,10 @@
 //! The table of a trip in an edition: what each fare costs for each span, computed once.
 //!
-//! - `indicators`: the indicators of all spans;
+//! - `indicators`: the indicators of all spans and the mileages of all sectors;
 //! - `references`, `forms`: the references of fares between the points, each looked up once;
+//! - `reaches`: the greatest of them, kept for longer components from the same point;
 //! - `bases`, `backhauls`: the base and the backhaul minimum of a fare by them;
+//! - `span`: what a span asks of every fare;
 //! - `entry`: one fare of a span;
 //! - `cursor`, `candidates`: the fares between two cities, in record order;
 //! - `entries`, `row`: all entries of a span, and of all spans from a point.
@@ -12,6 +14,7 @@ ghost use Rattle.std.specs.Option.{option_copied};
 ghost use Rattle.fare_trip.specs.Itinerary.{count};
 ghost use Rattle.fare_rules.specs.Numbers.{numbers};
 ghost use Rattle.fare_rules.specs.ComponentAmount.{component_amount};
+ghost use Rattle.fare_mileage.specs.Miles.{AreInRange, AreMiles};
 ghost use Rattle.fare_component.specs.Shared.{AreIndicators};
 ghost use Rattle.fare_component.specs.Table.{IsInBounds, entries_of, entry_at, row_of, single_price};
 ghost use Rattle.fare_component.specs.Usable.{IsAmount};
@@ -24,8 +27,10 @@ mod entries;
 mod entry;
 mod forms;
 mod indicators;
+mod reaches;
 mod references;
 mod row;
+mod span;
 
 pub use entries::MOST_ENTRIES;
 pub use entry::Entry;
@@ -37,6 +42,7 @@ use fare_trip::Trip;
 use forms::Forms;
 use indicators::{Indicators, all_indicators};
 use row::Row;
+pub(crate) use span::Span;
 use std::alloc::Global;
 use std::marker::Model;
 
@@ -153,21 +159,27 @@ impl<'a> Table<'a> {
     }
 }
 
-/// The rows of all points but the last.
-#[tactic(auto, using(crate::proofs::TableLemmas::made_push))]
+/// The rows of all points but the last, of which the last is made first: what it learns of the later sectors serves the
+/// rows of the points before.
 fn rows_of(
     alloc: Global,
     edition: &Edition,
     trip: &Trip,
     indicators: &Indicators,
 ) -> Result<Vec<Row>, NoMemory>
-    requires { AreIndicators edition.now trip.now indicators.now.rows }
+    requires indicators { AreIndicators edition.now trip.now indicators.now.rows }
+    requires miles { AreMiles edition.now trip.now 0 (count trip.now) indicators.now.miles }
+    requires in_range { AreInRange indicators.now.miles }
     ensures { IfOk result (λ rows. rows.items ≡ map (row_of edition.now trip.now) (numbers 0 (count trip.now))) }
 {
+    let count = trip.count();
     let mut forms = Forms::new(alloc);
     let mut rows = Vec::new(alloc);
-    for a in 0..trip.count() {
+    for done in 0..count {
+        let a = count - 1 - done;
+        forms.begin(trip, a);
         rows.push(Row::of(alloc, edition, trip, indicators, &mut forms, a)?)?;
     }
+    rows.reverse();
     Ok(rows)
 }

@@ -1,17 +1,18 @@
 //! Whether a fare may be used for a span, whatever its mileage.
 
-ghost use Rattle.std.specs.Prelude.{◌≡◌, ◌<◌, ◌≤◌, ◌&&◌, not, true};
+ghost use Rattle.std.specs.Prelude.{◌≡◌, ◌<◌, ◌≤◌, ◌&&◌, not};
 ghost use Rattle.fare_trip.specs.Itinerary.{count};
-ghost use Rattle.fare_rules.specs.Indicator.{indicator};
 ghost use Rattle.fare_rules.specs.Span.{holds_surface};
 ghost use Rattle.fare_rules.specs.ComponentAmount.{repeats_city};
+ghost use Rattle.fare_component.specs.Spans.{IsSpan};
 ghost use Rattle.fare_component.specs.Usable.{is_for_span, is_usable};
 
 use crate::conditions::{
-    advance_holds, covers_cabins, covers_carriers, has_indicator, holds_surface, in_season,
-    may_be_priced, repeats_city, runs_between, stops_hold, transfers_hold,
+    advance_holds, covers_cabins, covers_carriers, has_carrier, has_indicator, has_rank,
+    holds_surface, in_season, may_be_priced, repeats_city, runs_between, stops_hold,
+    transfers_hold,
 };
-use fare_codes::Indicator;
+use crate::table::Span;
 use fare_tariff::{Edition, FareRec};
 use fare_trip::Trip;
 
@@ -67,12 +68,12 @@ pub(crate) fn is_usable(
         && advance_holds(edition, trip, fare)
 }
 
-/// Whether a fare is for a span that can be a component and has an indicator.
+/// Whether a fare is for a span, by what the span asks of fares.
 #[tactic(auto, using(crate::proofs::AmountLemmas::is_for_plain_span))]
 pub(crate) fn suits_span(
     edition: &Edition,
     trip: &Trip,
-    ind: Indicator,
+    span: &Span,
     a: usize,
     b: usize,
     fare: &FareRec,
@@ -80,15 +81,14 @@ pub(crate) fn suits_span(
 ) -> bool
     requires rises { a < b }
     requires within { b ≤ count trip.now }
-    requires plain { (not (holds_surface trip.now a b) && not (repeats_city trip.now a b)) ≡ true }
-    requires indicator { ind ≡ indicator edition.now trip.now a b }
+    requires span { IsSpan edition.now trip.now a b span.now }
     ensures { result ≡ is_for_span edition.now trip.now a b back fare.now }
 {
     let _edition = edition;
-    runs_between(trip, a, b, back, fare)
-        && may_be_priced(fare, back)
-        && fare.ind.is(ind)
-        && covers_cabins(trip, a, b, fare)
-        && covers_carriers(trip, a, b, fare)
+    may_be_priced(fare, back)
+        && runs_between(trip, a, b, back, fare)
+        && fare.ind.is(span.ind)
+        && has_rank(trip, a, b, span.rank, fare)
+        && has_carrier(trip, a, b, &span.carrier, fare)
         && in_season(trip, a, fare)
 }

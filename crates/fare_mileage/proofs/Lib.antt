@@ -1,2 +1,3 @@
 pub mod Cities
+pub mod Known
 pub mod Search

@@ -12,4 +12,5 @@ mod spans;
 mod steps;
 
 pub use fare_rules::{Mileage, Miles};
-pub use spans::mileage;
+pub use miles::miles_between;
+pub use spans::{mileage, mileage_by};

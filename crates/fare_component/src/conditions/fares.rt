@@ -8,6 +8,7 @@ ghost use Rattle.fare_rules.specs.Span.{sectors};
 ghost use Rattle.fare_rules.specs.ComponentAmount.{is_filed_between, runs_between, is_half_round_trip, may_be_priced};
 ghost use Rattle.fare_rules.specs.ComponentAmount.{has_indicator, rank, covers_cabin, covers_cabins, is_carried_by};
 ghost use Rattle.fare_rules.specs.ComponentAmount.{covers_carriers, in_season};
+ghost use Rattle.fare_component.specs.Spans.{IsGreatestRank, IsOneCarrier, is_carrier};
 
 use fare_codes::{Cabin, Carrier, City, Kind};
 use fare_points::{every_carrier, indicator};
@@ -125,4 +126,70 @@ pub fn in_season(trip: &Trip, a: usize, fare: &FareRec) -> bool
     let count = trip.count();
     prove!(a < count);
     fare.season.holds(trip.sector(a + 1).day.month_day())
+}
+
+/// The greatest rank of the cabins of a span: a class covers them where it has at least that.
+pub(crate) fn greatest_rank(trip: &Trip, a: usize, b: usize) -> u32
+    requires within { b ≤ count trip.now }
+    ensures { IsGreatestRank trip.now a b result }
+{
+    let mut greatest = 0u32;
+    for i in a..b {
+        greatest = greatest.max(rank(trip.sector(i + 1).cabin));
+    }
+    greatest
+}
+
+/// The carrier of all sectors of a span; nothing where they have more than one.
+pub(crate) fn one_carrier(trip: &Trip, a: usize, b: usize) -> Option<Carrier>
+    requires rises { a < b }
+    requires within { b ≤ count trip.now }
+    ensures { IsOneCarrier trip.now a b result }
+{
+    let count = trip.count();
+    prove!(b <= count);
+    let first = trip.sector(a + 1).carrier;
+    if all_carried_by(trip, a, b, first) {
+        Some(first)
+    } else {
+        None
+    }
+}
+
+/// Whether the class of a fare covers the cabins of a span, of which this is the greatest rank.
+#[tactic(auto, unfolding(fare_rules::specs::ComponentAmount::covers_cabins))]
+pub(crate) fn has_rank(trip: &Trip, a: usize, b: usize, greatest: u32, fare: &FareRec) -> bool
+    requires { IsGreatestRank trip.now a b greatest }
+    ensures { result ≡ covers_cabins trip.now a b fare.now }
+{
+    let _trip = trip;
+    let _ends = (a, b);
+    greatest <= rank(fare.class)
+}
+
+/// Whether the one carrier of a span, where it has one, is a carrier.
+fn is_carrier(one: &Option<Carrier>, carrier: Carrier) -> bool
+    ensures { result ≡ is_carrier one.now carrier }
+{
+    match one {
+        None => false,
+        Some(one) => one.is(carrier),
+    }
+}
+
+/// Whether the carrier of a fare is `YY` or that of each sector of a span, of which this is the one carrier.
+#[tactic(auto, unfolding(fare_rules::specs::ComponentAmount::covers_carriers))]
+pub(crate) fn has_carrier(
+    trip: &Trip,
+    a: usize,
+    b: usize,
+    one: &Option<Carrier>,
+    fare: &FareRec,
+) -> bool
+    requires { IsOneCarrier trip.now a b one.now }
+    ensures { result ≡ covers_carriers trip.now a b fare.now }
+{
+    let _trip = trip;
+    let _ends = (a, b);
+    fare.carrier.is(every_carrier()) || is_carrier(one, fare.carrier)
 }

@@ -5,13 +5,15 @@ ghost use Rattle.fare_trip.specs.Itinerary.{count};
 ghost use Rattle.fare_rules.specs.Terms.{allows_surcharge, terms_of_fare, stops_hold, transfers_hold, advance_days};
 ghost use Rattle.fare_rules.specs.Terms.{advance_holds};
 ghost use Rattle.fare_rules.specs.ComponentAmount.{is_allowed};
+ghost use Rattle.fare_component.specs.Spans.{IsSpan};
 
 use crate::conditions::spans::{stopovers, transfers};
+use crate::table::Span;
 use fare_tariff::{Edition, FareRec, Terms};
 use fare_trip::Trip;
 
 /// The terms of a fare.
-fn terms_of_fare(edition: &Edition, fare: &FareRec) -> Option<Terms>
+pub(crate) fn terms_of_fare(edition: &Edition, fare: &FareRec) -> Option<Terms>
     ensures { result ≡ terms_of_fare edition.now fare.now }
 {
     edition.terms(fare.rule)
@@ -86,7 +88,7 @@ pub(crate) fn is_allowed(edition: &Edition, fare: &FareRec, surcharge: Option<u3
     }
 }
 
-/// Whether the terms of a fare's rule hold for a span and allow its surcharge, by one look-up.
+/// Whether the terms of a fare's rule, which are these, hold for a span and allow its surcharge.
 #[tactic(auto, unfolding(fare_rules::specs::Terms::stops_hold, fare_rules::specs::Terms::transfers_hold, fare_rules::specs::Terms::advance_holds))]
 pub(crate) fn terms_allow(
     edition: &Edition,
@@ -94,20 +96,24 @@ pub(crate) fn terms_allow(
     a: usize,
     b: usize,
     fare: &FareRec,
-    step: u32,
+    asked: &Option<Terms>,
+    span: &Span,
 ) -> bool
-    requires rises { a < b }
-    requires within { b ≤ count trip.now }
+    requires span { IsSpan edition.now trip.now a b span.now }
+    requires asked { asked.now ≡ terms_of_fare edition.now fare.now }
     ensures { result ≡ (stops_hold edition.now trip.now a b fare.now && transfers_hold edition.now trip.now a b fare.now
-        && advance_holds edition.now trip.now fare.now && is_allowed edition.now fare.now (Some step)) }
+        && advance_holds edition.now trip.now fare.now && is_allowed edition.now fare.now (Some span.now.step)) }
 {
-    match terms_of_fare(edition, fare) {
+    let _edition = edition;
+    let _fare = fare;
+    let _ends = (a, b);
+    match asked {
         None => false,
         Some(asked) => {
-            stopovers(trip, a, b) <= asked.stops
-                && transfers(trip, a, b) <= asked.transfers
+            span.stops <= asked.stops
+                && span.transfers <= asked.transfers
                 && asked.advance <= advance_days(trip)
-                && allows_surcharge(step, asked)
+                && allows_surcharge(span.step, *asked)
         }
     }
 }

@@ -1,17 +1,15 @@
 //! The backhaul minimum of a one way fare, by references that are looked up once.
 
-ghost use Rattle.std.specs.Prelude.{◌≡◌, ◌<◌, ◌≤◌, ◌*◌, IfOk, IfSome, OnOk, None, false, if◌then◌else◌};
+ghost use Rattle.std.specs.Prelude.{◌≡◌, ◌<◌, ◌≤◌, ◌*◌, IfSome, None, false, if◌then◌else◌};
 ghost use Rattle.fare_trip.specs.Itinerary.{count};
 ghost use Rattle.fare_rules.specs.Span.{is_stopover};
 ghost use Rattle.fare_rules.specs.Backhaul.{reference_to, greatest_reference, backhaul};
 ghost use Rattle.fare_component.specs.Shared.{AreIndicators};
-ghost use Rattle.fare_component.specs.References.{AreForms, AreReferencesFrom};
+ghost use Rattle.fare_component.specs.References.{AreReferencesFrom, IsOfForm};
 
-use crate::table::forms::Forms;
 use crate::table::indicators::Indicators;
 use crate::table::references::References;
 use fare_codes::{FARE_LIMIT, Nuc, greater};
-use fare_outside::NoMemory;
 use fare_points::minimum_above;
 use fare_tariff::{Edition, FareRec};
 use fare_trip::Trip;
@@ -70,55 +68,29 @@ fn greatest_reference(
     greatest
 }
 
-/// The greatest reference of a fare from the start of a span to an interior stopover.
-#[tactic(auto, using(crate::proofs::ReferenceLemmas::greatest_of_form))]
-fn greatest_by(
-    edition: &Edition,
-    trip: &Trip,
-    indicators: &Indicators,
-    forms: &mut Forms,
-    a: usize,
-    b: usize,
-    fare: &FareRec,
-) -> Result<Option<Nuc>, NoMemory>
-    requires indicators { AreIndicators edition.now trip.now indicators.now.rows }
-    requires forms { AreForms edition.now trip.now forms.old.items.items }
-    requires rises { a < b }
-    requires within { b ≤ count trip.now }
-    ensures value { IfOk result (λ greatest. greatest ≡ greatest_reference edition.now trip.now a b fare.now) }
-    ensures bound { IfOk result (λ greatest. IfSome greatest (λ amount. amount < FARE_LIMIT)) }
-    ensures forms { OnOk result (AreForms edition.now trip.now forms.new.items.items) }
-{
-    let count = trip.count();
-    prove!(b <= count);
-    let on = trip.sector(a + 1).day;
-    let place = forms.place_of(fare, false, on)?;
-    let known = &mut forms.items[place];
-    Ok(greatest_reference(edition, trip, indicators, a, b, known))
-}
-
 /// The backhaul minimum of a one way fare for a span.
-#[tactic(auto, unfolding(fare_rules::specs::Backhaul::backhaul))]
+#[tactic(auto, using(crate::proofs::ReferenceLemmas::greatest_of_form), unfolding(fare_rules::specs::Backhaul::backhaul))]
 pub(crate) fn backhaul_by(
     edition: &Edition,
     trip: &Trip,
     indicators: &Indicators,
-    forms: &mut Forms,
+    known: &mut References,
     a: usize,
     b: usize,
     fare: &FareRec,
-) -> Result<Option<Nuc>, NoMemory>
+) -> Option<Nuc>
     requires indicators { AreIndicators edition.now trip.now indicators.now.rows }
-    requires forms { AreForms edition.now trip.now forms.old.items.items }
+    requires known { AreReferencesFrom edition.now trip.now a known.old }
+    requires form { IsOfForm fare.now false known.old.form }
     requires rises { a < b }
     requires within { b ≤ count trip.now }
     requires amount { fare.now.amount < FARE_LIMIT }
-    ensures value { IfOk result (λ minimum. minimum ≡ backhaul edition.now trip.now a b fare.now) }
-    ensures bound { IfOk result (λ minimum. IfSome minimum (λ amount. amount < 2 * FARE_LIMIT)) }
-    ensures forms { OnOk result (AreForms edition.now trip.now forms.new.items.items) }
+    ensures value { result ≡ backhaul edition.now trip.now a b fare.now }
+    ensures bound { IfSome result (λ amount. amount < 2 * FARE_LIMIT) }
+    ensures known { AreReferencesFrom edition.now trip.now a known.new }
 {
-    match greatest_by(edition, trip, indicators, forms, a, b, fare)? {
-        None => Ok(None),
-        Some(high) => Ok(minimum_above(fare.amount, high)),
+    match greatest_reference(edition, trip, indicators, a, b, known) {
+        None => None,
+        Some(high) => minimum_above(fare.amount, high),
     }
 }

@@ -1,11 +1,12 @@
 ghost use Rattle.std.specs.Prelude.{◌≡◌, ◌<◌, ◌≤◌, [], ◌∷◌, ◌++◌, ◌&&◌, length, All, IfOk, OnOk, Some, not, true};
 ghost use Rattle.std.specs.Prelude.{if◌then◌else◌};
 ghost use Rattle.fare_trip.specs.Itinerary.{count};
-ghost use Rattle.fare_rules.specs.Indicator.{indicator};
 ghost use Rattle.fare_rules.specs.Span.{holds_surface};
-ghost use Rattle.fare_rules.specs.ComponentAmount.{repeats_city, span_surcharge};
+ghost use Rattle.fare_rules.specs.ComponentAmount.{repeats_city};
+ghost use Rattle.fare_mileage.specs.Miles.{AreInRange, AreMiles};
 ghost use Rattle.fare_component.specs.References.{AreForms};
 ghost use Rattle.fare_component.specs.Shared.{AreIndicators};
+ghost use Rattle.fare_component.specs.Spans.{IsSpan};
 ghost use Rattle.fare_component.specs.Table.{IsInBounds, entries_of, entry_of, has_amount};
 
 use crate::conditions::surcharge_by;
@@ -13,10 +14,9 @@ use crate::table::candidates::{all_candidates, candidates_past, first_candidate}
 use crate::table::entry::{Entry, entry_of};
 use crate::table::forms::Forms;
 use crate::table::indicators::{Indicators, indicator_of};
+use crate::table::span::{Span, span_of};
 use crate::usable::is_plain;
-use fare_codes::Indicator;
 use fare_outside::NoMemory;
-use fare_rules::MOST_SURCHARGE;
 use fare_tariff::Edition;
 use fare_trip::Trip;
 use std::alloc::Global;
@@ -85,23 +85,21 @@ fn keep_entry(
     forms: &mut Forms,
     a: usize,
     b: usize,
-    step: u32,
+    span: &Span,
     number: u32,
     entries: &mut Entries,
 ) -> Result<(), NoMemory>
     requires indicators { AreIndicators edition.now trip.now indicators.now.rows }
-    requires forms { AreForms edition.now trip.now forms.old.items.items }
+    requires forms { AreForms edition.now trip.now a forms.old.items.items }
     requires rises { a < b }
     requires within { b ≤ count trip.now }
-    requires plain { (not (holds_surface trip.now a b) && not (repeats_city trip.now a b)) ≡ true }
-    requires measured { span_surcharge edition.now trip.now a b ≡ Some step }
-    requires step { step ≤ MOST_SURCHARGE }
+    requires span { IsSpan edition.now trip.now a b span.now }
     requires room { length entries.old < MOST_ENTRIES }
     ensures kept { OnOk result (entries.new ≡ entries.old ++ (if has_amount (entry_of edition.now trip.now a b number)
         then entry_of edition.now trip.now a b number ∷ [] else [])) }
-    ensures forms { OnOk result (AreForms edition.now trip.now forms.new.items.items) }
+    ensures forms { OnOk result (AreForms edition.now trip.now a forms.new.items.items) }
 {
-    match entry_of(edition, trip, indicators, forms, a, b, step, number) {
+    match entry_of(edition, trip, indicators, forms, a, b, span, number) {
         Err(error) => Err(error),
         Ok(entry) => entries.keep(entry),
     }
@@ -116,25 +114,21 @@ fn measured_entries(
     forms: &mut Forms,
     a: usize,
     b: usize,
-    ind: Indicator,
-    step: u32,
+    span: &Span,
 ) -> Result<Entries, NoMemory>
     requires indicators { AreIndicators edition.now trip.now indicators.now.rows }
-    requires forms { AreForms edition.now trip.now forms.old.items.items }
+    requires forms { AreForms edition.now trip.now a forms.old.items.items }
     requires rises { a < b }
     requires within { b ≤ count trip.now }
-    requires plain { (not (holds_surface trip.now a b) && not (repeats_city trip.now a b)) ≡ true }
-    requires indicator { ind ≡ indicator edition.now trip.now a b }
-    requires measured { span_surcharge edition.now trip.now a b ≡ Some step }
-    requires step { step ≤ MOST_SURCHARGE }
+    requires span { IsSpan edition.now trip.now a b span.now }
     ensures entries { IfOk result (λ entries. entries ≡ entries_of edition.now trip.now a b) }
-    ensures forms { OnOk result (AreForms edition.now trip.now forms.new.items.items) }
+    ensures forms { OnOk result (AreForms edition.now trip.now a forms.new.items.items) }
 {
     let (from, to) = (trip.point(a), trip.point(b));
     let mut entries = Entries::new(alloc);
-    let mut candidates = all_candidates(edition, from, to, ind);
+    let mut candidates = all_candidates(edition, from, to, span.ind);
     while let Some(number) = first_candidate(candidates) {
-        candidates = candidates_past(edition, from, to, ind, candidates, number);
+        candidates = candidates_past(edition, from, to, span.ind, candidates, number);
         keep_entry(
             edition,
             trip,
@@ -142,7 +136,7 @@ fn measured_entries(
             forms,
             a,
             b,
-            step,
+            span,
             number,
             &mut entries,
         )?;
@@ -162,17 +156,22 @@ fn plain_entries(
     b: usize,
 ) -> Result<Entries, NoMemory>
     requires indicators { AreIndicators edition.now trip.now indicators.now.rows }
-    requires forms { AreForms edition.now trip.now forms.old.items.items }
+    requires miles { AreMiles edition.now trip.now 0 (count trip.now) indicators.now.miles }
+    requires in_range { AreInRange indicators.now.miles }
+    requires forms { AreForms edition.now trip.now a forms.old.items.items }
     requires rises { a < b }
     requires within { b ≤ count trip.now }
     requires plain { (not (holds_surface trip.now a b) && not (repeats_city trip.now a b)) ≡ true }
     ensures entries { IfOk result (λ entries. entries ≡ entries_of edition.now trip.now a b) }
-    ensures forms { OnOk result (AreForms edition.now trip.now forms.new.items.items) }
+    ensures forms { OnOk result (AreForms edition.now trip.now a forms.new.items.items) }
 {
     let ind = indicator_of(indicators, edition, trip, a, b);
-    match surcharge_by(edition, trip, a, b, ind) {
+    match surcharge_by(edition, trip, &indicators.miles, a, b, ind) {
         None => Ok(Entries::new(alloc)),
-        Some(step) => { measured_entries(alloc, edition, trip, indicators, forms, a, b, ind, step) }
+        Some(step) => {
+            let span = span_of(edition, trip, a, b, ind, step);
+            measured_entries(alloc, edition, trip, indicators, forms, a, b, &span)
+        }
     }
 }
 
@@ -187,10 +186,12 @@ pub(crate) fn entries_of(
     b: usize,
 ) -> Result<Entries, NoMemory>
     requires indicators { AreIndicators edition.now trip.now indicators.now.rows }
-    requires forms { AreForms edition.now trip.now forms.old.items.items }
+    requires miles { AreMiles edition.now trip.now 0 (count trip.now) indicators.now.miles }
+    requires in_range { AreInRange indicators.now.miles }
+    requires forms { AreForms edition.now trip.now a forms.old.items.items }
     requires within { b ≤ count trip.now }
     ensures entries { IfOk result (λ entries. entries ≡ entries_of edition.now trip.now a b) }
-    ensures forms { OnOk result (AreForms edition.now trip.now forms.new.items.items) }
+    ensures forms { OnOk result (AreForms edition.now trip.now a forms.new.items.items) }
 {
     if a < b && is_plain(trip, a, b) {
         plain_entries(alloc, edition, trip, indicators, forms, a, b)

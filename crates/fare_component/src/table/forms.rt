@@ -1,21 +1,21 @@
 //! What is known of the references of each form of fare.
 
 ghost use Rattle.std.specs.Prelude.{◌≡◌, ◌<◌, ◌≤◌, ℕ, length, slice_index_or, IfOk, IfSome, OnOk};
-ghost use Rattle.fare_trip.specs.Itinerary.{Itinerary};
+ghost use Rattle.fare_trip.specs.Itinerary.{Itinerary, count};
 ghost use Rattle.fare_tariff.specs.Tariff.{Tariff};
 ghost use Rattle.fare_component.specs.declared.table.references.References.{References};
 ghost use Rattle.fare_component.specs.References.{AreForms, IsOfForm};
 
 use crate::table::references::{References, is_of_form};
-use fare_codes::Day;
 use fare_outside::NoMemory;
-use fare_tariff::FareRec;
+use fare_tariff::{Edition, FareRec};
+use fare_trip::Trip;
 use std::alloc::Global;
 
 /// So many forms are kept at once; a trip whose fares have more is priced with some references looked up again.
 const MOST_FORMS: usize = 64;
 
-/// The references of the forms that came so far.
+/// The references of the forms that came so far, all of one day.
 #[derive(Drop)]
 pub(crate) struct Forms {
     pub(crate) items: Vec<References>,
@@ -24,46 +24,88 @@ pub(crate) struct Forms {
 impl Forms {
     /// No form.
     pub(crate) fn new(alloc: Global) -> Forms
-        ensures { (tariff : Tariff) (trip : Itinerary) → AreForms tariff trip result.items.items }
+        ensures { (tariff : Tariff) (trip : Itinerary) (a : ℕ) → AreForms tariff trip a result.items.items }
     {
         Forms {
             items: Vec::new(alloc),
         }
     }
 
-    /// The place of the form of a fare in a direction on a day, where it came already.
-    fn find(&self, fare: &FareRec, back: bool, on: Day) -> Option<usize>
+    /// Goes on to the components from a point: what is known of another day is let go.
+    pub(crate) fn begin(&mut self, trip: &Trip, a: usize)
+        requires { a < count trip.now }
+        ensures { (tariff : Tariff) (other : ℕ) → AreForms tariff trip.now other self.old.items.items
+            → AreForms tariff trip.now a self.new.items.items }
+    {
+        let count = trip.count();
+        prove!(a < count);
+        let on = trip.sector(a + 1).day;
+        if self.items.is_empty() || !self.items[0].form.on.is(on) {
+            self.items.clear();
+        }
+    }
+
+    /// The place of the form of a fare in a direction, where it came already.
+    fn find(&self, fare: &FareRec, back: bool) -> Option<usize>
         ensures within { IfSome result (λ place. place < length self.now.items.items) }
         ensures form { (d : References)
-            → IfSome result (λ place. IsOfForm fare.now back on (slice_index_or self.now.items.items place d).form) }
+            → IfSome result (λ place. IsOfForm fare.now back (slice_index_or self.now.items.items place d).form) }
     {
         for place in 0..self.items.len() {
-            if is_of_form(&self.items[place].form, fare, back, on) {
+            if is_of_form(&self.items[place].form, fare, back) {
                 return Some(place);
             }
         }
         None
     }
 
-    /// The place of the form of a fare in a direction on a day, which comes last where it is new.
-    pub(crate) fn place_of(
+    /// Puts the form of a fare in a direction last, and tells its place. It stands apart since a function makes room
+    /// for what it holds at each call.
+    #[cold]
+    #[inline(never)]
+    fn add(
         &mut self,
+        edition: &Edition,
+        trip: &Trip,
+        a: usize,
         fare: &FareRec,
         back: bool,
-        on: Day,
     ) -> Result<usize, NoMemory>
+        requires within { a < count trip.now }
+        requires forms { AreForms edition.now trip.now a self.old.items.items }
         ensures within { IfOk result (λ place. place < length self.new.items.items) }
         ensures form { (d : References)
-            → IfOk result (λ place. IsOfForm fare.now back on (slice_index_or self.new.items.items place d).form) }
-        ensures right { (tariff : Tariff) (trip : Itinerary) → AreForms tariff trip self.old.items.items
-            → OnOk result (AreForms tariff trip self.new.items.items) }
+            → IfOk result (λ place. IsOfForm fare.now back (slice_index_or self.new.items.items place d).form) }
+        ensures forms { OnOk result (AreForms edition.now trip.now a self.new.items.items) }
     {
-        if let Some(place) = self.find(fare, back, on) {
-            return Ok(place);
-        }
+        let count = trip.count();
+        prove!(a < count);
+        let on = trip.sector(a + 1).day;
         self.items.truncate(MOST_FORMS - 1);
         let place = self.items.len();
-        self.items.push(References::new(fare, back, on))?;
+        self.items.push(References::new(edition, fare, back, on))?;
         Ok(place)
+    }
+
+    /// The place of the form of a fare in a direction, which comes last where it is new.
+    pub(crate) fn place_of(
+        &mut self,
+        edition: &Edition,
+        trip: &Trip,
+        a: usize,
+        fare: &FareRec,
+        back: bool,
+    ) -> Result<usize, NoMemory>
+        requires within { a < count trip.now }
+        requires forms { AreForms edition.now trip.now a self.old.items.items }
+        ensures within { IfOk result (λ place. place < length self.new.items.items) }
+        ensures form { (d : References)
+            → IfOk result (λ place. IsOfForm fare.now back (slice_index_or self.new.items.items place d).form) }
+        ensures forms { OnOk result (AreForms edition.now trip.now a self.new.items.items) }
+    {
+        match self.find(fare, back) {
+            Some(place) => Ok(place),
+            None => self.add(edition, trip, a, fare, back),
+        }
     }
 }

@@ -1,29 +1,37 @@
 ghost use Rattle.std.specs.Prelude.{◌≡◌, ◌<◌, ◌≤◌};
 ghost use Rattle.fare_trip.specs.Itinerary.{count};
 ghost use Rattle.fare_rules.specs.Indicator.{indicator};
+ghost use Rattle.fare_mileage.specs.Miles.{AreInRange, AreMiles};
 ghost use Rattle.fare_component.specs.Shared.{AreIndicators};
 
 use fare_codes::Indicator;
-use fare_points::{MOST_POINTS, indicators_from};
+use fare_mileage::miles_between;
+use fare_points::indicators_from;
+use fare_rules::MOST_POINTS;
 use fare_tariff::Edition;
 use fare_trip::Trip;
 
-/// The global indicators of all spans of a trip, by the points where they begin and end.
+/// The global indicators of all spans of a trip, by the points where they begin and end, and the ticketed point
+/// mileages of its sectors, by their numbers.
 #[derive(Drop)]
 pub(crate) struct Indicators {
     pub(crate) rows: [[Indicator; MOST_POINTS]; MOST_POINTS],
+    pub(crate) miles: [Option<u32>; MOST_POINTS],
 }
 
-/// The indicators of all spans.
+/// The indicators of all spans and the mileages of all sectors.
 pub(crate) fn all_indicators(edition: &Edition, trip: &Trip) -> Indicators
-    ensures { AreIndicators edition.now trip.now result.rows }
+    ensures indicators { AreIndicators edition.now trip.now result.rows }
+    ensures miles { AreMiles edition.now trip.now 0 (count trip.now) result.miles }
+    ensures in_range { AreInRange result.miles }
 {
     let count = trip.count();
     let mut rows = [[Indicator::WH; MOST_POINTS]; MOST_POINTS];
     for i in 0..count {
         rows[i] = indicators_from(edition, trip, i, count);
     }
-    Indicators { rows }
+    let miles = miles_between(edition, trip, 0, count);
+    Indicators { rows, miles }
 }
 
 /// The indicator of a span.

@@ -1,15 +1,20 @@
 //! References between the points of a trip, each looked up once for all fares that share it.
 
-ghost use Rattle.std.specs.Prelude.{◌≡◌, ◌<◌, ◌≤◌, ℕ, None, IfSome, IsTrue, slice_index_or};
-ghost use Rattle.fare_trip.specs.Itinerary.{count};
+ghost use Rattle.std.specs.Prelude.{◌≡◌, ◌+◌, ◌<◌, ◌≤◌, ℕ, None, IfSome, IsTrue, slice_index_or};
+ghost use Rattle.fare_trip.specs.Itinerary.{Itinerary, count};
+ghost use Rattle.fare_tariff.specs.Tariff.{Tariff};
 ghost use Rattle.fare_rules.specs.Base.{reference_between};
+ghost use Rattle.fare_rules.specs.Terms.{terms_of_fare};
+ghost use Rattle.fare_component.specs.declared.table.references.Form.{Form};
 ghost use Rattle.fare_component.specs.Shared.{AreIndicators};
-ghost use Rattle.fare_component.specs.References.{AreReferences, IsOfForm};
+ghost use Rattle.fare_component.specs.References.{AreReferences, IsOfForm, IsReach, IsReference, reference_of};
 
+use crate::conditions::terms_of_fare;
 use crate::table::indicators::{Indicators, indicator_of};
 use fare_codes::{Day, FARE_LIMIT, Nuc, RuleId};
-use fare_points::{MOST_POINTS, reference};
-use fare_tariff::{Edition, FareRec};
+use fare_points::reference;
+use fare_rules::MOST_POINTS;
+use fare_tariff::{Edition, FareRec, Terms};
 use fare_trip::Trip;
 
 /// How many pairs of points a trip can have.
@@ -24,11 +29,23 @@ pub(crate) struct Form {
     pub(crate) on: Day,
 }
 
-/// The references of one form that were looked up so far, in hundredths and by the two points.
+/// How far the references of one form were gone through, for the components from a point on: the greatest of those
+/// that each of them compares and that end before another point, in hundredths.
+#[derive(Clone, Copy)]
+pub(crate) struct Reach {
+    pub(crate) from: usize,
+    pub(crate) past: usize,
+    pub(crate) high: u64,
+}
+
+/// The references of one form that were looked up so far, in hundredths and by the two points, and what the form's rule
+/// asks.
 #[derive(Drop)]
 pub(crate) struct References {
     pub(crate) form: Form,
+    pub(crate) asked: Option<Terms>,
     pub(crate) found: [Option<Option<u64>>; MOST_PAIRS],
+    pub(crate) reach: Reach,
 }
 
 /// Whether two rule fields are the same.
@@ -42,16 +59,15 @@ fn is_same_rule(a: &Option<RuleId>, b: &Option<RuleId>) -> bool
     }
 }
 
-/// Whether a form's references in a direction on a day are those of a fare.
-pub(crate) fn is_of_form(form: &Form, fare: &FareRec, back: bool, on: Day) -> bool
-    ensures { IsTrue result → IsOfForm fare.now back on form.now }
+/// Whether a form's references are those of a fare in a direction.
+pub(crate) fn is_of_form(form: &Form, fare: &FareRec, back: bool) -> bool
+    ensures { IsTrue result → IsOfForm fare.now back form.now }
 {
     form.back == back
         && form.fare.carrier.is(fare.carrier)
         && form.fare.class.is(fare.class)
         && form.fare.kind.is(fare.kind)
         && is_same_rule(&form.fare.rule, &fare.rule)
-        && form.on.is(on)
 }
 
 /// The reference of a form between two points.
@@ -99,11 +115,30 @@ fn amount_of(found: Option<u64>) -> Option<Nuc>
     }
 }
 
+impl Reach {
+    /// From a point, and no further.
+    fn at(a: usize) -> Reach
+        requires { a < MOST_POINTS }
+        ensures from { result.from ≡ a }
+        ensures past { result.past ≡ a + 1 }
+        ensures right { (tariff : Tariff) (trip : Itinerary) (form : Form) → IsReach tariff trip form result }
+    {
+        Reach {
+            from: a,
+            past: a + 1,
+            high: 0,
+        }
+    }
+}
+
 impl References {
     /// None is known yet.
-    pub(crate) fn new(fare: &FareRec, back: bool, on: Day) -> References
-        ensures form { IsOfForm fare.now back on result.form }
+    pub(crate) fn new(edition: &Edition, fare: &FareRec, back: bool, on: Day) -> References
+        ensures form { IsOfForm fare.now back result.form }
+        ensures day { result.form.on ≡ on }
+        ensures asked { result.asked ≡ terms_of_fare edition.now result.form.fare }
         ensures none { (place : ℕ) → slice_index_or result.found place None ≡ None }
+        ensures reach { (tariff : Tariff) (trip : Itinerary) → IsReach tariff trip result.form result.reach }
     {
         References {
             form: Form {
@@ -111,11 +146,30 @@ impl References {
                 back,
                 on,
             },
+            asked: terms_of_fare(edition, fare),
             found: [None; MOST_PAIRS],
+            reach: Reach::at(0),
+        }
+    }
+
+    /// Goes on to a point for the components from another, from there anew where it has come from elsewhere or too far.
+    pub(crate) fn begin(&mut self, a: usize, b: usize)
+        requires rises { a < b }
+        requires within { b ≤ MOST_POINTS }
+        ensures from { self.new.reach.from ≡ a }
+        ensures past { self.new.reach.past ≤ b }
+        ensures form { self.new.form ≡ self.old.form }
+        ensures right { (tariff : Tariff) (trip : Itinerary) → AreReferences tariff trip self.old
+            → AreReferences tariff trip self.new }
+    {
+        if self.reach.from != a || b < self.reach.past {
+            self.reach = Reach::at(a);
         }
     }
 
     /// The hundredths of the reference between two points, looked up.
+    #[cold]
+    #[inline(never)]
     fn looked_up(
         &self,
         edition: &Edition,
@@ -127,14 +181,37 @@ impl References {
         requires indicators { AreIndicators edition.now trip.now indicators.now.rows }
         requires rises { i < j }
         requires within { j ≤ count trip.now }
-        ensures value { result
-            ≡ reference_between edition.now trip.now self.now.form.fare self.now.form.back self.now.form.on i j }
+        ensures value { result ≡ reference_of edition.now trip.now self.now.form i j }
         ensures bound { IfSome result (λ amount. amount < FARE_LIMIT) }
     {
         hundredths_of(reference_between(edition, trip, indicators, &self.form, i, j))
     }
 
+    /// From here on the reference between two points, in hundredths, is known.
+    pub(crate) fn put(
+        &mut self,
+        edition: &Edition,
+        trip: &Trip,
+        i: usize,
+        j: usize,
+        found: Option<u64>,
+    )
+        requires right { AreReferences edition.now trip.now self.old }
+        requires rises { i < j }
+        requires within { j ≤ count trip.now }
+        requires found { IsReference edition.now trip.now self.old.form i j found }
+        ensures form { self.new.form ≡ self.old.form }
+        ensures reach { self.new.reach ≡ self.old.reach }
+        ensures right { AreReferences edition.now trip.now self.new }
+    {
+        let _edition = edition;
+        let count = trip.count();
+        prove!(j <= count);
+        self.found[i * MOST_POINTS + j] = Some(found);
+    }
+
     /// The reference between two points, which is looked up where it isn't known.
+    #[inline(always)]
     pub(crate) fn between(
         &mut self,
         edition: &Edition,
@@ -147,20 +224,19 @@ impl References {
         requires right { AreReferences edition.now trip.now self.old }
         requires rises { i < j }
         requires within { j ≤ count trip.now }
-        ensures value { result
-            ≡ reference_between edition.now trip.now self.old.form.fare self.old.form.back self.old.form.on i j }
+        ensures value { result ≡ reference_of edition.now trip.now self.old.form i j }
         ensures bound { IfSome result (λ amount. amount < FARE_LIMIT) }
         ensures form { self.new.form ≡ self.old.form }
+        ensures reach { self.new.reach ≡ self.old.reach }
         ensures right { AreReferences edition.now trip.now self.new }
     {
         let count = trip.count();
         prove!(j <= count);
-        let place = i * MOST_POINTS + j;
-        if let Some(found) = self.found[place] {
+        if let Some(found) = self.found[i * MOST_POINTS + j] {
             return amount_of(found);
         }
         let found = self.looked_up(edition, trip, indicators, i, j);
-        self.found[place] = Some(found);
+        self.put(edition, trip, i, j, found);
         amount_of(found)
     }
 }

@@ -1,4 +1,6 @@
 ghost use Rattle.std.specs.Prelude.{◌≡◌, ◌≤◌, [], length, slice_index_or, All, IfOk, OnOk};
+ghost use Rattle.fare_trip.specs.Itinerary.{count};
+ghost use Rattle.fare_mileage.specs.Miles.{AreInRange, AreMiles};
 ghost use Rattle.fare_component.specs.References.{AreForms};
 ghost use Rattle.fare_component.specs.Shared.{AreIndicators};
 ghost use Rattle.fare_component.specs.Table.{IsInBounds, row_of};
@@ -40,9 +42,11 @@ impl Row {
         a: usize,
     ) -> Result<Row, NoMemory>
         requires indicators { AreIndicators edition.now trip.now indicators.now.rows }
-        requires forms { AreForms edition.now trip.now forms.old.items.items }
+        requires miles { AreMiles edition.now trip.now 0 (count trip.now) indicators.now.miles }
+        requires in_range { AreInRange indicators.now.miles }
+        requires forms { AreForms edition.now trip.now a forms.old.items.items }
         ensures row { IfOk result (λ row. row ≡ row_of edition.now trip.now a) }
-        ensures forms { OnOk result (AreForms edition.now trip.now forms.new.items.items) }
+        ensures forms { OnOk result (AreForms edition.now trip.now a forms.new.items.items) }
     {
         let mut spans = Vec::new(alloc);
         for b in 0..trip.count() + 1 {

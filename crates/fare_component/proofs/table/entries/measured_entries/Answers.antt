@@ -9,7 +9,7 @@ loop-number-init c =
     let candidates = c.all_candidates-candidates.result in
     record {
       walked = rw c.new-entries.ensures (walked_first tariff trip c.args.a c.args.b candidates
-          (stand_between tariff trip c.args.a c.args.b 2 c.point-from.result c.point-to.result c.args.ind candidates c.point-from.ensures c.point-to.ensures c.requires.indicator c.all_candidates-candidates.ensures.stand));
+          (stand_between tariff trip c.args.a c.args.b 2 c.point-from.result c.point-to.result c.args.span.now.ind candidates c.point-from.ensures c.point-to.ensures c.requires.span.indicator c.all_candidates-candidates.ensures.stand));
       forms = c.requires.forms;
     }
 
@@ -19,7 +19,7 @@ loop-number-preserved c =
     let trip = c.args.trip.now in
     let number = c.in-Some.number in
     let candidates = c.candidates_past-candidates.result in
-    let stand = stand_between tariff trip c.args.a c.args.b (number + 1) c.point-from.result c.point-to.result c.args.ind candidates c.point-from.ensures c.point-to.ensures c.requires.indicator c.candidates_past-candidates.ensures.stand in
+    let stand = stand_between tariff trip c.args.a c.args.b (number + 1) c.point-from.result c.point-to.result c.args.span.now.ind candidates c.point-from.ensures c.point-to.ensures c.requires.span.indicator c.candidates_past-candidates.ensures.stand in
     record {
       walked = rw c.in_ok-keep_entry.ensures.kept (walked_on tariff trip c.args.a c.args.b number c.loop-number.candidates candidates c.loop-number.entries c.loop-number.invariant.walked (sym c.in-Some.ensures) stand c.candidates_past-candidates.ensures.more);
       forms = c.in_ok-keep_entry.ensures.forms;

@@ -1,9 +1,5 @@
-use Rattle.std.proofs.Common.{arith}
-use Rattle.fare_component.proofs.ReferenceLemmas.{references_put}
 use Rattle.fare_component.proofs.table.references.References.between.Goals as goal
 
-pub returns-clause-right : goal.returns-clause-right
-returns-clause-right c =
-    references_put c.args.edition.now c.args.trip.now c.args.self.now c.args.i c.args.j c.looked_up-found.result
-    (omega (arith, c.count-count.ensures.value, c.count-count.ensures.at_most)) c.requires.rises c.requires.within
-    c.requires.right (record { value = c.looked_up-found.ensures.value; bound = c.looked_up-found.ensures.bound })
+pub put-requires-clause-found : goal.put-requires-clause-found
+put-requires-clause-found c =
+    record { value = c.looked_up-found.ensures.value; bound = c.looked_up-found.ensures.bound }

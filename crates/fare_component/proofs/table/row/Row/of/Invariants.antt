@@ -8,5 +8,5 @@ use Rattle.fare_component.proofs.table.row.Row.of.Given as goal
 abbrev pub invariant-loop-b : goal.invariant-loop-b
 invariant-loop-b l = record {
   whole : l.spans.items ≡ map (entries_of l.edition l.trip l.a) (numbers 0 l.b);
-  forms : AreForms l.edition l.trip l.forms.items.items;
+  forms : AreForms l.edition l.trip l.a l.forms.items.items;
 }

@@ -1,0 +1,256 @@
+-- The greatest of the references that a component compares, by the pairs that end before its end and by those that end
+-- there.
+use Rattle.std.proofs.Common.{◌≡◌, refl, ℕ, zero, suc, ◌+◌, ◌-◌, ◌<◌, ◌≤◌, eqb, Bool, true, false, cond, not, ◌&&◌, ◌||◌, List, [], ◌∷◌, ◌++◌, max, ap, sym, ◌∙◌, arith}
+use Rattle.std.specs.Prelude.{Option, Some, None, option_map, filter_map, flat_map}
+use Rattle.std.specs.List.{cons_option, range_with_len}
+use Rattle.std.proofs.lemmas.Bool.{eq-eqb, ne_eqb}
+use Rattle.std.proofs.lemmas.Grind.{flat_map-append}
+use Rattle.std.proofs.lemmas.List.Elements.{filter_map-append}
+use Rattle.fare_codes.specs.declared.day.Day.{Day}
+use Rattle.fare_trip.specs.Itinerary.{Itinerary}
+use Rattle.fare_tariff.specs.Tariff.{Tariff}
+use Rattle.fare_rules.specs.Numbers.{numbers}
+use Rattle.fare_rules.specs.Span.{first_day, is_stopover}
+use Rattle.fare_rules.specs.Base.{Compared, compared_pair, compared_pairs, greatest_amount, is_compared, is_end_or_stopover, reference_between, with_amount}
+use Rattle.fare_rules.specs.UnitPrice.{at_least}
+use Rattle.fare_rules.proofs.NumberLemmas.{numbers_next, numbers_none, numbers_more}
+use Rattle.fare_component.specs.declared.table.references.Form.{Form}
+use Rattle.fare_component.specs.declared.table.references.Reach.{Reach}
+use Rattle.fare_component.specs.References.{IsReach, greatest_inner, greatest_to, inner_from, inner_pair, pair_to, reference_of}
+
+-- an amount that is taken at first is taken at last
+taken_first : (amount high : ℕ) (pairs : List Compared)
+    → max high (greatest_amount amount pairs) ≡ greatest_amount (max amount high) pairs
+taken_first amount high [] = omega arith
+taken_first amount high (found ∷ pairs) =
+    let rest = taken_first amount high pairs in
+    omega (arith, rest)
+
+-- an amount is taken apart from what was found
+apart : (amount : ℕ) (pairs : List Compared) → greatest_amount amount pairs ≡ max amount (greatest_amount 0 pairs)
+apart amount [] = omega arith
+apart amount (found ∷ pairs) =
+    let rest = apart amount pairs in
+    omega (arith, rest)
+
+-- the greatest of two lists
+both : (first second : List Compared)
+    → greatest_amount 0 (first ++ second) ≡ max (greatest_amount 0 first) (greatest_amount 0 second)
+both [] second = omega arith
+both (found ∷ first) second =
+    let rest = both first second in
+    omega (arith, rest)
+
+one_taken : (amount i j : ℕ) (found : Option ℕ) (pairs : List Compared)
+    → greatest_amount amount (cons_option (option_map (with_amount i j) found) pairs)
+    ≡ greatest_amount (at_least amount found) pairs
+one_taken amount i j None pairs = refl
+one_taken amount i j (Some high) pairs = taken_first amount high pairs
+
+-- what is found for one pair is put before others, or behind them
+put_first : (found : Option Compared) (pairs : List Compared)
+    → greatest_amount 0 (cons_option found pairs)
+    ≡ max (greatest_amount 0 (cons_option found [])) (greatest_amount 0 pairs)
+put_first None pairs = omega arith
+put_first (Some found) pairs = omega arith
+
+module _ (p : ℕ → ℕ → Option Compared) where
+  -- what is found for the pairs that begin at a point and end before another
+  abbrev row : ℕ → ℕ → List Compared
+  row past i = filter_map (p i) (numbers (i + 1) past)
+
+  -- a row that is one longer
+  row_more : (i j : ℕ) → i < j
+      → greatest_amount 0 (row (j + 1) i)
+      ≡ max (greatest_amount 0 (row j i)) (greatest_amount 0 (cons_option (p i j) []))
+  row_more i j h =
+      ap (λ l. greatest_amount 0 (filter_map (p i) l)) (numbers_more (i + 1) j (omega arith))
+      ∙ ap (greatest_amount 0) (filter_map-append (p i) (numbers (i + 1) j) (j ∷ []))
+      ∙ both (row j i) (cons_option (p i j) [])
+
+  -- rows that are one longer have what they had and one column more
+  rows_more : (first n j : ℕ) → first + n ≤ j
+      → greatest_amount 0 (flat_map (row (j + 1)) (range_with_len first n))
+      ≡ max (greatest_amount 0 (flat_map (row j) (range_with_len first n)))
+      (greatest_amount 0 (filter_map (λ i. p i j) (range_with_len first n)))
+  rows_more first zero j h = omega arith
+  rows_more first (suc n) j h =
+      let rest = rows_more (first + 1) n j (omega arith) in
+      let here = row_more first j (omega arith) in
+      let long = both (row (j + 1) first) (flat_map (row (j + 1)) (range_with_len (first + 1) n)) in
+      let short = both (row j first) (flat_map (row j) (range_with_len (first + 1) n)) in
+      let put = put_first (p first j) (filter_map (λ i. p i j) (range_with_len (first + 1) n)) in
+      omega (arith, rest, here, long, short, put)
+
+  -- the row of the last point is empty
+  last_row : (first j : ℕ) → first ≤ j
+      → greatest_amount 0 (flat_map (row (j + 1)) (numbers first (j + 1)))
+      ≡ greatest_amount 0 (flat_map (row (j + 1)) (numbers first j))
+  last_row first j h =
+      let none : row (j + 1) j ≡ [] = ap (filter_map (p j)) (numbers_none (j + 1) (j + 1) (omega arith)) in
+      let tail : greatest_amount 0 (flat_map (row (j + 1)) (j ∷ [])) ≡ 0 = ap (λ l. greatest_amount 0 (l ++ [])) none in
+      let front = both (flat_map (row (j + 1)) (numbers first j)) (flat_map (row (j + 1)) (j ∷ [])) in
+      ap (λ l. greatest_amount 0 (flat_map (row (j + 1)) l)) (numbers_more first j h)
+      ∙ ap (greatest_amount 0) (flat_map-append (row (j + 1)) (numbers first j) (j ∷ []))
+      ∙ omega (arith, tail, front)
+
+-- tests that agree on a range find the same there
+row_same : (f g : ℕ → Option Compared) (first n : ℕ) → ((k : ℕ) → first ≤ k → k < first + n → f k ≡ g k)
+    → filter_map f (range_with_len first n) ≡ filter_map g (range_with_len first n)
+row_same f g first zero h = refl
+row_same f g first (suc n) h =
+    let rest : filter_map f (range_with_len (first + 1) n) ≡ filter_map g (range_with_len (first + 1) n) =
+    row_same f g (first + 1) n (λ k low high. h k (omega arith) (omega arith)) in
+    let here : f first ≡ g first = h first (omega arith) (omega arith) in
+    ap (λ o. cons_option o (filter_map f (range_with_len (first + 1) n))) here
+    ∙ ap (cons_option (g first)) rest
+
+rows_same : (p q : ℕ → ℕ → Option Compared) (past first n : ℕ)
+    → ((i j : ℕ) → first ≤ i → i < j → j < past → p i j ≡ q i j)
+    → flat_map (row p past) (range_with_len first n) ≡ flat_map (row q past) (range_with_len first n)
+rows_same p q past first zero h = refl
+rows_same p q past first (suc n) h =
+    let rest = rows_same p q past (first + 1) n (λ i j low rises high. h i j (omega arith) rises high) in
+    let here = row_same (p first) (q first) (first + 1) (past - (first + 1)) (λ j low high. h first j (omega arith) (omega arith) (omega arith)) in
+    ap (λ l. l ++ flat_map (row p past) (range_with_len (first + 1) n)) here
+    ∙ ap (λ l. row q past first ++ l) rest
+
+-- nothing is found for pairs that end at no stopover
+stopping : (stop : Bool) (test : ℕ → Bool) (found : ℕ → Option ℕ) (j : ℕ) (points : List ℕ)
+    → greatest_amount 0 (filter_map (λ i. option_map (with_amount i j) (cond (stop && test i) (found i) None)) points)
+    ≡ cond stop (greatest_amount 0 (filter_map (λ i. option_map (with_amount i j) (cond (test i) (found i) None)) points)) 0
+stopping true test found j points = refl
+stopping false test found j [] = refl
+stopping false test found j (i ∷ points) = stopping false test found j points
+
+-- a pair that ends before the end of a component isn't the whole of it, and is compared where its end is a stopover
+tests_before : (first start stop : Bool) → (not (first && false) && start && (false || stop)) ≡ (stop && start)
+tests_before true true true = refl
+tests_before true true false = refl
+tests_before true false true = refl
+tests_before true false false = refl
+tests_before false true true = refl
+tests_before false true false = refl
+tests_before false false true = refl
+tests_before false false false = refl
+
+-- one that ends there and begins behind the start is compared where its start is a stopover
+tests_there : (start stop : Bool) → (not (false && true) && start && (true || stop)) ≡ start
+tests_there true stop = refl
+tests_there false stop = refl
+
+module _ (tariff : Tariff) (trip : Itinerary) (form : Form) (a : ℕ) where
+  -- the pair of two points is taken, and then those of the points behind the first
+  pub pair_taken : (amount i j : ℕ) → i < j
+      → greatest_amount amount (filter_map (pair_to tariff trip form a j) (numbers i j))
+      ≡ greatest_amount (at_least amount (cond (is_end_or_stopover trip a i) (reference_of tariff trip form i j) None))
+      (filter_map (pair_to tariff trip form a j) (numbers (i + 1) j))
+  pair_taken amount i j h =
+      ap (λ l. greatest_amount amount (filter_map (pair_to tariff trip form a j) l)) (numbers_next i j h)
+      ∙ one_taken amount i j (cond (is_end_or_stopover trip a i) (reference_of tariff trip form i j) None)
+      (filter_map (pair_to tariff trip form a j) (numbers (i + 1) j))
+
+  -- behind the last point no pair is left
+  pub pairs_taken : (amount i j : ℕ) → j ≤ i
+      → greatest_amount amount (filter_map (pair_to tariff trip form a j) (numbers i j)) ≡ amount
+  pairs_taken amount i j h =
+      ap (λ l. greatest_amount amount (filter_map (pair_to tariff trip form a j) l)) (numbers_none i j h)
+
+  -- one point further there are the pairs that end at that point, where it is a stopover
+  more : (j : ℕ) → a ≤ j
+      → greatest_inner tariff trip form a (j + 1)
+      ≡ max (greatest_inner tariff trip form a j) (cond (is_stopover trip j) (greatest_to tariff trip form a a j) 0)
+  unfolding greatest_inner greatest_to
+  more j h =
+      last_row (inner_pair tariff trip form a) a j h
+      ∙ rows_more (inner_pair tariff trip form a) a (j - a) j (omega arith)
+      ∙ ap (max (greatest_amount 0 (flat_map (row (inner_pair tariff trip form a) j) (numbers a j))))
+      (stopping (is_stopover trip j) (is_end_or_stopover trip a) (λ i. reference_of tariff trip form i j) j (numbers a j))
+
+  pub further : (j : ℕ) → a < j → is_stopover trip j ≡ true
+      → greatest_inner tariff trip form a (j + 1)
+      ≡ max (greatest_inner tariff trip form a j) (greatest_to tariff trip form a a j)
+  further j h stop =
+      more j (omega arith)
+      ∙ ap (λ t. max (greatest_inner tariff trip form a j) (cond t (greatest_to tariff trip form a a j) 0)) stop
+
+  pub no_further : (j : ℕ) → a < j → is_stopover trip j ≡ false
+      → greatest_inner tariff trip form a (j + 1) ≡ greatest_inner tariff trip form a j
+  no_further j h stop =
+      let e = more j (omega arith) ∙ ap (λ t. max (greatest_inner tariff trip form a j) (cond t (greatest_to tariff trip form a a j) 0)) stop in
+      omega (arith, e)
+
+  -- at first there are none
+  none_inner : greatest_inner tariff trip form a (a + 1) ≡ 0
+  unfolding greatest_inner
+  none_inner =
+      last_row (inner_pair tariff trip form a) a a (omega arith)
+      ∙ ap (λ l. greatest_amount 0 (flat_map (row (inner_pair tariff trip form a) (a + 1)) l)) (numbers_none a a (omega arith))
+
+  pub begun : (reach : Reach) → reach.from ≡ a → reach.past ≡ a + 1 → reach.high ≡ 0 → IsReach tariff trip form reach
+  begun reach from past high =
+      let value : 0 ≡ greatest_inner tariff trip form reach.from reach.past =
+      sym none_inner ∙ ap (greatest_inner tariff trip form a) (sym past)
+      ∙ ap (λ first. greatest_inner tariff trip form first reach.past) (sym from) in
+      record {
+        rises = omega arith;
+        value = high ∙ value;
+        bound = omega arith;
+      }
+
+  module _ (b : ℕ) (day : form.on ≡ first_day trip a) where
+    -- what is compared by a test that is known
+    by_test : (i j : ℕ) (test : Bool) → is_compared trip a b i j ≡ test
+        → compared_pair tariff trip a b form.fare form.back i j
+        ≡ option_map (with_amount i j) (cond test (reference_of tariff trip form i j) None)
+    by_test i j test e =
+        ap (λ (on : Day). option_map (with_amount i j) (cond (is_compared trip a b i j) (reference_between tariff trip form.fare form.back on i j) None)) (sym day)
+        ∙ ap (λ t. option_map (with_amount i j) (cond t (reference_of tariff trip form i j) None)) e
+
+    before : (i j : ℕ) → j < b
+        → compared_pair tariff trip a b form.fare form.back i j ≡ inner_pair tariff trip form a i j
+    before i j h =
+        let other : eqb j b ≡ false = ne_eqb j b (λ e. omega arith) in
+        by_test i j (is_stopover trip j && is_end_or_stopover trip a i)
+        (ap (λ end. not (eqb i a && end) && is_end_or_stopover trip a i && (end || is_stopover trip j)) other
+        ∙ tests_before (eqb i a) (is_end_or_stopover trip a i) (is_stopover trip j))
+
+    there : (i : ℕ) → a < i
+        → compared_pair tariff trip a b form.fare form.back i b ≡ pair_to tariff trip form a b i
+    there i h =
+        let other : eqb i a ≡ false = ne_eqb i a (λ e. omega arith) in
+        let same : eqb b b ≡ true = eq-eqb b b refl in
+        by_test i b (is_end_or_stopover trip a i)
+        (ap (λ end. not (eqb i a && end) && is_end_or_stopover trip a i && (end || is_stopover trip b)) same
+        ∙ ap (λ first. not (first && true) && is_end_or_stopover trip a i && (true || is_stopover trip b)) other
+        ∙ tests_there (is_end_or_stopover trip a i) (is_stopover trip b))
+
+    whole : compared_pair tariff trip a b form.fare form.back a b ≡ None
+    whole =
+        let first : eqb a a ≡ true = eq-eqb a a refl in
+        let same : eqb b b ≡ true = eq-eqb b b refl in
+        by_test a b false
+        (ap (λ end. not (eqb a a && end) && is_end_or_stopover trip a a && is_end_or_stopover trip b b) same
+        ∙ ap (λ start. not (start && true) && is_end_or_stopover trip a a && is_end_or_stopover trip b b) first)
+
+    column : a < b
+        → greatest_amount 0 (filter_map (λ i. compared_pair tariff trip a b form.fare form.back i b) (numbers a b))
+        ≡ greatest_to tariff trip form a (a + 1) b
+    unfolding greatest_to
+    column h =
+        ap (λ l. greatest_amount 0 (filter_map (λ i. compared_pair tariff trip a b form.fare form.back i b) l)) (numbers_next a b h)
+        ∙ ap (λ o. greatest_amount 0 (cons_option o (filter_map (λ i. compared_pair tariff trip a b form.fare form.back i b) (numbers (a + 1) b)))) whole
+        ∙ ap (greatest_amount 0) (row_same (λ i. compared_pair tariff trip a b form.fare form.back i b) (pair_to tariff trip form a b) (a + 1) (b - (a + 1)) (λ i low high. there i (omega arith)))
+
+    -- what a component compares is what ends before its end, and what ends there and begins behind its start
+    pub of_component : (amount : ℕ) → a < b
+        → greatest_amount amount (compared_pairs tariff trip a b form.fare form.back)
+        ≡ max (max amount (greatest_inner tariff trip form a b)) (greatest_to tariff trip form a (a + 1) b)
+    unfolding compared_pairs greatest_inner
+    of_component amount h =
+        let p = compared_pair tariff trip a b form.fare form.back in
+        let rows : greatest_amount 0 (flat_map (row p b) (numbers a b)) ≡ greatest_amount 0 (flat_map (inner_from tariff trip form a b) (numbers a b)) =
+        ap (greatest_amount 0) (rows_same p (inner_pair tariff trip form a) b a (b - a) (λ i j low rises high. before i j high)) in
+        let all = rows_more p a (b - a) b (omega arith) in
+        let last = column h in
+        apart amount (compared_pairs tariff trip a b form.fare form.back) ∙ omega (arith, all, rows, last)

@@ -1,0 +1,39 @@
+-- What a table computes once for a span, for all fares that are tried there.
+use Rattle.std.specs.Prelude.{◌≡◌, ℕ, ◌≤◌, Bool, true, false, not, ◌&&◌, Option, Some, None, length, nat_le, bytes_eq}
+use Rattle.std.specs.List.{list_all}
+use Rattle.fare_codes.specs.declared.cabin.Cabin.{Cabin}
+use Rattle.fare_codes.specs.declared.carrier.Carrier.{Carrier}
+use Rattle.fare_trip.specs.Itinerary.{Itinerary}
+use Rattle.fare_tariff.specs.Tariff.{Tariff}
+use Rattle.fare_rules.specs.declared.limits.TheConstants.{MOST_SURCHARGE}
+use Rattle.fare_rules.specs.Indicator.{indicator}
+use Rattle.fare_rules.specs.Span.{holds_surface, sectors, stopovers, transfers}
+use Rattle.fare_rules.specs.ComponentAmount.{covers_cabin, is_carried_by, rank, repeats_city, span_surcharge}
+use Rattle.fare_component.specs.declared.table.span.Span.{Span}
+
+-- the one carrier of some sectors, where they have one, is a carrier
+abbrev pub is_carrier : Option Carrier → Carrier → Bool
+is_carrier None carrier = false
+is_carrier (Some one) carrier = bytes_eq one carrier
+
+-- a class covers the cabins of a span where its rank is at least this
+abbrev pub IsGreatestRank : Itinerary → ℕ → ℕ → ℕ → Type 0
+IsGreatestRank trip a b greatest =
+    (class : Cabin) → list_all (covers_cabin trip class) (sectors a b) ≡ nat_le greatest (rank class)
+
+-- all sectors of a span are by a carrier where it is this
+abbrev pub IsOneCarrier : Itinerary → ℕ → ℕ → Option Carrier → Type 0
+IsOneCarrier trip a b one =
+    (carrier : Carrier) → list_all (is_carried_by trip carrier) (sectors a b) ≡ is_carrier one carrier
+
+-- a span from a point to another can be a component, its mileage lets fares be used, and it has this indicator,
+-- surcharge, number of stopovers and of transfers, greatest rank of a cabin and carrier
+pub record IsSpan (tariff : Tariff) (trip : Itinerary) (a b : ℕ) (span : Span) : Type 0 where
+  pub plain : (not (holds_surface trip a b) && not (repeats_city trip a b)) ≡ true
+  pub indicator : span.ind ≡ indicator tariff trip a b
+  pub measured : span_surcharge tariff trip a b ≡ Some span.step
+  pub step : span.step ≤ MOST_SURCHARGE
+  pub stops : span.stops ≡ length (stopovers trip a b)
+  pub transfers : span.transfers ≡ length (transfers trip a b)
+  pub rank : IsGreatestRank trip a b span.rank
+  pub carrier : IsOneCarrier trip a b span.carrier
