@@ -52,7 +52,7 @@ start_by trip (x ∷ xs) next rest =
     ap (λ (p : Part). cond (leb (length (x ∷ xs) + 1) 1) 0 (begin_after trip p.end)) (front_part (x ∷ xs) (next ∷ rest) (length (x ∷ xs) + 1 - 1) (omega arith) (omega arith))
 
 -- tests that agree at each number of a range agree about the range
-any_same : (f g : ℕ → Bool) (first n : ℕ) → ((k : ℕ) → first ≤ k → k < first + n → f k ≡ g k) → list_any f (range_with_len first n) ≡ list_any g (range_with_len first n)
+pub any_same : (f g : ℕ → Bool) (first n : ℕ) → ((k : ℕ) → first ≤ k → k < first + n → f k ≡ g k) → list_any f (range_with_len first n) ≡ list_any g (range_with_len first n)
 any_same f g first zero h = refl
 any_same f g first (suc n) h =
     rw (h first (omega arith) (omega arith), any_same f g (first + 1) n (λ k low high. h k (omega arith) (omega arith))) refl
@@ -63,7 +63,7 @@ greatest_same xs ys first (suc n) h =
     rw (h first (omega arith) (omega arith), greatest_same xs ys (first + 1) n (λ k low high. h k (omega arith) (omega arith))) refl
 
 -- a part crosses a unit of a list where it does in a front of the list
-same_unit_front : (front rest : List Part) (a b : ℕ) → 1 ≤ a → a ≤ length front → 1 ≤ b → b ≤ length front → is_same_unit (front ++ rest) a b ≡ is_same_unit front a b
+pub same_unit_front : (front rest : List Part) (a b : ℕ) → 1 ≤ a → a ≤ length front → 1 ≤ b → b ≤ length front → is_same_unit (front ++ rest) a b ≡ is_same_unit front a b
 same_unit_front front rest a b al ah bl bh = rw (front_unit front rest a al ah, front_unit front rest b bl bh) refl
 
 begun_front : (front rest : List Part) (b c : ℕ) → 1 ≤ b → b ≤ length front → 1 ≤ c → c ≤ length front → is_begun_before (front ++ rest) b c ≡ is_begun_before front b c

@@ -11,6 +11,7 @@ pub mod Tests
 pub mod Breaks
 pub mod Turning
 pub mod Shut
+pub mod Barred
 pub mod Onward
 pub mod Known
 pub mod Walk

@@ -21,6 +21,7 @@ pub use best::plain::{is_fruitless, plain_best};
 pub use best::quoter::{PlainQuoter, Quoter};
 pub use construction::{Construction, MOST_PARTS};
 pub use fare_rules::{Broken, Part, UnitKind, UnitSheet};
+pub use parts::countries::lie_together;
 pub use parts::direction::{is_back, priced_back};
 pub use parts::places::{part_at, start_of};
 pub use prices::circle::circle_minimum;
@@ -28,7 +29,8 @@ pub use prices::onward::{is_homeward, is_shut_unit, is_stranded, must_go_on};
 pub use prices::price::MOST_UNIT_PRICE;
 pub use prices::priced::{first_parts_advance, lawful_price, price_is_of_unbroken};
 pub use prices::sheet::{unit_count, unit_sheet};
-pub use prices::shut::{is_priceless, is_priceless_by, shut_price, shut_price_by};
+pub use prices::shut::{is_priceless, is_untimely, shut_price};
+pub use rules::combine::is_uncombined;
 
 #[cfg(test)]
 mod tests;

@@ -27,8 +27,8 @@ fn is_same_country(a: Option<Country>, b: Option<Country>) -> bool
     }
 }
 
-/// Whether two cities lie in one country.
-pub(crate) fn lie_together(edition: &Edition, a: City, b: City) -> bool
+/// Whether two cities lie in one country; false where the edition has no record of one of them.
+pub fn lie_together(edition: &Edition, a: City, b: City) -> bool
     ensures { result ≡ lie_together edition.now a b }
 {
     is_same_country(country(edition, a), country(edition, b))

@@ -4,6 +4,7 @@ ghost use Rattle.std.specs.Prelude.{◌≡◌, ◌≤◌, length};
 ghost use Rattle.std.specs.List.{list_any};
 ghost use Rattle.fare_rules.specs.UnitRules.{are_unit_mates, are_end_mates, is_misfit, has_misfit, is_clash, clashes};
 ghost use Rattle.fare_rules.specs.UnitRules.{clashed};
+ghost use Rattle.fare_units.specs.Barred.{is_uncombined};
 
 use crate::construction::MOST_PARTS;
 use crate::parts::fares::fare_of;
@@ -65,6 +66,15 @@ fn clashes(edition: &Edition, parts: &[Part], k: usize) -> bool
     ensures { result ≡ clashes edition.now parts.now k }
 {
     (1..k).any(|j| is_clash(edition, parts, k, j))
+}
+
+/// Whether the last of some parts is not combinable with an earlier one: in its unit, or end on end with one of another
+/// unit.
+#[tactic(auto, unfolding(crate::specs::Barred::is_uncombined))]
+pub fn is_uncombined(edition: &Edition, parts: &[Part]) -> bool
+    ensures { result ≡ is_uncombined edition.now parts.now }
+{
+    has_misfit(edition, parts, parts.len()) || clashes(edition, parts, parts.len())
 }
 
 /// The first part that is not combinable end on end with an earlier part of another unit.
