@@ -28,7 +28,7 @@ use Rattle.fare_rules.proofs.OneWayLemmas.{one_way_unit}
 use Rattle.fare_rules.proofs.MemberLemmas.{Member}
 use Rattle.fare_bounds.specs.Covers.{lesser, hundredths_of}
 use Rattle.fare_branch.specs.Costs.{or_nothing, fare_least, part_least, unit_least}
-use Rattle.fare_branch.specs.Endings.{IsUpTo}
+use Rattle.fare_branch.specs.Homing.{IsUpTo}
 use Rattle.fare_branch.proofs.SumLemmas.{sum_up_members, kept_member}
 
 true_false : true ≡ false → ⊥

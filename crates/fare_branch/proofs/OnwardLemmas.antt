@@ -4,7 +4,7 @@ use Rattle.std.proofs.Common.{◌≡◌, ℕ, zero, suc, ◌+◌, ◌-◌, ◌<�
 use Rattle.std.specs.Prelude.{bytes_eq, is_some}
 use Rattle.std.specs.List.{list_any}
 use Rattle.std.proofs.Math.ListN.{length-append}
-use Rattle.std.proofs.lemmas.Bool.{cases_Bool, cases_lt, or_cases, and_parts, lt-ltb, lt-leb, not-true, ne_eqb}
+use Rattle.std.proofs.lemmas.Bool.{cases_Bool, cases_lt, or_cases, and_parts, lt-ltb, lt-leb, not-true, eqb-true, ne_eqb}
 use Rattle.std.proofs.lemmas.List.{append-nil}
 use Rattle.fare_codes.specs.declared.city.City.{City}
 use Rattle.fare_trip.specs.Itinerary.{Itinerary, count}
@@ -217,8 +217,16 @@ module _ (tariff : Tariff) (trip : Itinerary) (front rest : List Part) (price : 
       (both_true (ltb (length (x ∷ xs)) 2) (list_any (is_in_country tariff trip (start_city trip front x)) (points_behind trip front)) (lt-ltb (length (x ∷ xs)) 2 near.0)
       (any_at (is_in_country tariff trip (start_city trip front x)) (end_of (front ++ rest) j) (points_behind trip front) m near.1))
 
-  pub comes_home_behind : (x : ℕ) (xs : List ℕ) → own front unit ≡ x ∷ xs → must_go_on tariff trip front (x ∷ xs) ≡ true → may_come_home tariff trip front (x ∷ xs) ≡ true
-  comes_home_behind x xs e must =
+  -- the last part of a unit that must go on is behind the first parts, and ends near where the unit begins
+  abbrev pub LastIsBehind : ℕ → List ℕ → ℕ → Type 0
+  LastIsBehind x xs last =
+      (length front < last) × (last ≤ length (front ++ rest)) × (unit_of (front ++ rest) last ≡ unit) × EndsNear x xs last
+
+  own_unit : (j : ℕ) → Member j (own_behind tariff trip front rest unit) → unit_of (front ++ rest) j ≡ unit
+  own_unit j m = eqb-true (unit_of (front ++ rest) j) unit (kept_member (is_own (front ++ rest) unit) (length front + 1) (length rest) j m).2
+
+  pub last_is_behind : (x : ℕ) (xs : List ℕ) → own front unit ≡ x ∷ xs → must_go_on tariff trip front (x ∷ xs) ≡ true → LastIsBehind x xs (last_of (own (front ++ rest) unit))
+  last_is_behind x xs e must =
       let P : List ℕ → Type 0 = λ ys. AreFirst tariff trip front rest ys in
       let Q : List ℕ → Type 0 = λ ys. own (front ++ rest) unit ≡ ys ++ own_behind tariff trip front rest unit in
       let first : AreFirst tariff trip front rest (x ∷ xs) = subst P e (own_are_first tariff trip front rest unit) in
@@ -226,12 +234,21 @@ module _ (tariff : Tariff) (trip : Itinerary) (front rest : List Part) (price : 
       let behind = goes_behind x xs (own_behind tariff trip front rest unit) first two must in
       let R : List ℕ → Type 0 = λ ys. own (front ++ rest) unit ≡ (x ∷ xs) ++ ys in
       let whole : own (front ++ rest) unit ≡ (x ∷ xs) ++ behind.0 ∷ behind.1 = subst R behind.2 two in
+      let last : last_of (own (front ++ rest) unit) ≡ last_of (behind.0 ∷ behind.1) = ap last_of whole ∙ last_append (x ∷ xs) behind.0 behind.1 in
       let S : List ℕ → Type 0 = λ ys. Member (last_of (behind.0 ∷ behind.1)) ys in
-      let place = place_behind (last_of (behind.0 ∷ behind.1)) (subst S (sym behind.2) (last_one behind.0 behind.1)) in
+      let m : Member (last_of (behind.0 ∷ behind.1)) (own_behind tariff trip front rest unit) = subst S (sym behind.2) (last_one behind.0 behind.1) in
+      let place = place_behind (last_of (behind.0 ∷ behind.1)) m in
+      subst (LastIsBehind x xs) (sym last) (place.0, place.1, own_unit (last_of (behind.0 ∷ behind.1)) m, ends_near x xs behind.0 behind.1 first whole)
+
+  pub comes_home_behind : (x : ℕ) (xs : List ℕ) → own front unit ≡ x ∷ xs → must_go_on tariff trip front (x ∷ xs) ≡ true → may_come_home tariff trip front (x ∷ xs) ≡ true
+  comes_home_behind x xs e must =
+      let P : List ℕ → Type 0 = λ ys. AreFirst tariff trip front rest ys in
+      let first : AreFirst tariff trip front rest (x ∷ xs) = subst P e (own_are_first tariff trip front rest unit) in
       let here = first x (inl refl) in
       let low_x : 1 ≤ x = here.0 in
       let high_x : x ≤ length front = here.1 in
-      near_comes x xs (last_of (behind.0 ∷ behind.1)) (point_behind (last_of (behind.0 ∷ behind.1)) (omega arith) place.0 place.1) (ends_near x xs behind.0 behind.1 first whole)
+      let last = last_is_behind x xs e must in
+      near_comes x xs (last_of (own (front ++ rest) unit)) (point_behind (last_of (own (front ++ rest) unit)) (omega arith) last.0 last.1) last.3
 
   -- a first part of a unit with a part behind is priced back where it heads home
   back_is : (x : ℕ) (xs : List ℕ) (k : ℕ) (more : List ℕ) (j : ℕ) → AreFirst tariff trip front rest (x ∷ xs) → own (front ++ rest) unit ≡ (x ∷ xs) ++ k ∷ more → 1 ≤ j → j ≤ length front → length front < last_of (k ∷ more) → is_back_in tariff trip (front ++ rest) ((x ∷ xs) ++ k ∷ more) j ≡ heads_home tariff trip front (x ∷ xs) j

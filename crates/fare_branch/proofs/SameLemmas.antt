@@ -23,7 +23,7 @@ use Rattle.fare_rules.proofs.MemberLemmas.{Member}
 use Rattle.fare_units.proofs.NextLemmas.{front_part, front_start}
 
 -- tests and amounts that are the same at each member of a list
-any_eq : (f g : ℕ → Bool) (xs : List ℕ) → ((k : ℕ) → Member k xs → f k ≡ g k) → list_any f xs ≡ list_any g xs
+pub any_eq : (f g : ℕ → Bool) (xs : List ℕ) → ((k : ℕ) → Member k xs → f k ≡ g k) → list_any f xs ≡ list_any g xs
 any_eq f g [] h = refl
 any_eq f g (x ∷ xs) h = rw (h x (inl refl), any_eq f g xs (λ k m. h k (inr m))) refl
 
@@ -44,7 +44,7 @@ filter_eq : (p q : ℕ → Bool) (xs : List ℕ) → ((k : ℕ) → p k ≡ q k)
 filter_eq p q [] h = refl
 filter_eq p q (x ∷ xs) h = rw (h x, filter_eq p q xs h) refl
 
-last_member : (x : ℕ) (xs : List ℕ) → Member (last_of (x ∷ xs)) (x ∷ xs)
+pub last_member : (x : ℕ) (xs : List ℕ) → Member (last_of (x ∷ xs)) (x ∷ xs)
 last_member x [] = inl refl
 last_member x (y ∷ ys) = inr (last_member y ys)
 
@@ -61,7 +61,7 @@ module _ (tariff : Tariff) (trip : Itinerary) (front rest : List Part) where
   pub end_same : (k : ℕ) → 1 ≤ k → k ≤ length front → end_city trip (front ++ rest) k ≡ end_city trip front k
   end_same k low high = ap (λ (p : Part). point trip p.end) (front_part front rest k low high)
 
-  fare_same : (k : ℕ) → 1 ≤ k → k ≤ length front → fare_of tariff (front ++ rest) k ≡ fare_of tariff front k
+  pub fare_same : (k : ℕ) → 1 ≤ k → k ≤ length front → fare_of tariff (front ++ rest) k ≡ fare_of tariff front k
   fare_same k low high = ap (λ (p : Part). fare_at tariff p.fare) (front_part front rest k low high)
 
   pub ow_same : (k : ℕ) → 1 ≤ k → k ≤ length front → is_ow tariff (front ++ rest) k ≡ is_ow tariff front k
@@ -77,7 +77,7 @@ module _ (tariff : Tariff) (trip : Itinerary) (front rest : List Part) where
   pub holds_same : (own : List ℕ) → AreFirst own → holds_ow tariff (front ++ rest) own ≡ holds_ow tariff front own
   holds_same own first = any_eq (is_ow tariff (front ++ rest)) (is_ow tariff front) own (λ k m. ow_same k (first k m).0 (first k m).1)
 
-  hr_same : (own : List ℕ) → AreFirst own → is_hr tariff (front ++ rest) own ≡ is_hr tariff front own
+  pub hr_same : (own : List ℕ) → AreFirst own → is_hr tariff (front ++ rest) own ≡ is_hr tariff front own
   unfolding is_hr
   hr_same own first = ap not (holds_same own first)
 

@@ -6,8 +6,12 @@ pub mod Floors
 pub mod Refusals
 pub mod Beginnings
 pub mod Costs
-pub mod Endings
+pub mod Homing
+pub mod Rows
+pub mod Stack
 pub mod Walked
 pub mod Search
 pub mod Dive
 pub mod LeastPrice
+pub mod Legs
+pub mod HomingRows

@@ -12,7 +12,7 @@ ghost use Rattle.fare_branch.specs.Costs.{or_nothing, fare_least, part_least, un
 use fare_bounds::{COST_LIMIT, least_cost};
 use fare_component::{Entry, Table};
 use fare_rules::Part;
-use fare_units::{MOST_PARTS, part_at, shut_price_by, start_of};
+use fare_units::{MOST_PARTS, part_at, shut_price, start_of};
 
 /// What a unit costs at least is no more than this: as much as `MOST_PARTS` parts.
 pub(crate) const UNIT_LIMIT: u64 = 32_000_000_000;
@@ -86,7 +86,7 @@ fn unit_floor(table: &Table, parts: &[Part], unit: usize) -> u64
     ensures value { result ≡ unit_floor table.now.edition table.now.trip parts.now unit }
     ensures bound { result ≤ UNIT_LIMIT }
 {
-    match shut_price_by(table, parts, unit) {
+    match shut_price(table, parts, unit) {
         None => unit_least(table, parts, unit),
         Some(price) => price,
     }

@@ -2,12 +2,12 @@
 //! construction is found or some hundred lists of parts were seen. It is tried first, so that a price is known early.
 
 ghost use Rattle.std.specs.Prelude.{IfSome};
-ghost use Rattle.fare_branch.specs.Endings.{AreEndings};
+ghost use Rattle.fare_branch.specs.Rows.{AreHomingsOf};
 ghost use Rattle.fare_branch.specs.Floors.{IsMadeWith};
 ghost use Rattle.fare_branch.specs.Search.{BeginsIn};
 
 use crate::diving::{first_step, least_step};
-use crate::endings::Endings;
+use crate::homing::Homing;
 use crate::partial::Partial;
 use crate::pieces::Piece;
 use fare_component::Table;
@@ -37,13 +37,13 @@ fn whole(table: &Table, piece: Piece, front: &Partial) -> Option<Partial>
 #[cycle(descend)]
 fn descend(
     table: &Table,
-    endings: &Endings,
+    homing: &Homing,
     piece: Piece,
     front: &Partial,
     depth: u32,
     lists: &mut u32,
 ) -> Option<Partial>
-    requires endings { AreEndings table.now.edition table.now.trip endings.now }
+    requires homing { AreHomingsOf table.now.edition table.now.trip homing.now }
     requires begins { BeginsIn table.now.edition table.now.trip piece front.now }
     requires made { IsMadeWith table.now front.now }
     ensures { IfSome result (BeginsIn table.now.edition table.now.trip piece) }
@@ -60,9 +60,9 @@ fn descend(
             return None;
         }
         *lists -= 1;
-        let (longer, floor) = least_step(table, endings, front, from)?;
+        let (longer, floor) = least_step(table, homing, front, from)?;
         from = floor.saturating_add(1);
-        let found = descend(table, endings, piece, &longer, depth - 1, lists);
+        let found = descend(table, homing, piece, &longer, depth - 1, lists);
         if found.is_some() {
             return found;
         }
@@ -71,16 +71,16 @@ fn descend(
 }
 
 /// What a dive comes to in a piece: a construction that begins with one of its choices; nothing where it finds none.
-pub(crate) fn dive(table: &Table, endings: &Endings, piece: Piece) -> Option<Partial>
-    requires endings { AreEndings table.now.edition table.now.trip endings.now }
+pub(crate) fn dive(table: &Table, homing: &Homing, piece: Piece) -> Option<Partial>
+    requires homing { AreHomingsOf table.now.edition table.now.trip homing.now }
     ensures { IfSome result (BeginsIn table.now.edition table.now.trip piece) }
 {
     let mut lists = MOST_LISTS;
     let mut from = 0;
     for _first in 0..MOST_FOLLOWERS {
-        let (first, floor) = first_step(table, endings, piece, from)?;
+        let (first, floor) = first_step(table, homing, piece, from)?;
         from = floor.saturating_add(1);
-        let found = descend(table, endings, piece, &first, MOST_DEPTH, &mut lists);
+        let found = descend(table, homing, piece, &first, MOST_DEPTH, &mut lists);
         if found.is_some() {
             return found;
         }

@@ -4,15 +4,15 @@
 ghost use Rattle.std.specs.Prelude.{◌≡◌, ◌+◌, ◌<◌, ◌≤◌, IfSome};
 ghost use Rattle.fare_trip.specs.Itinerary.{count};
 ghost use Rattle.fare_units.specs.Walk.{next_start};
-ghost use Rattle.fare_branch.specs.Endings.{AreEndings};
+ghost use Rattle.fare_branch.specs.Rows.{AreHomingsOf};
 ghost use Rattle.fare_branch.specs.Floors.{IsMadeWith};
 ghost use Rattle.fare_branch.specs.Dive.{GoesFrom, StartsIn};
 
-use crate::closing::closer_floor;
-use crate::cramped::is_cramped;
-use crate::endings::Endings;
+use crate::barred::is_barred;
+use crate::homing::Homing;
 use crate::partial::Partial;
 use crate::pieces::{Piece, choice, choices};
+use crate::stacking::stack_floor;
 use fare_component::Table;
 use fare_rules::Part;
 
@@ -32,13 +32,13 @@ fn is_no_dearer(found: &Step, floor: u64) -> bool {
 #[tactic(auto, using(crate::proofs::DiveLemmas::goes_next))]
 fn lesser_step(
     table: &Table,
-    endings: &Endings,
+    homing: &Homing,
     front: &Partial,
     part: Part,
     from: u64,
     found: Step,
 ) -> Step
-    requires endings { AreEndings table.now.edition table.now.trip endings.now }
+    requires homing { AreHomingsOf table.now.edition table.now.trip homing.now }
     requires made { IsMadeWith table.now front.now }
     requires found { IfSome found (GoesFrom table.now front.now) }
     ensures { IfSome result (GoesFrom table.now front.now) }
@@ -46,10 +46,10 @@ fn lesser_step(
     let Some(longer) = front.next(table, part) else {
         return found;
     };
-    let Some(floor) = closer_floor(table, endings, &longer) else {
+    let Some(floor) = stack_floor(table, homing, &longer) else {
         return found;
     };
-    if floor < from || is_no_dearer(&found, floor) || is_cramped(table, &longer) {
+    if floor < from || is_no_dearer(&found, floor) || is_barred(table, &longer) {
         return found;
     }
     Some((longer, floor))
@@ -58,14 +58,14 @@ fn lesser_step(
 /// Over the units of a part that ends at a point and has a fare.
 fn least_by_units(
     table: &Table,
-    endings: &Endings,
+    homing: &Homing,
     front: &Partial,
     end: usize,
     fare: u32,
     from: u64,
     found: Step,
 ) -> Step
-    requires endings { AreEndings table.now.edition table.now.trip endings.now }
+    requires homing { AreHomingsOf table.now.edition table.now.trip homing.now }
     requires made { IsMadeWith table.now front.now }
     requires within { end ≤ count table.now.trip }
     requires found { IfSome found (GoesFrom table.now front.now) }
@@ -80,7 +80,7 @@ fn least_by_units(
             unit: unit as u8,
             fare,
         };
-        found = lesser_step(table, endings, front, part, from, found);
+        found = lesser_step(table, homing, front, part, from, found);
     }
     found
 }
@@ -88,13 +88,13 @@ fn least_by_units(
 /// Over the entries of the span to a point.
 fn least_by_entries(
     table: &Table,
-    endings: &Endings,
+    homing: &Homing,
     front: &Partial,
     end: usize,
     from: u64,
     found: Step,
 ) -> Step
-    requires endings { AreEndings table.now.edition table.now.trip endings.now }
+    requires homing { AreHomingsOf table.now.edition table.now.trip homing.now }
     requires made { IsMadeWith table.now front.now }
     requires rises { next_start table.now.trip front.now < end }
     requires within { end ≤ count table.now.trip }
@@ -103,33 +103,33 @@ fn least_by_entries(
 {
     let mut found = found;
     for entry in table.entries(front.next_start(table.trip()), end) {
-        found = least_by_units(table, endings, front, end, entry.fare, from, found);
+        found = least_by_units(table, homing, front, end, entry.fare, from, found);
     }
     found
 }
 
 /// Some first parts that one more follows, with the least floor that isn't below a number; nothing where none follows.
-pub(crate) fn least_step(table: &Table, endings: &Endings, front: &Partial, from: u64) -> Step
-    requires endings { AreEndings table.now.edition table.now.trip endings.now }
+pub(crate) fn least_step(table: &Table, homing: &Homing, front: &Partial, from: u64) -> Step
+    requires homing { AreHomingsOf table.now.edition table.now.trip homing.now }
     requires made { IsMadeWith table.now front.now }
     ensures { IfSome result (GoesFrom table.now front.now) }
 {
     let trip = table.trip();
     let mut found = None;
     for end in (front.next_start(trip) + 1..trip.count() + 1).rev() {
-        found = least_by_entries(table, endings, front, end, from, found);
+        found = least_by_entries(table, homing, front, end, from, found);
     }
     found
 }
 
 /// The first part with the least floor, not below a number, among the choices of a piece.
-pub(crate) fn first_step(table: &Table, endings: &Endings, piece: Piece, from: u64) -> Step
-    requires endings { AreEndings table.now.edition table.now.trip endings.now }
+pub(crate) fn first_step(table: &Table, homing: &Homing, piece: Piece, from: u64) -> Step
+    requires homing { AreHomingsOf table.now.edition table.now.trip homing.now }
     ensures { IfSome result (StartsIn table.now piece) }
 {
     let mut found = None;
     for number in piece.first..piece.past.min(choices(table)) {
-        found = lesser_start(table, endings, piece, number, from, found);
+        found = lesser_start(table, homing, piece, number, from, found);
     }
     found
 }
@@ -137,13 +137,13 @@ pub(crate) fn first_step(table: &Table, endings: &Endings, piece: Piece, from: u
 /// The one with the lesser floor of what was found and the first part of a choice.
 fn lesser_start(
     table: &Table,
-    endings: &Endings,
+    homing: &Homing,
     piece: Piece,
     number: u32,
     from: u64,
     found: Step,
 ) -> Step
-    requires endings { AreEndings table.now.edition table.now.trip endings.now }
+    requires homing { AreHomingsOf table.now.edition table.now.trip homing.now }
     requires low { piece.first ≤ number }
     requires high { number < piece.past }
     requires found { IfSome found (StartsIn table.now piece) }
@@ -161,7 +161,7 @@ fn lesser_start(
     let Some(first) = Partial::new().next(table, part) else {
         return found;
     };
-    let Some(floor) = closer_floor(table, endings, &first) else {
+    let Some(floor) = stack_floor(table, homing, &first) else {
         return found;
     };
     if floor < from || is_no_dearer(&found, floor) {

@@ -8,10 +8,12 @@
 //! - `partial`: first parts of constructions, part by part;
 //! - `costs`: what parts cost at least;
 //! - `floors`: what first parts cost at least, with all that may follow;
-//! - `nearness`: which units may end where the trip does;
-//! - `endings`: what the rest of a trip costs at least, where its last part ends a unit;
-//! - `closing`: what first parts cost at least, with all that may follow and the way in which the trip must end;
-//! - `cramped`: whether first parts leave little room;
+//! - `nearness`: which cities lie near each other;
+//! - `legs`: what the parts from a point cost at least, by what a part is in its unit;
+//! - `reaching`: the least by which a point is reached, over steps to the points before it;
+//! - `homing`: what is behind a point at least until a unit comes home;
+//! - `stacking`: what first parts cost at least, with all that may follow, since what begins must end;
+//! - `barred`: whether the rules on stays and on combined fares bar first parts;
 //! - `diving`: the steps of a dive;
 //! - `descent`: a dive for a price to begin with;
 //! - `walking`: the walk over the constructions that begin with some parts;
@@ -21,21 +23,23 @@
 //! Each of these stands on those above it.
 #![tactic(auto)]
 
+mod barred;
 mod bound;
-mod closing;
 mod costs;
-mod cramped;
 mod descent;
 mod diving;
-mod endings;
 mod floors;
+mod homing;
+mod legs;
 mod nearness;
 mod own_bound;
 mod partial;
 mod pieces;
 mod quoter;
+mod reaching;
 mod refusals;
 mod searching;
+mod stacking;
 mod walking;
 
 pub use bound::{Bound, NO_PRICE};

@@ -9,7 +9,7 @@ ghost use Rattle.fare_branch.specs.Refusals.{is_priced, onward_amount, is_worthl
 use fare_component::{Entry, Table};
 use fare_rules::Part;
 use fare_units::{
-    Construction, is_fruitless, is_homeward, is_priceless_by, is_stranded, must_go_on, part_at,
+    Construction, is_fruitless, is_homeward, is_priceless, is_stranded, must_go_on, part_at,
     start_of,
 };
 
@@ -78,7 +78,7 @@ pub(crate) fn is_hopeless(table: &Table, parts: &Construction, unit: u8) -> bool
     let (edition, trip) = (table.edition(), table.trip());
     let places = parts.parts();
     is_fruitless(edition, places)
-        || is_priceless_by(table, places, unit as usize)
+        || is_priceless(table, places, unit as usize)
         || is_stranded(edition, trip, places, unit as usize)
         || is_worthless(table, parts, unit)
 }

@@ -2,14 +2,14 @@
 
 ghost use Rattle.std.specs.Prelude.{◌≡◌};
 ghost use Rattle.fare_bounds.specs.Covers.{AreRests};
-ghost use Rattle.fare_branch.specs.Endings.{AreEndings};
+ghost use Rattle.fare_branch.specs.Rows.{AreHomingsOf};
 ghost use Rattle.fare_branch.specs.Search.{IsLeastPrice, BeginsIn, BeginsBy, IsSearched, kept_at};
 ghost use Rattle.fare_branch.specs.Dive.{IsDived};
 ghost use Rattle.fare_branch.specs.Walked.{IsWalk, IsUnderAll};
 
 use crate::bound::Bound;
 use crate::descent::dive;
-use crate::endings::{Endings, endings_of};
+use crate::homing::{Homing, homing_of};
 use crate::partial::Partial;
 use crate::pieces::{Piece, choice, choices};
 use crate::walking::{Found, enter, take};
@@ -31,9 +31,9 @@ pub fn search<B: Bound>(
     ensures fixed { B.fixed bound.new ≡ B.fixed bound.old }
     ensures searched { IsSearched table.now.edition table.now.trip piece (B.least bound.new) result }
 {
-    let endings = endings_of(table);
-    let first = try_dive(table, &endings, piece, bound);
-    let found = walk_piece(table, &endings, piece, first, bound);
+    let homing = homing_of(table);
+    let first = try_dive(table, &homing, piece, bound);
+    let found = walk_piece(table, &homing, piece, first, bound);
     let least = bound.seen();
     kept_at(found, least)
 }
@@ -49,13 +49,13 @@ fn kept_at(found: Found, least: u64) -> Found
 }
 
 /// Takes what a dive comes to, where that is lawful.
-fn try_dive<B: Bound>(table: &Table, endings: &Endings, piece: Piece, bound: &mut B) -> Found
-    requires endings { AreEndings table.now.edition table.now.trip endings.now }
+fn try_dive<B: Bound>(table: &Table, homing: &Homing, piece: Piece, bound: &mut B) -> Found
+    requires homing { AreHomingsOf table.now.edition table.now.trip homing.now }
     requires under { IsUnderAll table.now.edition table.now.trip (B.fixed bound.old) }
     ensures fixed { B.fixed bound.new ≡ B.fixed bound.old }
     ensures dived { IsDived table.now.edition table.now.trip piece (B.least bound.old) (B.least bound.new) result }
 {
-    match dive(table, endings, piece) {
+    match dive(table, homing, piece) {
         None => None,
         Some(front) => take(table, &front, None, bound),
     }
@@ -64,12 +64,12 @@ fn try_dive<B: Bound>(table: &Table, endings: &Endings, piece: Piece, bound: &mu
 /// Walks over the constructions that begin in a piece.
 fn walk_piece<B: Bound>(
     table: &Table,
-    endings: &Endings,
+    homing: &Homing,
     piece: Piece,
     best: Found,
     bound: &mut B,
 ) -> Found
-    requires endings { AreEndings table.now.edition table.now.trip endings.now }
+    requires homing { AreHomingsOf table.now.edition table.now.trip homing.now }
     requires under { IsUnderAll table.now.edition table.now.trip (B.fixed bound.old) }
     ensures fixed { B.fixed bound.new ≡ B.fixed bound.old }
     ensures walk { IsWalk table.now.edition table.now.trip (BeginsIn table.now.edition table.now.trip piece)
@@ -77,7 +77,7 @@ fn walk_piece<B: Bound>(
 {
     let mut best = best;
     for number in piece.first..piece.past.min(choices(table)) {
-        best = walk_choice(table, endings, number, best, bound);
+        best = walk_choice(table, homing, number, best, bound);
     }
     best
 }
@@ -85,12 +85,12 @@ fn walk_piece<B: Bound>(
 /// Walks over the constructions that begin with a choice.
 fn walk_choice<B: Bound>(
     table: &Table,
-    endings: &Endings,
+    homing: &Homing,
     number: u32,
     best: Found,
     bound: &mut B,
 ) -> Found
-    requires endings { AreEndings table.now.edition table.now.trip endings.now }
+    requires homing { AreHomingsOf table.now.edition table.now.trip homing.now }
     requires under { IsUnderAll table.now.edition table.now.trip (B.fixed bound.old) }
     ensures fixed { B.fixed bound.new ≡ B.fixed bound.old }
     ensures walk { IsWalk table.now.edition table.now.trip (BeginsBy table.now.edition table.now.trip number)
@@ -105,5 +105,5 @@ fn walk_choice<B: Bound>(
         unit: 1,
         fare,
     };
-    enter(table, endings, &Partial::new(), part, best, bound)
+    enter(table, homing, &Partial::new(), part, best, bound)
 }

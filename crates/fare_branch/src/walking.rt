@@ -6,14 +6,15 @@ ghost use Rattle.fare_trip.specs.Itinerary.{count};
 ghost use Rattle.fare_rules.specs.Construction.{greatest_unit, places};
 ghost use Rattle.fare_units.specs.Walk.{Completes, GoesOn, AnyPart, EndsAt, HasFare, IsPart, IsList, TakesBetter};
 ghost use Rattle.fare_units.specs.Walk.{next_start};
-ghost use Rattle.fare_branch.specs.Endings.{AreEndings};
+ghost use Rattle.fare_branch.specs.Rows.{AreHomingsOf};
 ghost use Rattle.fare_branch.specs.Floors.{IsMadeWith};
 ghost use Rattle.fare_branch.specs.Walked.{IsWalk, IsUnderAll, is_beaten};
 
+use crate::barred::is_barred;
 use crate::bound::Bound;
-use crate::closing::closer_floor;
-use crate::endings::Endings;
+use crate::homing::Homing;
 use crate::partial::{Partial, copied};
+use crate::stacking::stack_floor;
 use fare_component::Table;
 use fare_rules::Part;
 use fare_units::{Construction, earlier, lawful_price};
@@ -67,12 +68,12 @@ pub(crate) fn take<B: Bound>(table: &Table, front: &Partial, best: Found, bound:
 #[cycle(walk)]
 fn walk<B: Bound>(
     table: &Table,
-    endings: &Endings,
+    homing: &Homing,
     front: &Partial,
     best: Found,
     bound: &mut B,
 ) -> Found
-    requires endings { AreEndings table.now.edition table.now.trip endings.now }
+    requires homing { AreHomingsOf table.now.edition table.now.trip homing.now }
     requires made { IsMadeWith table.now front.now }
     requires under { IsUnderAll table.now.edition table.now.trip (B.fixed bound.old) }
     ensures fixed { B.fixed bound.new ≡ B.fixed bound.old }
@@ -82,19 +83,19 @@ fn walk<B: Bound>(
     if front.end() == table.trip().count() {
         return take(table, front, best, bound);
     }
-    walk_ends(table, endings, front, best, bound)
+    walk_ends(table, homing, front, best, bound)
 }
 
 /// Walks over those that go on with any part, the greatest end first.
 #[cycle(walk)]
 fn walk_ends<B: Bound>(
     table: &Table,
-    endings: &Endings,
+    homing: &Homing,
     front: &Partial,
     best: Found,
     bound: &mut B,
 ) -> Found
-    requires endings { AreEndings table.now.edition table.now.trip endings.now }
+    requires homing { AreHomingsOf table.now.edition table.now.trip homing.now }
     requires made { IsMadeWith table.now front.now }
     requires under { IsUnderAll table.now.edition table.now.trip (B.fixed bound.old) }
     ensures fixed { B.fixed bound.new ≡ B.fixed bound.old }
@@ -104,7 +105,7 @@ fn walk_ends<B: Bound>(
     let trip = table.trip();
     let mut best = best;
     for end in (front.next_start(trip) + 1..trip.count() + 1).rev() {
-        best = walk_entries(table, endings, front, end, best, bound);
+        best = walk_entries(table, homing, front, end, best, bound);
     }
     best
 }
@@ -113,13 +114,13 @@ fn walk_ends<B: Bound>(
 #[cycle(walk)]
 fn walk_entries<B: Bound>(
     table: &Table,
-    endings: &Endings,
+    homing: &Homing,
     front: &Partial,
     end: usize,
     best: Found,
     bound: &mut B,
 ) -> Found
-    requires endings { AreEndings table.now.edition table.now.trip endings.now }
+    requires homing { AreHomingsOf table.now.edition table.now.trip homing.now }
     requires made { IsMadeWith table.now front.now }
     requires rises { next_start table.now.trip front.now < end }
     requires within { end ≤ count table.now.trip }
@@ -131,7 +132,7 @@ fn walk_entries<B: Bound>(
     let entries = table.entries(front.next_start(table.trip()), end);
     let mut best = best;
     for entry in entries {
-        best = walk_units(table, endings, front, end, entry.fare, best, bound);
+        best = walk_units(table, homing, front, end, entry.fare, best, bound);
     }
     best
 }
@@ -140,14 +141,14 @@ fn walk_entries<B: Bound>(
 #[cycle(walk)]
 fn walk_units<B: Bound>(
     table: &Table,
-    endings: &Endings,
+    homing: &Homing,
     front: &Partial,
     end: usize,
     fare: u32,
     best: Found,
     bound: &mut B,
 ) -> Found
-    requires endings { AreEndings table.now.edition table.now.trip endings.now }
+    requires homing { AreHomingsOf table.now.edition table.now.trip homing.now }
     requires made { IsMadeWith table.now front.now }
     requires rises { next_start table.now.trip front.now < end }
     requires within { end ≤ count table.now.trip }
@@ -165,7 +166,7 @@ fn walk_units<B: Bound>(
             unit: unit as u8,
             fare,
         };
-        best = enter(table, endings, front, part, best, bound);
+        best = enter(table, homing, front, part, best, bound);
     }
     best
 }
@@ -174,13 +175,13 @@ fn walk_units<B: Bound>(
 #[cycle(walk)]
 pub(crate) fn enter<B: Bound>(
     table: &Table,
-    endings: &Endings,
+    homing: &Homing,
     front: &Partial,
     part: Part,
     best: Found,
     bound: &mut B,
 ) -> Found
-    requires endings { AreEndings table.now.edition table.now.trip endings.now }
+    requires homing { AreHomingsOf table.now.edition table.now.trip homing.now }
     requires made { IsMadeWith table.now front.now }
     requires rises { next_start table.now.trip front.now < part.end }
     requires within { part.end ≤ count table.now.trip }
@@ -192,7 +193,7 @@ pub(crate) fn enter<B: Bound>(
     let Some(longer) = front.next(table, part) else {
         return best;
     };
-    let Some(floor) = closer_floor(table, endings, &longer) else {
+    let Some(floor) = stack_floor(table, homing, &longer) else {
         return best;
     };
     if is_beaten(&best, &longer, floor) {
@@ -201,5 +202,8 @@ pub(crate) fn enter<B: Bound>(
     if bound.seen() < floor {
         return best;
     }
-    walk(table, endings, &longer, best, bound)
+    if is_barred(table, &longer) {
+        return best;
+    }
+    walk(table, homing, &longer, best, bound)
 }

@@ -17,24 +17,31 @@ pub enter-returns-in_default-clause-walk : goal.enter-returns-in_default-clause-
 enter-returns-in_default-clause-walk g t c =
     part_none c.args.table.now.edition c.args.table.now.trip c.args.front.now c.args.part (g.B.Bound.least c.args.bound.now) c.args.best c.in_default.ensures
 
-pub enter-returns-in_default-closer_floor-clause-walk : goal.enter-returns-in_default-closer_floor-clause-walk
-enter-returns-in_default-closer_floor-clause-walk g t c =
+pub enter-returns-in_default-stack_floor-clause-walk : goal.enter-returns-in_default-stack_floor-clause-walk
+enter-returns-in_default-stack_floor-clause-walk g t c =
     part_none c.args.table.now.edition c.args.table.now.trip c.args.front.now c.args.part (g.B.Bound.least c.args.bound.now) c.args.best
-    (subst (HasNoCompletion c.args.table.now.edition c.args.table.now.trip) c.in-Some.ensures.0 c.in_default-closer_floor.ensures)
+    (subst (HasNoCompletion c.args.table.now.edition c.args.table.now.trip) c.in-Some.ensures.0 c.in_default-stack_floor.ensures)
 
 pub enter-returns-then-is_beaten-clause-walk : goal.enter-returns-then-is_beaten-clause-walk
 enter-returns-then-is_beaten-clause-walk g t c =
-    let P : List Part → Type 0 = λ xs. IsFloor c.args.table.now.edition c.args.table.now.trip xs c.in-Some-closer_floor.floor in
-    let Q : List Part → Type 0 = λ xs. is_beaten c.args.best xs c.in-Some-closer_floor.floor ≡ true in
-    part_beaten c.args.table.now.edition c.args.table.now.trip c.args.front.now c.args.part c.in-Some-closer_floor.floor (g.B.Bound.least c.args.bound.now) c.args.best
+    let P : List Part → Type 0 = λ xs. IsFloor c.args.table.now.edition c.args.table.now.trip xs c.in-Some-stack_floor.floor in
+    let Q : List Part → Type 0 = λ xs. is_beaten c.args.best xs c.in-Some-stack_floor.floor ≡ true in
+    part_beaten c.args.table.now.edition c.args.table.now.trip c.args.front.now c.args.part c.in-Some-stack_floor.floor (g.B.Bound.least c.args.bound.now) c.args.best
     (subst Q c.in-Some.ensures.0 (sym c.is_beaten.ensures ∙ c.if-is_beaten.true))
-    (subst P c.in-Some.ensures.0 c.in-Some-closer_floor.ensures)
+    (subst P c.in-Some.ensures.0 c.in-Some-stack_floor.ensures)
 
 pub enter-returns-then-seen-floor-clause-walk : goal.enter-returns-then-seen-floor-clause-walk
 enter-returns-then-seen-floor-clause-walk g t c =
-    let P : List Part → Type 0 = λ xs. IsFloor c.args.table.now.edition c.args.table.now.trip xs c.in-Some-closer_floor.floor in
-    part_dear c.args.table.now.edition c.args.table.now.trip c.args.front.now c.args.part (g.B.Bound.least c.args.bound.now) (g.B.Bound.least c.seen.new.self) c.in-Some-closer_floor.floor c.args.best
-    (omega arith) (omega arith) (subst P c.in-Some.ensures.0 c.in-Some-closer_floor.ensures)
+    let P : List Part → Type 0 = λ xs. IsFloor c.args.table.now.edition c.args.table.now.trip xs c.in-Some-stack_floor.floor in
+    part_dear c.args.table.now.edition c.args.table.now.trip c.args.front.now c.args.part (g.B.Bound.least c.args.bound.now) (g.B.Bound.least c.seen.new.self) c.in-Some-stack_floor.floor c.args.best
+    (omega arith) (omega arith) (subst P c.in-Some.ensures.0 c.in-Some-stack_floor.ensures)
+
+pub enter-returns-then-is_barred-clause-walk : goal.enter-returns-then-is_barred-clause-walk
+enter-returns-then-is_barred-clause-walk g t c =
+    walk_fallen c.args.table.now.edition c.args.table.now.trip (GoesOn c.args.front.now (IsPart c.args.part)) (g.B.Bound.least c.args.bound.now) (g.B.Bound.least c.seen.new.self) (g.B.Bound.least c.seen.new.self) c.args.best c.args.best
+    (omega arith)
+    (part_none c.args.table.now.edition c.args.table.now.trip c.args.front.now c.args.part (g.B.Bound.least c.seen.new.self) c.args.best
+    (subst (HasNoCompletion c.args.table.now.edition c.args.table.now.trip) c.in-Some.ensures.0 (c.is_barred.ensures c.if-is_barred.true)))
 
 pub enter-walk-requires : goal.enter-walk-requires
 enter-walk-requires g t c κs within =
@@ -42,7 +49,7 @@ enter-walk-requires g t c κs within =
     let Q : List Part → Type 0 = λ xs. 5 * (count c.args.table.now.trip - end_of xs (length xs)) + 4 < 5 * (count c.args.table.now.trip - end_of c.args.front.now (length c.args.front.now)) in
     let falls : 5 * (count c.args.table.now.trip - end_of c.in-Some.longer (length c.in-Some.longer)) + 4 < 5 * (count c.args.table.now.trip - end_of c.args.front.now (length c.args.front.now)) =
     subst Q (sym c.in-Some.ensures.0) (front_falls c.args.table.now.trip c.args.front.now c.args.part c.requires.rises c.requires.within) in
-    (omega arith, (within, (c.requires.endings, (c.in-Some.ensures.1, λ parts price l. let least : g.B.Bound.fixed c.args.bound.now ≤ price = c.requires.under parts price l in omega arith))))
+    (omega arith, (within, (c.requires.homing, (c.in-Some.ensures.1, λ parts price l. let least : g.B.Bound.fixed c.args.bound.now ≤ price = c.requires.under parts price l in omega arith))))
 
 pub enter-returns-clause-walk : goal.enter-returns-clause-walk
 enter-returns-clause-walk g t c =

@@ -1,0 +1,373 @@
+-- What the parts behind a place of a lawful construction cost is over the units that go on there.
+use Rattle.std.proofs.Common.{◌≡◌, ℕ, zero, suc, ◌+◌, ◌-◌, ◌<◌, ◌≤◌, Bool, true, false, ◌&&◌, not, leb, List, [], ◌∷◌, ◌++◌, length, refl, ap, sym, subst, ◌∙◌, inl, inr, arith}
+use Rattle.std.specs.Prelude.{Option, Some, Contains, sum_by, bytes_eq}
+use Rattle.std.specs.List.{range_with_len, list_any}
+use Rattle.std.proofs.Math.ListN.{length-append}
+use Rattle.std.proofs.lemmas.Bool.{cases_Bool, cases_lt, cases_eq, and_parts, leb-true, lt-leb, or_parts}
+use Rattle.std.proofs.lemmas.List.Sums.{sum_by-cons}
+use Rattle.fare_trip.specs.Itinerary.{Itinerary, count, point}
+use Rattle.fare_tariff.specs.Tariff.{Tariff}
+use Rattle.fare_rules.specs.declared.part.Part.{Part}
+use Rattle.fare_rules.specs.Span.{is_surface, sectors}
+use Rattle.fare_rules.specs.Construction.{begin_after, start_of, end_of, places, own, unit_of, first_of, last_of, greatest_unit}
+use Rattle.fare_rules.specs.Lawful.{holds_gap}
+use Rattle.fare_rules.specs.Shape.{is_ow, holds_ow, is_jaw, comes_home, comes_home_early, ends_at_home, lie_together}
+use Rattle.fare_rules.specs.Best.{IsLawful}
+use Rattle.fare_rules.proofs.AmountLemmas.{fails_not}
+use Rattle.fare_rules.proofs.CoverLemmas.{begins_later, same_end}
+use Rattle.fare_rules.proofs.LawfulLemmas.{kept}
+use Rattle.fare_rules.proofs.NumberLemmas.{any_next}
+use Rattle.fare_units.proofs.NextLemmas.{front_unit, greatest_same}
+use Rattle.fare_component.specs.Table.{entries_of}
+use Rattle.fare_branch.specs.Homing.{IsUpTo, homing_at, is_same_city, may_end_at, back_cost, AreHomings}
+use Rattle.fare_branch.proofs.CostLemmas.{unit_from_one}
+use Rattle.fare_branch.proofs.UnitLemmas.{all, own_has, unit_in, alone_in, holds_none}
+use Rattle.fare_branch.proofs.GoesOnLemmas.{going_on, goes_not, goes_on_from, on_same, none_above, home_behind, own_first, own_last, own_two, two_ends}
+use Rattle.fare_branch.proofs.NearLemmas.{EndsBy, unit_ends_by}
+use Rattle.fare_branch.proofs.OnwardLemmas.{ends_rise, must_close_from, closed_whole, ends_home, either_left, either_right}
+use Rattle.fare_branch.specs.Stack.{goes_on, IsOver}
+use Rattle.fare_branch.proofs.ReachLemmas.{up_more}
+use Rattle.fare_branch.proofs.StackLemmas.{true_cost, home_at, begins_at, over_more, over_same, over_down, over_up, Opens, opens, from_open, step_over}
+use Rattle.fare_branch.proofs.ShutLemmas.{any_at}
+use Rattle.fare_branch.proofs.SumLemmas.{greatest_fewer, unit_up_to}
+use Rattle.fare_branch.proofs.TrueCostLemmas.{entry, entry_there, alone_cost, first_costs, back_costs, between_costs}
+
+true_false : true ≡ false → ⊥
+true_false e = cc
+
+not_so : (b : Bool) → (b ≡ true → ⊥) → b ≡ false
+not_so true h = absurd (h refl)
+not_so false h = refl
+
+below : (a b : ℕ) → a ≤ b → (a ≡ b → ⊥) → a < b
+below a b h n = omega arith
+
+above : (a b : ℕ) → b ≤ a → (a ≡ b → ⊥) → b < a
+above a b h n = omega arith
+
+-- the point behind a part; where there is none yet, the trip's first
+abbrev pub point_behind : List Part → ℕ → ℕ
+point_behind parts zero = 0
+point_behind parts (suc k) = end_of parts (suc k)
+
+behind_next : (parts : List Part) (k : ℕ) → point_behind parts (k + 1) ≡ end_of parts (k + 1)
+behind_next parts k =
+    let e : suc k ≡ k + 1 = omega arith in
+    let P : ℕ → Type 0 = λ n. point_behind parts n ≡ end_of parts n in
+    subst P e refl
+
+behind_all : (parts : List Part) → point_behind parts (length parts) ≡ end_of parts (length parts)
+behind_all [] = refl
+behind_all (x ∷ xs) = refl
+
+jaw_is_two : (tariff : Tariff) (trip : Itinerary) (parts : List Part) (xs : List ℕ) → is_jaw tariff trip parts xs ≡ true → length xs ≡ 2
+jaw_is_two tariff trip parts [] h = absurd (true_false (sym h))
+jaw_is_two tariff trip parts (a ∷ []) h = absurd (true_false (sym h))
+jaw_is_two tariff trip parts (a ∷ b ∷ []) h = refl
+jaw_is_two tariff trip parts (a ∷ b ∷ c ∷ more) h = absurd (true_false (sym h))
+
+two_or_more : (trip : Itinerary) (parts : List Part) (xs : List ℕ) → ends_at_home trip parts xs ≡ true → 2 ≤ length xs
+two_or_more trip parts xs h =
+    let most = and_parts (leb 2 (length xs) && comes_home trip parts xs) (not (comes_home_early trip parts xs)) h in
+    leb-true 2 (length xs) (and_parts (leb 2 (length xs)) (comes_home trip parts xs) most.0).0
+
+module _ (tariff : Tariff) (trip : Itinerary) (parts : List Part) (price : ℕ) (lawful : IsLawful tariff trip parts price) where
+  -- the trip begins in the air
+  flown : 1 ≤ length parts → is_surface trip 1 ≡ false
+  flown some =
+      let cover = all tariff trip parts price lawful in
+      let above : 0 < end_of parts 1 = cover.above 1 (omega arith) some in
+      let gap : list_any (is_surface trip) (sectors 0 (end_of parts 1)) ≡ false = fails_not tariff trip parts (kept tariff trip parts price lawful) 1 (omega arith) some (holds_gap trip parts) (kept tariff trip parts price lawful).surface in
+      (or_parts (is_surface trip 1) (list_any (is_surface trip) (sectors 1 (end_of parts 1))) (sym (any_next (is_surface trip) 1 (end_of parts 1 + 1) (omega arith)) ∙ gap)).0
+
+  -- a part begins behind the one before it
+  begins_next : (k : ℕ) → k + 1 ≤ length parts → begin_after trip (point_behind parts k) ≡ start_of trip parts (k + 1)
+  begins_next zero high = rw (flown (omega arith)) refl
+  begins_next (suc k) high =
+      let n : suc k + 1 - 1 ≡ suc k = omega arith in
+      rw (lt-leb (suc k + 1) 1 (omega arith), n) refl
+
+  part_rises : (k : ℕ) → k + 1 ≤ length parts → point_behind parts k < end_of parts (k + 1)
+  part_rises k high =
+      let cover = all tariff trip parts price lawful in
+      let later : point_behind parts k ≤ begin_after trip (point_behind parts k) = begins_later trip (point_behind parts k) in
+      let same : begin_after trip (point_behind parts k) ≡ start_of trip parts (k + 1) = begins_next k high in
+      let above : start_of trip parts (k + 1) < end_of parts (k + 1) = cover.above (k + 1) (omega arith) high in
+      omega arith
+
+  -- a unit of half round trips has two parts or more; of three or more the last ends in the city where the first begins
+  half_shape : (unit : ℕ) → 1 ≤ unit → unit ≤ greatest_unit parts (places parts) → (xs : List ℕ) → own parts unit ≡ xs → holds_ow tariff parts xs ≡ false → (2 ≤ length xs) × (3 ≤ length xs → comes_home trip parts xs ≡ true)
+  half_shape unit low high xs e none =
+      elim (cases_Bool (is_jaw tariff trip parts xs)) [
+        | inl t ↦ let two : length xs ≡ 2 = jaw_is_two tariff trip parts xs t in (omega arith, λ h. absurd (omega arith))
+        | inr f ↦
+            let close = closed_whole tariff trip [] parts price lawful unit low high xs e (must_close_from tariff trip parts xs none f) in
+            (two_or_more trip parts xs close.1, λ h. ends_home trip parts xs close.1)
+      ]
+
+  -- and it may end where it does
+  half_ends_by : (unit : ℕ) → 1 ≤ unit → unit ≤ greatest_unit parts (places parts) → (xs : List ℕ) → own parts unit ≡ xs → 1 ≤ length xs → holds_ow tariff parts xs ≡ false → may_end_at tariff trip (start_of trip parts (first_of xs)) (end_of parts (last_of xs)) ≡ true
+  half_ends_by unit low high [] e some none = absurd (omega arith)
+  half_ends_by unit low high (x ∷ xs) e some none =
+      let near : EndsBy tariff trip [] parts price lawful x (last_of (x ∷ xs)) = unit_ends_by tariff trip [] parts price lawful unit low high x xs e none in
+      either x (last_of (x ∷ xs)) near
+    where
+      either : (j last : ℕ) → EndsBy tariff trip [] parts price lawful j last → may_end_at tariff trip (start_of trip parts j) (end_of parts last) ≡ true
+      either j last (inl home) = either_left (bytes_eq (point trip (end_of parts last)) (point trip (start_of trip parts j))) (lie_together tariff (point trip (end_of parts last)) (point trip (start_of trip parts j))) home
+      either j last (inr near) = either_right (bytes_eq (point trip (end_of parts last)) (point trip (start_of trip parts j))) (lie_together tariff (point trip (end_of parts last)) (point trip (start_of trip parts j))) near
+
+  module _ (closing jaw whole : ℕ → ℕ → Option ℕ) (left : ℕ → Option ℕ) (are : AreHomings tariff trip closing jaw whole left) where
+    abbrev Stands : ℕ → ℕ → ℕ → ℕ → Type 0
+    Stands k u i cost = IsOver trip closing jaw left parts k u i cost
+
+    at_city : (start i j x : ℕ) → is_same_city trip start j ≡ true → IsUpTo x (homing_at trip closing jaw start i j) → IsUpTo x (closing i j)
+    at_city start i j x t up = rw t at up
+
+    from_city : (start i j x : ℕ) → is_same_city trip start j ≡ true → IsUpTo x (closing i j) → IsUpTo x (homing_at trip closing jaw start i j)
+    from_city start i j x t up = rw t up
+
+    -- a part behind some others, before what is over the units that go on behind it
+    module _ (k : ℕ) (high : k + 1 ≤ length parts) (behind : ℕ) (over : Stands (k + 1) (greatest_unit parts (places parts)) (end_of parts (k + 1)) behind) where
+      mine_low : 1 ≤ unit_of parts (k + 1)
+      mine_low = unit_from_one tariff trip parts price lawful (k + 1) (omega arith) high
+
+      mine_high : unit_of parts (k + 1) ≤ greatest_unit parts (places parts)
+      mine_high = unit_in tariff trip parts price lawful (k + 1) (omega arith) high
+
+      -- the places of its unit lie between its first and its last one
+      first_by : first_of (own parts (unit_of parts (k + 1))) ≤ k + 1
+      first_by = own_first parts (unit_of parts (k + 1)) (k + 1) (own_has tariff trip parts price lawful (k + 1) (omega arith) high)
+
+      last_by : k + 1 ≤ last_of (own parts (unit_of parts (k + 1)))
+      last_by = own_last parts (unit_of parts (k + 1)) (k + 1) (own_has tariff trip parts price lawful (k + 1) (omega arith) high)
+
+      rises : point_behind parts k < end_of parts (k + 1)
+      rises = part_rises k high
+
+      within : end_of parts (k + 1) ≤ count trip
+      within = (all tariff trip parts price lawful).within (k + 1) (omega arith) high
+
+      -- its entry is one of those from the point behind the others
+      contained : Contains (entries_of tariff trip (begin_after trip (point_behind parts k)) (end_of parts (k + 1))) (entry tariff trip parts price lawful (k + 1))
+      contained =
+          let P : ℕ → Type 0 = λ a. Contains (entries_of tariff trip a (end_of parts (k + 1))) (entry tariff trip parts price lawful (k + 1)) in
+          subst P (sym (begins_next k high)) (entry_there tariff trip parts price lawful (k + 1) (omega arith) high)
+
+      -- what goes on behind it comes home behind it
+      home_later : (v : ℕ) → goes_on parts (k + 1) v ≡ true → (end_of parts (k + 1) < home_at parts v) × (home_at parts v ≤ count trip)
+      home_later v t =
+          let g = going_on tariff trip parts price lawful (k + 1) v t in
+          let behind_it : k + 1 < last_of (own parts v) = g.behind in (
+            ends_rise trip parts (all tariff trip parts price lawful) (k + 1) (last_of (own parts v)) (omega arith) g.behind g.within,
+            (all tariff trip parts price lawful).within (last_of (own parts v)) (omega arith) g.within,
+          )
+
+      other_same : (v : ℕ) → (unit_of parts (k + 1) ≡ v → ⊥) → goes_on parts (k + 1) v ≡ goes_on parts k v
+      other_same v other = on_same tariff trip parts price lawful k v other
+
+      above_not : (v : ℕ) → unit_of parts (k + 1) < v → goes_on parts k v ≡ false
+      above_not v less = none_above tariff trip parts price lawful k v high mine_low less
+
+      above_not_next : (v : ℕ) → unit_of parts (k + 1) < v → goes_on parts (k + 1) v ≡ false
+      above_not_next v less = other_same v (λ e. omega arith) ∙ above_not v less
+
+      -- of its unit and those above it none goes on where its unit doesn't
+      from_mine : (j : ℕ) → goes_on parts j (unit_of parts (k + 1)) ≡ false → ((v : ℕ) → unit_of parts (k + 1) < v → goes_on parts j v ≡ false) → (v : ℕ) → unit_of parts (k + 1) - 1 < v → goes_on parts j v ≡ false
+      from_mine j not_mine above v low =
+          elim (cases_lt (unit_of parts (k + 1)) v) [
+            | inl less ↦ above v less
+            | inr past ↦
+                let low_mine : 1 ≤ unit_of parts (k + 1) = mine_low in
+                let same : unit_of parts (k + 1) ≡ v = omega arith in
+                let P : ℕ → Type 0 = λ u. goes_on parts j u ≡ false in
+                subst P same not_mine
+          ]
+
+      under_same : (i x : ℕ) → Stands (k + 1) (unit_of parts (k + 1) - 1) i x → Stands k (unit_of parts (k + 1) - 1) i x
+      under_same i x o =
+          let low_mine : 1 ≤ unit_of parts (k + 1) = mine_low in
+          over_same trip closing jaw left parts (k + 1) k (unit_of parts (k + 1) - 1) i x (λ v low most. other_same v (λ e. omega arith)) o
+
+      under_most : unit_of parts (k + 1) - 1 ≤ greatest_unit parts (places parts)
+      under_most = let most : unit_of parts (k + 1) ≤ greatest_unit parts (places parts) = mine_high in omega arith
+
+      -- a one way fare stands alone
+      module _ (way : is_ow tariff parts (k + 1) ≡ true) where
+        alone_same : (v : ℕ) → goes_on parts (k + 1) v ≡ goes_on parts k v
+        alone_same v =
+            elim (cases_eq (unit_of parts (k + 1)) v) [
+              | inl same ↦
+                  let holds : holds_ow tariff parts (own parts (unit_of parts (k + 1))) ≡ true = any_at (is_ow tariff parts) (k + 1) (own parts (unit_of parts (k + 1))) (own_has tariff trip parts price lawful (k + 1) (omega arith) high) way in
+                  let one = alone_in tariff trip parts price lawful (unit_of parts (k + 1)) mine_low mine_high holds in
+                  let first : first_of (own parts (unit_of parts (k + 1))) ≡ one.0 = ap first_of one.1 in
+                  let last : last_of (own parts (unit_of parts (k + 1))) ≡ one.0 = ap last_of one.1 in
+                  let low : first_of (own parts (unit_of parts (k + 1))) ≤ k + 1 = first_by in
+                  let most : k + 1 ≤ last_of (own parts (unit_of parts (k + 1))) = last_by in
+                  let next : goes_on parts (k + 1) (unit_of parts (k + 1)) ≡ false = goes_not parts (k + 1) (unit_of parts (k + 1)) (λ a b. omega arith) in
+                  let here : goes_on parts k (unit_of parts (k + 1)) ≡ false = goes_not parts k (unit_of parts (k + 1)) (λ a b. omega arith) in
+                  let P : ℕ → Type 0 = λ u. goes_on parts (k + 1) u ≡ goes_on parts k u in
+                  subst P same (next ∙ sym here)
+              | inr other ↦ other_same v other
+            ]
+
+        alone_over : Stands k (greatest_unit parts (places parts)) (point_behind parts k) (true_cost tariff trip parts (k + 1) + behind)
+        alone_over =
+            let up : IsUpTo (true_cost tariff trip parts (k + 1)) (whole (point_behind parts k) (end_of parts (k + 1))) = are.alone (point_behind parts k) (end_of parts (k + 1)) (entry tariff trip parts price lawful (k + 1)) (true_cost tariff trip parts (k + 1)) contained (alone_cost tariff trip parts price lawful (k + 1) (omega arith) high way) in
+            let o : Stands (k + 1) (greatest_unit parts (places parts)) (point_behind parts k) (true_cost tariff trip parts (k + 1) + behind) = step_over tariff trip closing jaw whole left are parts (k + 1) (greatest_unit parts (places parts)) (point_behind parts k) (end_of parts (k + 1)) (true_cost tariff trip parts (k + 1)) behind rises within up (λ v low most t. home_later v t) over in
+            over_same trip closing jaw left parts (k + 1) k (greatest_unit parts (places parts)) (point_behind parts k) (true_cost tariff trip parts (k + 1) + behind) (λ v low most. alone_same v) o
+
+      -- a half round trip stands first, between or last in its unit
+      module _ (way : is_ow tariff parts (k + 1) ≡ false) where
+        none_ow : holds_ow tariff parts (own parts (unit_of parts (k + 1))) ≡ false
+        none_ow = holds_none tariff trip parts price lawful (k + 1) (omega arith) high way
+
+        shape : (2 ≤ length (own parts (unit_of parts (k + 1)))) × (3 ≤ length (own parts (unit_of parts (k + 1))) → comes_home trip parts (own parts (unit_of parts (k + 1))) ≡ true)
+        shape = half_shape (unit_of parts (k + 1)) mine_low mine_high (own parts (unit_of parts (k + 1))) refl none_ow
+
+        apart : first_of (own parts (unit_of parts (k + 1))) < last_of (own parts (unit_of parts (k + 1)))
+        apart = own_two parts (unit_of parts (k + 1)) shape.0
+
+        three : first_of (own parts (unit_of parts (k + 1))) < k + 1 → k + 1 < last_of (own parts (unit_of parts (k + 1))) → 3 ≤ length (own parts (unit_of parts (k + 1)))
+        three first less =
+            elim (cases_lt 2 (length (own parts (unit_of parts (k + 1))))) [
+              | inl long ↦ omega arith
+              | inr short ↦ elim (two_ends (own parts (unit_of parts (k + 1))) (k + 1) (own_has tariff trip parts price lawful (k + 1) (omega arith) high) short) [ inl e ↦ absurd (omega arith) | inr e ↦ absurd (omega arith) ]
+            ]
+
+        last_up : (start : ℕ) → back_cost (entry tariff trip parts price lawful (k + 1)) ≡ Some (true_cost tariff trip parts (k + 1)) → IsUpTo (true_cost tariff trip parts (k + 1)) (homing_at trip closing jaw start (point_behind parts k) (end_of parts (k + 1)))
+        last_up start cost =
+            elim (cases_Bool (is_same_city trip start (end_of parts (k + 1)))) [
+              | inl t ↦ rw t (are.last_closes (point_behind parts k) (end_of parts (k + 1)) (entry tariff trip parts price lawful (k + 1)) (true_cost tariff trip parts (k + 1)) contained cost)
+              | inr f ↦ rw f (are.last_jaw (point_behind parts k) (end_of parts (k + 1)) (entry tariff trip parts price lawful (k + 1)) (true_cost tariff trip parts (k + 1)) contained cost)
+            ]
+
+        -- with other parts of its unit behind it
+        module _ (less : k + 1 < last_of (own parts (unit_of parts (k + 1)))) where
+          goes : goes_on parts (k + 1) (unit_of parts (k + 1)) ≡ true
+          goes = goes_on_from parts (k + 1) (unit_of parts (k + 1)) first_by less
+
+          opened : Opens trip closing jaw left parts (k + 1) (unit_of parts (k + 1)) (end_of parts (k + 1)) behind
+          opened = opens trip closing jaw left parts (k + 1) (unit_of parts (k + 1)) (end_of parts (k + 1)) behind mine_low goes (over_down trip closing jaw left parts (k + 1) (unit_of parts (k + 1)) (greatest_unit parts (places parts)) (end_of parts (k + 1)) behind mine_high (λ v low most. above_not_next v low) over)
+
+        first_over : first_of (own parts (unit_of parts (k + 1))) ≡ k + 1 → Stands k (greatest_unit parts (places parts)) (point_behind parts k) (true_cost tariff trip parts (k + 1) + behind)
+        first_over first =
+            let both : first_of (own parts (unit_of parts (k + 1))) < last_of (own parts (unit_of parts (k + 1))) = apart in
+            let less : k + 1 < last_of (own parts (unit_of parts (k + 1))) = omega arith in
+            let c = opened less in
+            let sum : c.0 + c.1 ≤ behind = c.2 in
+            let h = home_later (unit_of parts (k + 1)) (goes less) in
+            let low_mine : 1 ≤ unit_of parts (k + 1) = mine_low in
+            let begins : begins_at trip parts (unit_of parts (k + 1)) ≡ begin_after trip (point_behind parts k) = ap (start_of trip parts) first ∙ sym (begins_next k high) in
+            let P : ℕ → Type 0 = λ a. IsUpTo c.0 (homing_at trip closing jaw a (end_of parts (k + 1)) (home_at parts (unit_of parts (k + 1)))) in
+            let homing : IsUpTo c.0 (homing_at trip closing jaw (begin_after trip (point_behind parts k)) (end_of parts (k + 1)) (home_at parts (unit_of parts (k + 1)))) = subst P begins c.3 in
+            let least : homing.0 ≤ c.0 = homing.2 in
+            let Q : ℕ → Type 0 = λ a. may_end_at tariff trip a (home_at parts (unit_of parts (k + 1))) ≡ true in
+            let some : 2 ≤ length (own parts (unit_of parts (k + 1))) = shape.0 in
+            let may : may_end_at tariff trip (begin_after trip (point_behind parts k)) (home_at parts (unit_of parts (k + 1))) ≡ true = subst Q begins (half_ends_by (unit_of parts (k + 1)) mine_low mine_high (own parts (unit_of parts (k + 1))) refl (omega arith) none_ow) in
+            let cost = first_costs tariff trip parts price lawful (k + 1) (omega arith) high way first less in
+            let up : IsUpTo (true_cost tariff trip parts (k + 1) + c.0) (whole (point_behind parts k) (home_at parts (unit_of parts (k + 1)))) = up_more (true_cost tariff trip parts (k + 1) + homing.0) (true_cost tariff trip parts (k + 1) + c.0) (whole (point_behind parts k) (home_at parts (unit_of parts (k + 1)))) (omega arith) (are.first (point_behind parts k) (end_of parts (k + 1)) (home_at parts (unit_of parts (k + 1))) (entry tariff trip parts price lawful (k + 1)) (true_cost tariff trip parts (k + 1)) homing.0 contained cost h.0 h.1 may homing.1) in
+            let rise : point_behind parts k < end_of parts (k + 1) = rises in
+            let past : end_of parts (k + 1) < home_at parts (unit_of parts (k + 1)) = h.0 in
+            let o : Stands (k + 1) (unit_of parts (k + 1) - 1) (point_behind parts k) ((true_cost tariff trip parts (k + 1) + c.0) + c.1) =
+            step_over tariff trip closing jaw whole left are parts (k + 1) (unit_of parts (k + 1) - 1) (point_behind parts k) (home_at parts (unit_of parts (k + 1))) (true_cost tariff trip parts (k + 1) + c.0) c.1 (omega arith) h.1 up
+            (λ v low most t. (home_behind tariff trip parts price lawful k v low high (omega arith) first less t, (home_later v t).1)) c.4 in
+            let here : goes_on parts k (unit_of parts (k + 1)) ≡ false = goes_not parts k (unit_of parts (k + 1)) (λ a b. omega arith) in
+            let m : Stands k (greatest_unit parts (places parts)) (point_behind parts k) ((true_cost tariff trip parts (k + 1) + c.0) + c.1) =
+            over_up trip closing jaw left parts k (unit_of parts (k + 1) - 1) (greatest_unit parts (places parts)) (point_behind parts k) ((true_cost tariff trip parts (k + 1) + c.0) + c.1) under_most (λ v low most. from_mine k here above_not v low) (under_same (point_behind parts k) ((true_cost tariff trip parts (k + 1) + c.0) + c.1) o) in
+            over_more trip closing jaw left parts k (greatest_unit parts (places parts)) (point_behind parts k) ((true_cost tariff trip parts (k + 1) + c.0) + c.1) (true_cost tariff trip parts (k + 1) + behind) (omega arith) m
+
+        between_over : first_of (own parts (unit_of parts (k + 1))) < k + 1 → k + 1 < last_of (own parts (unit_of parts (k + 1))) → Stands k (greatest_unit parts (places parts)) (point_behind parts k) (true_cost tariff trip parts (k + 1) + behind)
+        between_over first less =
+            let c = opened less in
+            let sum : c.0 + c.1 ≤ behind = c.2 in
+            let h = home_later (unit_of parts (k + 1)) (goes less) in
+            let long : 3 ≤ length (own parts (unit_of parts (k + 1))) = three first less in
+            let city : is_same_city trip (begins_at trip parts (unit_of parts (k + 1))) (home_at parts (unit_of parts (k + 1))) ≡ true = shape.1 long in
+            let closes : IsUpTo c.0 (closing (end_of parts (k + 1)) (home_at parts (unit_of parts (k + 1)))) = at_city (begins_at trip parts (unit_of parts (k + 1))) (end_of parts (k + 1)) (home_at parts (unit_of parts (k + 1))) c.0 city c.3 in
+            let cost = between_costs tariff trip parts price lawful (k + 1) (omega arith) high way in
+            let low_cost : cost.0 ≤ true_cost tariff trip parts (k + 1) = cost.2 in
+            let low_homing : closes.0 ≤ c.0 = closes.2 in
+            let up : IsUpTo (true_cost tariff trip parts (k + 1) + c.0) (closing (point_behind parts k) (home_at parts (unit_of parts (k + 1)))) = up_more (cost.0 + closes.0) (true_cost tariff trip parts (k + 1) + c.0) (closing (point_behind parts k) (home_at parts (unit_of parts (k + 1)))) (omega arith) (are.between (point_behind parts k) (end_of parts (k + 1)) (home_at parts (unit_of parts (k + 1))) (entry tariff trip parts price lawful (k + 1)) cost.0 closes.0 contained cost.1 h.0 h.1 closes.1) in
+            let here : goes_on parts k (unit_of parts (k + 1)) ≡ true = goes_on_from parts k (unit_of parts (k + 1)) (omega arith) (omega arith) in
+            let o : Stands k (unit_of parts (k + 1)) (point_behind parts k) ((true_cost tariff trip parts (k + 1) + c.0) + c.1) = from_open trip closing jaw left parts k (unit_of parts (k + 1)) (point_behind parts k) (true_cost tariff trip parts (k + 1) + c.0) c.1 mine_low here (from_city (begins_at trip parts (unit_of parts (k + 1))) (point_behind parts k) (home_at parts (unit_of parts (k + 1))) (true_cost tariff trip parts (k + 1) + c.0) city up) (under_same (home_at parts (unit_of parts (k + 1))) c.1 c.4) in
+            let m : Stands k (greatest_unit parts (places parts)) (point_behind parts k) ((true_cost tariff trip parts (k + 1) + c.0) + c.1) = over_up trip closing jaw left parts k (unit_of parts (k + 1)) (greatest_unit parts (places parts)) (point_behind parts k) ((true_cost tariff trip parts (k + 1) + c.0) + c.1) mine_high (λ v low most. above_not v low) o in
+            over_more trip closing jaw left parts k (greatest_unit parts (places parts)) (point_behind parts k) ((true_cost tariff trip parts (k + 1) + c.0) + c.1) (true_cost tariff trip parts (k + 1) + behind) (omega arith) m
+
+        last_over : first_of (own parts (unit_of parts (k + 1))) < k + 1 → last_of (own parts (unit_of parts (k + 1))) ≡ k + 1 → Stands k (greatest_unit parts (places parts)) (point_behind parts k) (true_cost tariff trip parts (k + 1) + behind)
+        last_over first last =
+            let low_mine : 1 ≤ unit_of parts (k + 1) = mine_low in
+            let next : goes_on parts (k + 1) (unit_of parts (k + 1)) ≡ false = goes_not parts (k + 1) (unit_of parts (k + 1)) (λ a b. omega arith) in
+            let o : Stands (k + 1) (unit_of parts (k + 1) - 1) (end_of parts (k + 1)) behind = over_down trip closing jaw left parts (k + 1) (unit_of parts (k + 1) - 1) (greatest_unit parts (places parts)) (end_of parts (k + 1)) behind under_most (λ v low most. from_mine (k + 1) next above_not_next v low) over in
+            let cost = back_costs tariff trip parts price lawful (k + 1) (omega arith) high way last in
+            let up : IsUpTo (true_cost tariff trip parts (k + 1)) (homing_at trip closing jaw (begins_at trip parts (unit_of parts (k + 1))) (point_behind parts k) (end_of parts (k + 1))) = last_up (begins_at trip parts (unit_of parts (k + 1))) cost in
+            let home : end_of parts (k + 1) ≡ home_at parts (unit_of parts (k + 1)) = ap (end_of parts) (sym last) in
+            let P : ℕ → Type 0 = λ j. IsUpTo (true_cost tariff trip parts (k + 1)) (homing_at trip closing jaw (begins_at trip parts (unit_of parts (k + 1))) (point_behind parts k) j) in
+            let Q : ℕ → Type 0 = λ j. Stands k (unit_of parts (k + 1) - 1) j behind in
+            let here : goes_on parts k (unit_of parts (k + 1)) ≡ true = goes_on_from parts k (unit_of parts (k + 1)) (omega arith) (omega arith) in
+            let m : Stands k (unit_of parts (k + 1)) (point_behind parts k) (true_cost tariff trip parts (k + 1) + behind) = from_open trip closing jaw left parts k (unit_of parts (k + 1)) (point_behind parts k) (true_cost tariff trip parts (k + 1)) behind mine_low here (subst P home up) (subst Q home (under_same (end_of parts (k + 1)) behind o)) in
+            over_up trip closing jaw left parts k (unit_of parts (k + 1)) (greatest_unit parts (places parts)) (point_behind parts k) (true_cost tariff trip parts (k + 1) + behind) mine_high (λ v low most. above_not v low) m
+
+        half_over : Stands k (greatest_unit parts (places parts)) (point_behind parts k) (true_cost tariff trip parts (k + 1) + behind)
+        half_over =
+            elim (cases_eq (first_of (own parts (unit_of parts (k + 1)))) (k + 1)) [
+              | inl first ↦ first_over first
+              | inr later ↦ elim (cases_eq (last_of (own parts (unit_of parts (k + 1)))) (k + 1)) [
+                | inl last ↦ last_over (below (first_of (own parts (unit_of parts (k + 1)))) (k + 1) first_by later) last
+                | inr earlier ↦ between_over (below (first_of (own parts (unit_of parts (k + 1)))) (k + 1) first_by later) (above (last_of (own parts (unit_of parts (k + 1)))) (k + 1) last_by earlier)
+              ]
+            ]
+
+      -- a part that comes before it costs what it does
+      part_over : Stands k (greatest_unit parts (places parts)) (point_behind parts k) (true_cost tariff trip parts (k + 1) + behind)
+      part_over =
+          elim (cases_Bool (is_ow tariff parts (k + 1))) [ inl way ↦ alone_over way | inr way ↦ half_over way ]
+
+    -- what the parts behind a place cost is over the units that go on there
+    pub all_over : (m k : ℕ) → k + m ≡ length parts → Stands k (greatest_unit parts (places parts)) (point_behind parts k) (sum_by (true_cost tariff trip parts) (range_with_len (k + 1) m))
+    all_over zero k whole_list =
+        let here : k ≡ length parts = omega arith in
+        let last : point_behind parts (length parts) ≡ count trip = behind_all parts ∙ (all tariff trip parts price lawful).last in
+        let P : ℕ → Type 0 = λ j. left (point_behind parts j) ≡ Some 0 in
+        let end : left (point_behind parts k) ≡ Some 0 = subst P (sym here) (ap left last ∙ are.end) in
+        over_up trip closing jaw left parts k 0 (greatest_unit parts (places parts)) (point_behind parts k) 0 (omega arith) (λ v low most. none_behind v) (0, end, omega arith)
+      where
+        none_behind : (v : ℕ) → goes_on parts k v ≡ false
+        none_behind v = not_so (goes_on parts k v) (λ t. let g = going_on tariff trip parts price lawful k v t in let past : k < last_of (own parts v) = g.behind in let most : last_of (own parts v) ≤ length parts = g.within in omega arith)
+    all_over (suc m) k whole_list =
+        let more : Stands (k + 1) (greatest_unit parts (places parts)) (point_behind parts (k + 1)) (sum_by (true_cost tariff trip parts) (range_with_len (k + 1 + 1) m)) = all_over m (k + 1) (omega arith) in
+        let P : ℕ → Type 0 = λ j. Stands (k + 1) (greatest_unit parts (places parts)) j (sum_by (true_cost tariff trip parts) (range_with_len (k + 1 + 1) m)) in
+        let o : Stands k (greatest_unit parts (places parts)) (point_behind parts k) (true_cost tariff trip parts (k + 1) + sum_by (true_cost tariff trip parts) (range_with_len (k + 1 + 1) m)) = part_over k (omega arith) (sum_by (true_cost tariff trip parts) (range_with_len (k + 1 + 1) m)) (subst P (behind_next parts k) more) in
+        let Q : ℕ → Type 0 = λ x. Stands k (greatest_unit parts (places parts)) (point_behind parts k) x in
+        subst Q (sym (sum_by-cons (true_cost tariff trip parts) (k + 1) (range_with_len (k + 1 + 1) m))) o
+
+-- what the parts behind the first parts of a lawful construction cost is over the units of these that go on
+pub behind_is_over : (tariff : Tariff) (trip : Itinerary) (closing jaw whole : ℕ → ℕ → Option ℕ) (left : ℕ → Option ℕ) → AreHomings tariff trip closing jaw whole left
+    → (front rest : List Part) (price : ℕ) → IsLawful tariff trip (front ++ rest) price
+    → IsOver trip closing jaw left (front ++ rest) (length front) (greatest_unit front (places front)) (end_of front (length front)) (sum_by (true_cost tariff trip (front ++ rest)) (range_with_len (length front + 1) (length rest)))
+behind_is_over tariff trip closing jaw whole left are front rest price lawful =
+    let n : length (front ++ rest) ≡ length front + length rest = length-append front rest in
+    let o = all_over tariff trip (front ++ rest) price lawful closing jaw whole left are (length rest) (length front) (sym n) in
+    let P : ℕ → Type 0 = λ i. IsOver trip closing jaw left (front ++ rest) (length front) (greatest_unit (front ++ rest) (places (front ++ rest))) i (sum_by (true_cost tariff trip (front ++ rest)) (range_with_len (length front + 1) (length rest))) in
+    over_down trip closing jaw left (front ++ rest) (length front) (greatest_unit front (places front)) (greatest_unit (front ++ rest) (places (front ++ rest))) (end_of front (length front)) (sum_by (true_cost tariff trip (front ++ rest)) (range_with_len (length front + 1) (length rest)))
+    fewer (λ v low high. none_new v low) (subst P (behind_front front) o)
+  where
+    behind_front : (xs : List Part) → point_behind (xs ++ rest) (length xs) ≡ end_of xs (length xs)
+    behind_front [] = refl
+    behind_front (x ∷ xs) = same_end (x ∷ xs) rest (length (x ∷ xs)) (omega arith) (omega arith)
+
+    fewer : greatest_unit front (places front) ≤ greatest_unit (front ++ rest) (places (front ++ rest))
+    fewer =
+        let n : length (front ++ rest) ≡ length front + length rest = length-append front rest in
+        let same : greatest_unit (front ++ rest) (range_with_len 1 (length front + 1 - 1)) ≡ greatest_unit front (range_with_len 1 (length front + 1 - 1)) = greatest_same (front ++ rest) front 1 (length front + 1 - 1) (λ k low high. front_unit front rest k low (omega arith)) in
+        let more : greatest_unit (front ++ rest) (range_with_len 1 (length front + 1 - 1)) ≤ greatest_unit (front ++ rest) (range_with_len 1 (length (front ++ rest) + 1 - 1)) = greatest_fewer (front ++ rest) 1 (length front + 1 - 1) (length (front ++ rest) + 1 - 1) (omega arith) in
+        omega arith
+
+    none_new : (v : ℕ) → greatest_unit front (places front) < v → goes_on (front ++ rest) (length front) v ≡ false
+    none_new v low =
+        not_so (goes_on (front ++ rest) (length front) v) (λ t.
+        let g = going_on tariff trip (front ++ rest) price lawful (length front) v t in
+        let begun : first_of (own (front ++ rest) v) ≤ length front = g.begun in
+        let same : unit_of (front ++ rest) (first_of (own (front ++ rest) v)) ≡ unit_of front (first_of (own (front ++ rest) v)) = front_unit front rest (first_of (own (front ++ rest) v)) g.from_one g.begun in
+        let mine : unit_of (front ++ rest) (first_of (own (front ++ rest) v)) ≡ v = g.first_own in
+        let up : unit_of front (first_of (own (front ++ rest) v)) ≤ greatest_unit front (range_with_len 1 (length front + 1 - 1)) = unit_up_to front 1 (length front + 1 - 1) (first_of (own (front ++ rest) v)) g.from_one (omega arith) in
+        omega arith)

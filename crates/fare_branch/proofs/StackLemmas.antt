@@ -1,0 +1,144 @@
+-- What the parts behind the first parts of a lawful construction cost is no less than what the units that go on say.
+use Rattle.std.proofs.Common.{◌≡◌, ℕ, zero, suc, ◌+◌, ◌-◌, ◌<◌, ◌≤◌, true, false, List, sym, subst, ◌∙◌, inl, inr, arith}
+use Rattle.std.specs.Prelude.{Option, if◌then◌else◌}
+use Rattle.std.proofs.lemmas.Bool.{cases_Bool, cases_lt}
+use Rattle.fare_trip.specs.Itinerary.{Itinerary, count}
+use Rattle.fare_tariff.specs.Tariff.{Tariff}
+use Rattle.fare_rules.specs.declared.part.Part.{Part}
+use Rattle.fare_rules.specs.Construction.{start_of, end_of, own, unit_of, first_of, last_of}
+use Rattle.fare_rules.specs.Shape.{is_ow}
+use Rattle.fare_rules.specs.UnitPrice.{unit_price, part_cost}
+use Rattle.fare_branch.specs.Homing.{IsUpTo, homing_at, is_same_city, AreHomings}
+use Rattle.fare_branch.specs.Stack.{goes_on, IsOver}
+use Rattle.fare_branch.proofs.ReachLemmas.{up_more}
+
+-- what a part costs: a one way fare the price of its unit, and a half round trip its amount
+abbrev pub true_cost : Tariff → Itinerary → List Part → ℕ → ℕ
+true_cost tariff trip parts k =
+    if is_ow tariff parts k then unit_price tariff trip parts (unit_of parts k)
+    else part_cost tariff trip parts (own parts (unit_of parts k)) k
+
+true_false : true ≡ false → ⊥
+true_false e = cc
+
+-- where a unit begins, and where it comes home
+abbrev pub begins_at : Itinerary → List Part → ℕ → ℕ
+begins_at trip parts unit = start_of trip parts (first_of (own parts unit))
+
+abbrev pub home_at : List Part → ℕ → ℕ
+home_at parts unit = end_of parts (last_of (own parts unit))
+
+module _ (trip : Itinerary) (closing jaw : ℕ → ℕ → Option ℕ) (left : ℕ → Option ℕ) (parts : List Part) where
+  abbrev pub Over : ℕ → ℕ → ℕ → ℕ → Type 0
+  Over k u i cost = IsOver trip closing jaw left parts k u i cost
+
+  -- what is over is so with a greater cost
+  pub over_more : (k u i x y : ℕ) → x ≤ y → Over k u i x → Over k u i y
+  over_more k zero i x y h o = up_more x y (left i) h o
+  over_more k (suc u) i x y h o =
+      (λ t. let c = o.0 t in let s : c.0 + c.1 ≤ x = c.2 in (c.0, c.1, omega arith, c.3, c.4), λ f. over_more k u i x y h (o.1 f))
+
+  -- it is the same behind another place where the same units go on
+  pub over_same : (k m u i x : ℕ) → ((v : ℕ) → 1 ≤ v → v ≤ u → goes_on parts k v ≡ goes_on parts m v) → Over k u i x → Over m u i x
+  over_same k m zero i x h o = o
+  over_same k m (suc u) i x h o =
+      let e : goes_on parts k (suc u) ≡ goes_on parts m (suc u) = h (suc u) (omega arith) (omega arith) in (
+        λ t. let c = o.0 (e ∙ t) in (c.0, c.1, c.2, c.3, over_same k m u (home_at parts (suc u)) c.1 (λ v low high. h v low (omega arith)) c.4),
+        λ f. over_same k m u i x (λ v low high. h v low (omega arith)) (o.1 (e ∙ f)),
+      )
+
+  -- units that don't go on drop out
+  pub over_down : (k u n i x : ℕ) → u ≤ n → ((v : ℕ) → u < v → v ≤ n → goes_on parts k v ≡ false) → Over k n i x → Over k u i x
+  over_down k u zero i x h none o =
+      let same : zero ≡ u = omega arith in
+      let P : ℕ → Type 0 = λ w. Over k w i x in
+      subst P same o
+  over_down k u (suc n) i x h none o =
+      elim (cases_lt u (suc n)) [
+        | inl less ↦ over_down k u n i x (omega arith) (λ v low high. none v low (omega arith)) (o.1 (none (suc n) less (omega arith)))
+        | inr past ↦
+            let same : suc n ≡ u = omega arith in
+            let P : ℕ → Type 0 = λ w. Over k w i x in
+            subst P same o
+      ]
+
+  -- and come in
+  pub over_up : (k u n i x : ℕ) → u ≤ n → ((v : ℕ) → u < v → v ≤ n → goes_on parts k v ≡ false) → Over k u i x → Over k n i x
+  over_up k u zero i x h none o =
+      let same : u ≡ zero = omega arith in
+      let P : ℕ → Type 0 = λ w. Over k w i x in
+      subst P same o
+  over_up k u (suc n) i x h none o =
+      elim (cases_lt u (suc n)) [
+        | inl less ↦
+            let f : goes_on parts k (suc n) ≡ false = none (suc n) less (omega arith) in
+            (λ t. absurd (true_false (sym t ∙ f)), λ g. over_up k u n i x (omega arith) (λ v low high. none v low (omega arith)) o)
+        | inr past ↦
+            let same : u ≡ suc n = omega arith in
+            let P : ℕ → Type 0 = λ w. Over k w i x in
+            subst P same o
+      ]
+
+  -- a unit that goes on, with what is behind its home
+  pub over_open : (k u i x y : ℕ) → goes_on parts k (suc u) ≡ true → IsUpTo x (homing_at trip closing jaw (begins_at trip parts (suc u)) i (home_at parts (suc u))) → Over k u (home_at parts (suc u)) y → Over k (suc u) i (x + y)
+  over_open k u i x y t up o = (λ s. (x, y, omega arith, up, o), λ f. absurd (true_false (sym t ∙ f)))
+
+  -- the same for a unit by its number
+  abbrev pub Opens : ℕ → ℕ → ℕ → ℕ → Type 0
+  Opens k unit i cost = (x : ℕ) × (y : ℕ) × (x + y ≤ cost) × IsUpTo x (homing_at trip closing jaw (begins_at trip parts unit) i (home_at parts unit)) × Over k (unit - 1) (home_at parts unit) y
+
+  pub opens : (k unit i cost : ℕ) → 1 ≤ unit → goes_on parts k unit ≡ true → Over k unit i cost → Opens k unit i cost
+  opens k zero i cost low t o = absurd (omega arith)
+  opens k (suc u) i cost low t o =
+      let c = o.0 t in
+      let e : u ≡ suc u - 1 = omega arith in
+      let P : ℕ → Type 0 = λ w. Over k w (home_at parts (suc u)) c.1 in
+      (c.0, c.1, c.2, c.3, subst P e c.4)
+
+  pub from_open : (k unit i x y : ℕ) → 1 ≤ unit → goes_on parts k unit ≡ true → IsUpTo x (homing_at trip closing jaw (begins_at trip parts unit) i (home_at parts unit)) → Over k (unit - 1) (home_at parts unit) y → Over k unit i (x + y)
+  from_open k zero i x y low t up o = absurd (omega arith)
+  from_open k (suc u) i x y low t up o =
+      let e : suc u - 1 ≡ u = omega arith in
+      let P : ℕ → Type 0 = λ w. Over k w (home_at parts (suc u)) y in
+      over_open k u i x y t up (subst P e o)
+
+module _ (tariff : Tariff) (trip : Itinerary) (closing jaw whole : ℕ → ℕ → Option ℕ) (left : ℕ → Option ℕ) (are : AreHomings tariff trip closing jaw whole left) where
+  -- a number for what is nested with one for what is behind it
+  nested_closing : (i b j w x : ℕ) → i < b → b < j → j ≤ count trip → IsUpTo w (whole i b) → IsUpTo x (closing b j) → IsUpTo (w + x) (closing i j)
+  nested_closing i b j w x low less high up more =
+      let a : up.0 ≤ w = up.2 in
+      let c : more.0 ≤ x = more.2 in
+      up_more (up.0 + more.0) (w + x) (closing i j) (omega arith) (are.nested_closes i b j up.0 more.0 low less high up.1 more.1)
+
+  nested_at_jaw : (i b j w x : ℕ) → i < b → b < j → j ≤ count trip → IsUpTo w (whole i b) → IsUpTo x (jaw b j) → IsUpTo (w + x) (jaw i j)
+  nested_at_jaw i b j w x low less high up more =
+      let a : up.0 ≤ w = up.2 in
+      let c : more.0 ≤ x = more.2 in
+      up_more (up.0 + more.0) (w + x) (jaw i j) (omega arith) (are.nested_jaw i b j up.0 more.0 low less high up.1 more.1)
+
+  nested : (start i b j w x : ℕ) → i < b → b < j → j ≤ count trip → IsUpTo w (whole i b) → IsUpTo x (homing_at trip closing jaw start b j) → IsUpTo (w + x) (homing_at trip closing jaw start i j)
+  nested start i b j w x low less high up more =
+      elim (cases_Bool (is_same_city trip start j)) [
+        | inl t ↦ rw t (nested_closing i b j w x low less high up (rw t at more))
+        | inr f ↦ rw f (nested_at_jaw i b j w x low less high up (rw f at more))
+      ]
+
+  behind_whole : (i b w x : ℕ) → i < b → b ≤ count trip → IsUpTo w (whole i b) → IsUpTo x (left b) → IsUpTo (w + x) (left i)
+  behind_whole i b w x low high up more =
+      let a : up.0 ≤ w = up.2 in
+      let c : more.0 ≤ x = more.2 in
+      up_more (up.0 + more.0) (w + x) (left i) (omega arith) (are.onward i b up.0 more.0 low high up.1 more.1)
+
+  -- a whole unit stands before what is over the others, each of which comes home behind it
+  pub step_over : (parts : List Part) (k n i b w x : ℕ) → i < b → b ≤ count trip → IsUpTo w (whole i b)
+      → ((v : ℕ) → 1 ≤ v → v ≤ n → goes_on parts k v ≡ true → (b < home_at parts v) × (home_at parts v ≤ count trip))
+      → IsOver trip closing jaw left parts k n b x → IsOver trip closing jaw left parts k n i (w + x)
+  step_over parts k zero i b w x low high up homes o = behind_whole i b w x low high up o
+  step_over parts k (suc u) i b w x low high up homes o = (
+    λ t.
+        let c = o.0 t in
+        let s : c.0 + c.1 ≤ x = c.2 in
+        let h = homes (suc u) (omega arith) (omega arith) t in
+        (w + c.0, c.1, omega arith, nested (begins_at trip parts (suc u)) i b (home_at parts (suc u)) w c.0 low h.0 h.1 up c.3, c.4),
+    λ f. step_over parts k u i b w x low high up (λ v one most. homes v one (omega arith)) (o.1 f),
+  )

@@ -1,0 +1,88 @@
+-- Stack: units that go on behind some first parts come home one inside the other, the one that began last first.
+use Rattle.std.specs.Prelude.{◌≡◌, ℕ, zero, suc, ◌+◌, ◌≤◌, Bool, true, false, List, ◌++◌, length, Option, Some}
+use Rattle.std.specs.Prelude.{nat_le, nat_lt, ◌&&◌, if◌then◌else◌}
+use Rattle.fare_trip.specs.Itinerary.{Itinerary, count}
+use Rattle.fare_tariff.specs.Tariff.{Tariff}
+use Rattle.fare_rules.specs.declared.part.Part.{Part}
+use Rattle.fare_rules.specs.Best.{IsLawful}
+use Rattle.fare_rules.specs.Construction.{own, first_of, last_of, start_of, end_of, unit_of}
+use Rattle.fare_component.specs.Table.{Pricing}
+use Rattle.fare_bounds.specs.Covers.{rest_at}
+use Rattle.fare_units.specs.Onward.{must_go_on}
+use Rattle.fare_branch.specs.declared.homing.Homing.{Homing}
+use Rattle.fare_branch.specs.declared.stacking.Open.{Open}
+use Rattle.fare_branch.specs.Homing.{IsUpTo, may_end_at, is_same_city, homing_at}
+use Rattle.fare_branch.specs.Rows.{cell}
+
+-- a unit goes on behind a place: its first part stands there or before, and its last one behind
+abbrev pub goes_on : List Part → ℕ → ℕ → Bool
+goes_on parts k unit = nat_le (first_of (own parts unit)) k && nat_lt k (last_of (own parts unit))
+
+-- a cost is over the units, up to a number, that go on behind a place: from a point on, each comes home where it does,
+-- the greatest number first, and behind that there is what is behind where no unit is open
+abbrev pub IsOver : Itinerary → (ℕ → ℕ → Option ℕ) → (ℕ → ℕ → Option ℕ) → (ℕ → Option ℕ) → List Part → ℕ → ℕ → ℕ
+    → ℕ → Type 0
+IsOver trip closing jaw left parts k zero i cost = IsUpTo cost (left i)
+IsOver trip closing jaw left parts k (suc u) i cost =
+    (goes_on parts k (suc u) ≡ true → (x : ℕ) × (y : ℕ) × (x + y ≤ cost)
+    × IsUpTo x (homing_at trip closing jaw (start_of trip parts (first_of (own parts (suc u)))) i
+    (end_of parts (last_of (own parts (suc u)))))
+    × IsOver trip closing jaw left parts k u (end_of parts (last_of (own parts (suc u)))) y)
+    × (goes_on parts k (suc u) ≡ false → IsOver trip closing jaw left parts k u i cost)
+
+-- numbers are under what is behind each point from the end of some first parts on, over the units up to a number, in
+-- every construction that begins with the parts
+abbrev pub AreOver : Pricing → Homing → List Part → ℕ → List (Option ℕ) → Type 0
+AreOver table homing first unit numbers =
+    (rest : List Part) (price i cost : ℕ) → IsLawful table.edition table.trip (first ++ rest) price
+    → end_of first (length first) ≤ i → i ≤ count table.trip
+    → IsOver table.trip (cell homing.closing) (cell homing.jaw) (rest_at homing.rest) (first ++ rest) (length first)
+    unit i cost → IsUpTo cost (rest_at numbers i)
+
+-- a unit is blocked: it began behind the unit of the last of some parts, which it would cross if it went on
+abbrev pub is_blocked : List Part → ℕ → Bool
+is_blocked parts unit = nat_lt (unit_of parts (length parts)) unit
+
+-- a unit that begins at a point may come home at another: in the same city, or, where it has one part so far, in its
+-- country
+abbrev pub may_come_to : Tariff → Itinerary → ℕ → Bool → ℕ → Bool
+may_come_to tariff trip start closes home =
+    if closes then is_same_city trip start home else may_end_at tariff trip start home
+
+-- numbers are those behind each point from one on where a unit may come home
+abbrev pub AreHomes : Tariff → Itinerary → ℕ → ℕ → Bool → List (Option ℕ) → List (Option ℕ) → Type 0
+AreHomes tariff trip from start closes behind homes =
+    (home : ℕ) → from ≤ home → home ≤ count trip → may_come_to tariff trip start closes home ≡ true
+    → rest_at homes home ≡ rest_at behind home
+
+-- a number is under the sum of two others, where there are both
+abbrev pub IsUnderSum : Option ℕ → Option ℕ → Option ℕ → Type 0
+IsUnderSum a b least = (x y : ℕ) → a ≡ Some x → b ≡ Some y → IsUpTo (x + y) least
+
+-- a number is under what is behind a point until a unit comes home, at any point from one on, with what is behind that
+abbrev pub IsUntilHome : Itinerary → Homing → ℕ → ℕ → ℕ → List (Option ℕ) → Option ℕ → Type 0
+IsUntilHome trip homing from start i homes least =
+    (home : ℕ) → from ≤ home → home ≤ count trip
+    → IsUnderSum (homing_at trip (cell homing.closing) (cell homing.jaw) start i home) (rest_at homes home) least
+
+-- a number is under what is behind a point over an open unit: until it comes home; or, where the unit need not go on,
+-- what was there without it
+pub record IsOverOpen (trip : Itinerary) (homing : Homing) (from start : ℕ) (must : Bool) (i : ℕ)
+    (homes : List (Option ℕ)) (behind least : Option ℕ) : Type 0 where
+  pub home : IsUntilHome trip homing from start i homes least
+  pub whole : must ≡ false → (cost : ℕ) → IsUpTo cost behind → IsUpTo cost least
+
+-- what is known of an open unit of some parts: where it begins, whether it has two parts or more, and whether it must
+-- go on
+pub record IsOpenUnit (table : Pricing) (parts : List Part) (unit : ℕ) (opened : Open) : Type 0 where
+  pub start : opened.start ≡ start_of table.trip parts (first_of (own parts unit))
+  pub within : opened.start ≤ count table.trip
+  pub closes : opened.closes ≡ nat_lt 1 (length (own parts unit))
+  pub must : opened.must ≡ must_go_on table.edition table.trip parts (own parts unit)
+
+-- numbers are under what is behind each point from one on over an open unit, by those that are there without it
+abbrev pub AreOverOpen : Pricing → Homing → ℕ → Open → List (Option ℕ) → List (Option ℕ) → Type 0
+AreOverOpen table homing from opened behind row =
+    (homes : List (Option ℕ)) × AreHomes table.edition table.trip from opened.start opened.closes behind homes
+    × ((i : ℕ) → from ≤ i → i ≤ count table.trip
+    → IsOverOpen table.trip homing from opened.start opened.must i homes (rest_at behind i) (rest_at row i))

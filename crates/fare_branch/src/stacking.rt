@@ -1,0 +1,249 @@
+//! What first parts cost at least, with all that may follow: their open units come home one inside the other, and what
+//! begins behind them must end too.
+
+ghost use Rattle.std.specs.Prelude.{◌≡◌, ◌+◌, ◌-◌, ◌≤◌, true, false, length};
+ghost use Rattle.fare_trip.specs.Itinerary.{count};
+ghost use Rattle.fare_bounds.specs.Covers.{rest_at};
+ghost use Rattle.fare_rules.specs.Construction.{end_of, first_of, greatest_unit, own, places};
+ghost use Rattle.fare_units.specs.Advance.{Advances};
+ghost use Rattle.fare_branch.specs.Floors.{IsMadeWith, IsFloorAnswer};
+ghost use Rattle.fare_branch.specs.Homing.{homing_at};
+ghost use Rattle.fare_branch.specs.Rows.{cell, AreHomingsOf};
+ghost use Rattle.fare_branch.specs.Stack.{AreOver, AreHomes, AreOverOpen, IsUntilHome, IsOverOpen};
+ghost use Rattle.fare_branch.specs.Stack.{IsOpenUnit, is_blocked, may_come_to};
+
+use crate::costs::units_floor;
+use crate::homing::{Homing, cell};
+use crate::nearness::are_near;
+use crate::partial::Partial;
+use crate::reaching::added;
+use fare_bounds::lesser;
+use fare_component::Table;
+use fare_rules::{MOST_POINTS, Part};
+use fare_trip::Trip;
+use fare_units::{MOST_PARTS, is_shut_unit, must_go_on, part_at, start_of};
+
+/// A unit of first parts that is open: parts may come to it.
+#[derive(Clone, Copy)]
+struct Open {
+    /// The point where it begins.
+    start: usize,
+    /// Whether it must close, since it has two parts or more.
+    closes: bool,
+    /// Whether it must go on.
+    must: bool,
+}
+
+/// The first of the places of a unit; 0 where there is none.
+#[tactic(auto, using(crate::proofs::StackRowLemmas::own_here, crate::proofs::StackRowLemmas::own_over, crate::proofs::StackRowLemmas::own_done), unfolding(fare_rules::specs::Construction::own))]
+fn first_place(parts: &[Part], unit: usize) -> usize
+    ensures { result ≡ first_of (own parts.now unit) }
+{
+    for k in 1..parts.len() + 1 {
+        if part_at(parts, k).unit as usize == unit {
+            return k;
+        }
+    }
+    0
+}
+
+/// How many parts a unit has.
+#[tactic(auto, using(crate::proofs::StackRowLemmas::own_here, crate::proofs::StackRowLemmas::own_over, crate::proofs::StackRowLemmas::own_done), unfolding(fare_rules::specs::Construction::own))]
+fn part_count(parts: &[Part], unit: usize) -> usize
+    requires { length parts.now ≤ MOST_PARTS }
+    ensures { result ≡ length (own parts.now unit) }
+{
+    let mut count = 0;
+    for k in 1..parts.len() + 1 {
+        if part_at(parts, k).unit as usize != unit {
+            continue;
+        }
+        count += 1;
+    }
+    count
+}
+
+/// Whether a unit would cross that of the last of some parts if it went on.
+fn is_blocked(parts: &[Part], unit: usize) -> bool
+    ensures { result ≡ is_blocked parts.now unit }
+{
+    (part_at(parts, parts.len()).unit as usize) < unit
+}
+
+/// Whether a unit that begins at a point may come home at another.
+fn may_come_to(table: &Table, start: usize, closes: bool, home: usize) -> bool
+    requires start { start ≤ count table.now.trip }
+    requires home { home ≤ count table.now.trip }
+    ensures { result ≡ may_come_to table.now.edition table.now.trip start closes home }
+{
+    let trip = table.trip();
+    if closes {
+        trip.point(home).is(trip.point(start))
+    } else {
+        are_near(table.edition(), trip.point(home), trip.point(start))
+    }
+}
+
+/// What is behind a point at least until a unit comes home at another, by where it began.
+fn homing_at(trip: &Trip, homing: &Homing, start: usize, i: usize, home: usize) -> Option<u64>
+    requires start { start ≤ count trip.now }
+    requires home { home ≤ count trip.now }
+    ensures { result ≡ homing_at trip.now (cell homing.now.closing) (cell homing.now.jaw) start i home }
+{
+    if trip.point(home).is(trip.point(start)) {
+        cell(&homing.closing, i, home)
+    } else {
+        cell(&homing.jaw, i, home)
+    }
+}
+
+/// The numbers behind the points where a unit may come home.
+fn homes_of(
+    table: &Table,
+    from: usize,
+    opened: Open,
+    behind: &[Option<u64>; MOST_POINTS],
+) -> [Option<u64>; MOST_POINTS]
+    requires start { opened.start ≤ count table.now.trip }
+    ensures { AreHomes table.now.edition table.now.trip from opened.start opened.closes behind.now result }
+{
+    let mut homes = [None; MOST_POINTS];
+    for home in from..table.trip().count() + 1 {
+        if may_come_to(table, opened.start, opened.closes, home) {
+            homes[home] = behind[home];
+        }
+    }
+    homes
+}
+
+/// What is behind a point at least until a unit comes home, with what is behind that.
+fn until_home(
+    trip: &Trip,
+    homing: &Homing,
+    from: usize,
+    start: usize,
+    i: usize,
+    homes: &[Option<u64>; MOST_POINTS],
+) -> Option<u64>
+    requires start { start ≤ count trip.now }
+    ensures { IsUntilHome trip.now homing.now from start i homes.now result }
+{
+    let mut least = None;
+    for home in from..trip.count() + 1 {
+        let here = added(homing_at(trip, homing, start, i, home), homes[home]);
+        least = lesser(least, here);
+    }
+    least
+}
+
+/// What is behind a point at least over an open unit, by what is there without it.
+#[tactic(auto, using(crate::proofs::StackRowLemmas::over_must, crate::proofs::StackRowLemmas::over_free))]
+fn over_point(
+    trip: &Trip,
+    homing: &Homing,
+    from: usize,
+    opened: Open,
+    i: usize,
+    homes: &[Option<u64>; MOST_POINTS],
+    behind: Option<u64>,
+) -> Option<u64>
+    requires start { opened.start ≤ count trip.now }
+    ensures { IsOverOpen trip.now homing.now from opened.start opened.must i homes.now behind result }
+{
+    let until = until_home(trip, homing, from, opened.start, i, homes);
+    if opened.must {
+        until
+    } else {
+        lesser(until, behind)
+    }
+}
+
+/// What is behind each point at least over an open unit, by what is there without it.
+fn over_open(
+    table: &Table,
+    homing: &Homing,
+    from: usize,
+    opened: Open,
+    behind: &[Option<u64>; MOST_POINTS],
+) -> [Option<u64>; MOST_POINTS]
+    requires start { opened.start ≤ count table.now.trip }
+    ensures { AreOverOpen table.now homing.now from opened behind.now result }
+{
+    let homes = homes_of(table, from, opened, behind);
+    let trip = table.trip();
+    let mut row = [None; MOST_POINTS];
+    for i in from..trip.count() + 1 {
+        row[i] = over_point(trip, homing, from, opened, i, &homes, behind[i]);
+    }
+    row
+}
+
+/// What is known of an open unit of first parts.
+#[tactic(auto, using(crate::proofs::StackRowLemmas::begins_within))]
+fn open_unit(table: &Table, parts: &[Part], unit: usize) -> Open
+    requires few { length parts.now ≤ MOST_PARTS }
+    requires advances { Advances table.now.trip parts.now }
+    ensures { IsOpenUnit table.now parts.now unit result }
+{
+    let trip = table.trip();
+    Open {
+        start: start_of(trip, parts, first_place(parts, unit)),
+        closes: part_count(parts, unit) > 1,
+        must: must_go_on(table.edition(), trip, parts, unit),
+    }
+}
+
+/// What is behind each point at least over one unit more of first parts.
+#[tactic(auto, using(crate::proofs::StackFloorLemmas::over_shut_unit, crate::proofs::StackFloorLemmas::over_blocked_unit, crate::proofs::StackFloorLemmas::over_no_unit, crate::proofs::StackFloorLemmas::over_open_unit))]
+fn over_unit(
+    table: &Table,
+    homing: &Homing,
+    partial: &Partial,
+    unit: usize,
+    behind: &[Option<u64>; MOST_POINTS],
+) -> [Option<u64>; MOST_POINTS]
+    requires made { IsMadeWith table.now partial.now }
+    requires low { 1 ≤ unit }
+    requires high { unit ≤ greatest_unit partial.now (places partial.now) }
+    requires behind { AreOver table.now homing.now partial.now (unit - 1) behind.now }
+    ensures { AreOver table.now homing.now partial.now unit result }
+{
+    let parts = partial.parts();
+    if is_shut_unit(table.edition(), table.trip(), parts, unit) {
+        return *behind;
+    }
+    let opened = open_unit(table, parts, unit);
+    if !is_blocked(parts, unit) {
+        return over_open(table, homing, partial.end(), opened, behind);
+    }
+    if opened.must {
+        return [None; MOST_POINTS];
+    }
+    *behind
+}
+
+/// What is behind each point at least over all units of first parts.
+fn over_units(table: &Table, homing: &Homing, partial: &Partial) -> [Option<u64>; MOST_POINTS]
+    requires made { IsMadeWith table.now partial.now }
+    ensures { AreOver table.now homing.now partial.now (greatest_unit partial.now (places partial.now)) result }
+{
+    let mut behind = homing.rest;
+    for unit in 1..partial.greatest_unit() + 1 {
+        behind = over_unit(table, homing, partial, unit, &behind);
+    }
+    behind
+}
+
+/// A number that is at most the price of every completion of some first parts; nothing only where there is none. It
+/// knows that what begins must end: each open unit comes home, one inside the other, and so does each that begins
+/// behind.
+pub(crate) fn stack_floor(table: &Table, homing: &Homing, partial: &Partial) -> Option<u64>
+    requires homing { AreHomingsOf table.now.edition table.now.trip homing.now }
+    requires made { IsMadeWith table.now partial.now }
+    ensures { IsFloorAnswer table.now.edition table.now.trip partial.now result }
+{
+    let _sectors = table.trip().count();
+    let spent = units_floor(table, partial.parts(), partial.greatest_unit());
+    let behind = over_units(table, homing, partial);
+    added(Some(spent), behind[partial.end()])
+}
