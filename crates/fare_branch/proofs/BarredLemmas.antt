@@ -1,13 +1,11 @@
 -- First parts that the rules on stays and on combined fares bar have no completion.
-use Rattle.std.proofs.Common.{◌≡◌, ℕ, ◌+◌, ◌-◌, ◌≤◌, ◌⊎◌, Bool, true, false, ◌&&◌, ◌||◌, not, List, [], ◌∷◌, ◌++◌, length, refl, ap, sym, subst, ◌∙◌, inl, inr, arith}
+use Rattle.std.proofs.Common.{◌≡◌, ℕ, ◌+◌, ◌-◌, ◌≤◌, Bool, true, false, ◌&&◌, not, List, [], ◌∷◌, ◌++◌, length, refl, ap, sym, subst, ◌∙◌, inl, inr, arith}
 use Rattle.std.specs.List.{list_any}
 use Rattle.std.proofs.Math.ListN.{length-append}
 use Rattle.std.proofs.lemmas.Bool.{or_cases, and_parts, eq-eqb, eqb-false}
-use Rattle.fare_codes.specs.Day.{day_number}
 use Rattle.fare_trip.specs.Itinerary.{Itinerary}
 use Rattle.fare_tariff.specs.Tariff.{Tariff}
 use Rattle.fare_rules.specs.declared.part.Part.{Part}
-use Rattle.fare_rules.specs.Span.{first_day}
 use Rattle.fare_rules.specs.Construction.{places, own, is_own, last_of, greatest_unit, unit_of, is_misnumbered, misnumbered}
 use Rattle.fare_rules.specs.Shape.{is_hr}
 use Rattle.fare_rules.specs.UnitRules.{stay, allows_stay_of, forbids_stay, is_mistimed, mistimed, is_misfit, has_misfit, is_misfitted, misfitted, is_clash, clashes, clashed}

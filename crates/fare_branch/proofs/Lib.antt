@@ -26,3 +26,4 @@ pub mod StackLemmas
 pub mod GoesOnLemmas
 pub mod TrueCostLemmas
 pub mod OverLemmas
+pub mod AheadLemmas

@@ -50,7 +50,7 @@ abbrev pub point_behind : List Part → ℕ → ℕ
 point_behind parts zero = 0
 point_behind parts (suc k) = end_of parts (suc k)
 
-behind_next : (parts : List Part) (k : ℕ) → point_behind parts (k + 1) ≡ end_of parts (k + 1)
+pub behind_next : (parts : List Part) (k : ℕ) → point_behind parts (k + 1) ≡ end_of parts (k + 1)
 behind_next parts k =
     let e : suc k ≡ k + 1 = omega arith in
     let P : ℕ → Type 0 = λ n. point_behind parts n ≡ end_of parts n in
@@ -135,16 +135,16 @@ module _ (tariff : Tariff) (trip : Itinerary) (parts : List Part) (price : ℕ) 
       mine_high = unit_in tariff trip parts price lawful (k + 1) (omega arith) high
 
       -- the places of its unit lie between its first and its last one
-      first_by : first_of (own parts (unit_of parts (k + 1))) ≤ k + 1
+      pub first_by : first_of (own parts (unit_of parts (k + 1))) ≤ k + 1
       first_by = own_first parts (unit_of parts (k + 1)) (k + 1) (own_has tariff trip parts price lawful (k + 1) (omega arith) high)
 
-      last_by : k + 1 ≤ last_of (own parts (unit_of parts (k + 1)))
+      pub last_by : k + 1 ≤ last_of (own parts (unit_of parts (k + 1)))
       last_by = own_last parts (unit_of parts (k + 1)) (k + 1) (own_has tariff trip parts price lawful (k + 1) (omega arith) high)
 
-      rises : point_behind parts k < end_of parts (k + 1)
+      pub rises : point_behind parts k < end_of parts (k + 1)
       rises = part_rises k high
 
-      within : end_of parts (k + 1) ≤ count trip
+      pub within : end_of parts (k + 1) ≤ count trip
       within = (all tariff trip parts price lawful).within (k + 1) (omega arith) high
 
       -- its entry is one of those from the point behind the others
@@ -210,6 +210,10 @@ module _ (tariff : Tariff) (trip : Itinerary) (parts : List Part) (price : ℕ) 
               | inr other ↦ other_same v other
             ]
 
+        -- so what is over the units behind it is over those before it
+        pub alone_behind : Stands k (greatest_unit parts (places parts)) (end_of parts (k + 1)) behind
+        alone_behind = over_same trip closing jaw left parts (k + 1) k (greatest_unit parts (places parts)) (end_of parts (k + 1)) behind (λ v low most. alone_same v) over
+
         alone_over : Stands k (greatest_unit parts (places parts)) (point_behind parts k) (true_cost tariff trip parts (k + 1) + behind)
         alone_over =
             let up : IsUpTo (true_cost tariff trip parts (k + 1)) (whole (point_behind parts k) (end_of parts (k + 1))) = are.alone (point_behind parts k) (end_of parts (k + 1)) (entry tariff trip parts price lawful (k + 1)) (true_cost tariff trip parts (k + 1)) contained (alone_cost tariff trip parts price lawful (k + 1) (omega arith) high way) in
@@ -224,7 +228,7 @@ module _ (tariff : Tariff) (trip : Itinerary) (parts : List Part) (price : ℕ) 
         shape : (2 ≤ length (own parts (unit_of parts (k + 1)))) × (3 ≤ length (own parts (unit_of parts (k + 1))) → comes_home trip parts (own parts (unit_of parts (k + 1))) ≡ true)
         shape = half_shape (unit_of parts (k + 1)) mine_low mine_high (own parts (unit_of parts (k + 1))) refl none_ow
 
-        apart : first_of (own parts (unit_of parts (k + 1))) < last_of (own parts (unit_of parts (k + 1)))
+        pub apart : first_of (own parts (unit_of parts (k + 1))) < last_of (own parts (unit_of parts (k + 1)))
         apart = own_two parts (unit_of parts (k + 1)) shape.0
 
         three : first_of (own parts (unit_of parts (k + 1))) < k + 1 → k + 1 < last_of (own parts (unit_of parts (k + 1))) → 3 ≤ length (own parts (unit_of parts (k + 1)))
@@ -248,6 +252,48 @@ module _ (tariff : Tariff) (trip : Itinerary) (parts : List Part) (price : ℕ) 
 
           opened : Opens trip closing jaw left parts (k + 1) (unit_of parts (k + 1)) (end_of parts (k + 1)) behind
           opened = opens trip closing jaw left parts (k + 1) (unit_of parts (k + 1)) (end_of parts (k + 1)) behind mine_low goes (over_down trip closing jaw left parts (k + 1) (unit_of parts (k + 1)) (greatest_unit parts (places parts)) (end_of parts (k + 1)) behind mine_high (λ v low most. above_not_next v low) over)
+
+        -- where it is the last of its unit, what is behind it is over the units before that
+        pub last_behind : last_of (own parts (unit_of parts (k + 1))) ≡ k + 1 → Stands k (unit_of parts (k + 1) - 1) (end_of parts (k + 1)) behind
+        last_behind last =
+            let next : goes_on parts (k + 1) (unit_of parts (k + 1)) ≡ false = goes_not parts (k + 1) (unit_of parts (k + 1)) (λ a b. omega arith) in
+            under_same (end_of parts (k + 1)) behind (over_down trip closing jaw left parts (k + 1) (unit_of parts (k + 1) - 1) (greatest_unit parts (places parts)) (end_of parts (k + 1)) behind under_most (λ v low most. from_mine (k + 1) next above_not_next v low) over)
+
+        -- and it ends where its unit may
+        pub last_may : last_of (own parts (unit_of parts (k + 1))) ≡ k + 1 → may_end_at tariff trip (begins_at trip parts (unit_of parts (k + 1))) (end_of parts (k + 1)) ≡ true
+        last_may last =
+            let P : ℕ → Type 0 = λ j. may_end_at tariff trip (begins_at trip parts (unit_of parts (k + 1))) (end_of parts j) ≡ true in
+            let some : 2 ≤ length (own parts (unit_of parts (k + 1))) = shape.0 in
+            subst P last (half_ends_by (unit_of parts (k + 1)) mine_low mine_high (own parts (unit_of parts (k + 1))) refl (omega arith) none_ow)
+
+        -- else its unit comes home behind it, and then there is what is over the units before that
+        pub record ComesHome : Type 0 where
+          pub until : ℕ
+          pub left_over : ℕ
+          pub sum : until + left_over ≤ behind
+          pub homing : IsUpTo until (homing_at trip closing jaw (begins_at trip parts (unit_of parts (k + 1))) (end_of parts (k + 1)) (home_at parts (unit_of parts (k + 1))))
+          pub stands : Stands k (unit_of parts (k + 1) - 1) (home_at parts (unit_of parts (k + 1))) left_over
+          pub later : end_of parts (k + 1) < home_at parts (unit_of parts (k + 1))
+          pub home_within : home_at parts (unit_of parts (k + 1)) ≤ count trip
+          pub may : may_end_at tariff trip (begins_at trip parts (unit_of parts (k + 1))) (home_at parts (unit_of parts (k + 1))) ≡ true
+          pub city : first_of (own parts (unit_of parts (k + 1))) < k + 1 → is_same_city trip (begins_at trip parts (unit_of parts (k + 1))) (home_at parts (unit_of parts (k + 1))) ≡ true
+
+        pub comes_home_later : k + 1 < last_of (own parts (unit_of parts (k + 1))) → ComesHome
+        comes_home_later less =
+            let c = opened less in
+            let h = home_later (unit_of parts (k + 1)) (goes less) in
+            let some : 2 ≤ length (own parts (unit_of parts (k + 1))) = shape.0 in
+            record {
+              until = c.0;
+              left_over = c.1;
+              sum = c.2;
+              homing = c.3;
+              stands = under_same (home_at parts (unit_of parts (k + 1))) c.1 c.4;
+              later = h.0;
+              home_within = h.1;
+              may = half_ends_by (unit_of parts (k + 1)) mine_low mine_high (own parts (unit_of parts (k + 1))) refl (omega arith) none_ow;
+              city = λ first. shape.1 (three first less);
+            }
 
         first_over : first_of (own parts (unit_of parts (k + 1))) ≡ k + 1 → Stands k (greatest_unit parts (places parts)) (point_behind parts k) (true_cost tariff trip parts (k + 1) + behind)
         first_over first =
@@ -340,6 +386,31 @@ module _ (tariff : Tariff) (trip : Itinerary) (parts : List Part) (price : ℕ) 
         let Q : ℕ → Type 0 = λ x. Stands k (greatest_unit parts (places parts)) (point_behind parts k) x in
         subst Q (sym (sum_by-cons (true_cost tariff trip parts) (k + 1) (range_with_len (k + 1 + 1) m))) o
 
+-- the point behind the first parts is where they end
+pub behind_front : (front rest : List Part) → point_behind (front ++ rest) (length front) ≡ end_of front (length front)
+behind_front [] rest = refl
+behind_front (x ∷ xs) rest = same_end (x ∷ xs) rest (length (x ∷ xs)) (omega arith) (omega arith)
+
+module _ (tariff : Tariff) (trip : Itinerary) (front rest : List Part) (price : ℕ) (lawful : IsLawful tariff trip (front ++ rest) price) where
+  -- the units of the first parts are among all
+  pub fewer : greatest_unit front (places front) ≤ greatest_unit (front ++ rest) (places (front ++ rest))
+  fewer =
+      let n : length (front ++ rest) ≡ length front + length rest = length-append front rest in
+      let same : greatest_unit (front ++ rest) (range_with_len 1 (length front + 1 - 1)) ≡ greatest_unit front (range_with_len 1 (length front + 1 - 1)) = greatest_same (front ++ rest) front 1 (length front + 1 - 1) (λ k low high. front_unit front rest k low (omega arith)) in
+      let more : greatest_unit (front ++ rest) (range_with_len 1 (length front + 1 - 1)) ≤ greatest_unit (front ++ rest) (range_with_len 1 (length (front ++ rest) + 1 - 1)) = greatest_fewer (front ++ rest) 1 (length front + 1 - 1) (length (front ++ rest) + 1 - 1) (omega arith) in
+      omega arith
+
+  -- and no other goes on behind the first parts
+  pub none_new : (v : ℕ) → greatest_unit front (places front) < v → goes_on (front ++ rest) (length front) v ≡ false
+  none_new v low =
+      not_so (goes_on (front ++ rest) (length front) v) (λ t.
+      let g = going_on tariff trip (front ++ rest) price lawful (length front) v t in
+      let begun : first_of (own (front ++ rest) v) ≤ length front = g.begun in
+      let same : unit_of (front ++ rest) (first_of (own (front ++ rest) v)) ≡ unit_of front (first_of (own (front ++ rest) v)) = front_unit front rest (first_of (own (front ++ rest) v)) g.from_one g.begun in
+      let mine : unit_of (front ++ rest) (first_of (own (front ++ rest) v)) ≡ v = g.first_own in
+      let up : unit_of front (first_of (own (front ++ rest) v)) ≤ greatest_unit front (range_with_len 1 (length front + 1 - 1)) = unit_up_to front 1 (length front + 1 - 1) (first_of (own (front ++ rest) v)) g.from_one (omega arith) in
+      omega arith)
+
 -- what the parts behind the first parts of a lawful construction cost is over the units of these that go on
 pub behind_is_over : (tariff : Tariff) (trip : Itinerary) (closing jaw whole : ℕ → ℕ → Option ℕ) (left : ℕ → Option ℕ) → AreHomings tariff trip closing jaw whole left
     → (front rest : List Part) (price : ℕ) → IsLawful tariff trip (front ++ rest) price
@@ -349,25 +420,4 @@ behind_is_over tariff trip closing jaw whole left are front rest price lawful =
     let o = all_over tariff trip (front ++ rest) price lawful closing jaw whole left are (length rest) (length front) (sym n) in
     let P : ℕ → Type 0 = λ i. IsOver trip closing jaw left (front ++ rest) (length front) (greatest_unit (front ++ rest) (places (front ++ rest))) i (sum_by (true_cost tariff trip (front ++ rest)) (range_with_len (length front + 1) (length rest))) in
     over_down trip closing jaw left (front ++ rest) (length front) (greatest_unit front (places front)) (greatest_unit (front ++ rest) (places (front ++ rest))) (end_of front (length front)) (sum_by (true_cost tariff trip (front ++ rest)) (range_with_len (length front + 1) (length rest)))
-    fewer (λ v low high. none_new v low) (subst P (behind_front front) o)
-  where
-    behind_front : (xs : List Part) → point_behind (xs ++ rest) (length xs) ≡ end_of xs (length xs)
-    behind_front [] = refl
-    behind_front (x ∷ xs) = same_end (x ∷ xs) rest (length (x ∷ xs)) (omega arith) (omega arith)
-
-    fewer : greatest_unit front (places front) ≤ greatest_unit (front ++ rest) (places (front ++ rest))
-    fewer =
-        let n : length (front ++ rest) ≡ length front + length rest = length-append front rest in
-        let same : greatest_unit (front ++ rest) (range_with_len 1 (length front + 1 - 1)) ≡ greatest_unit front (range_with_len 1 (length front + 1 - 1)) = greatest_same (front ++ rest) front 1 (length front + 1 - 1) (λ k low high. front_unit front rest k low (omega arith)) in
-        let more : greatest_unit (front ++ rest) (range_with_len 1 (length front + 1 - 1)) ≤ greatest_unit (front ++ rest) (range_with_len 1 (length (front ++ rest) + 1 - 1)) = greatest_fewer (front ++ rest) 1 (length front + 1 - 1) (length (front ++ rest) + 1 - 1) (omega arith) in
-        omega arith
-
-    none_new : (v : ℕ) → greatest_unit front (places front) < v → goes_on (front ++ rest) (length front) v ≡ false
-    none_new v low =
-        not_so (goes_on (front ++ rest) (length front) v) (λ t.
-        let g = going_on tariff trip (front ++ rest) price lawful (length front) v t in
-        let begun : first_of (own (front ++ rest) v) ≤ length front = g.begun in
-        let same : unit_of (front ++ rest) (first_of (own (front ++ rest) v)) ≡ unit_of front (first_of (own (front ++ rest) v)) = front_unit front rest (first_of (own (front ++ rest) v)) g.from_one g.begun in
-        let mine : unit_of (front ++ rest) (first_of (own (front ++ rest) v)) ≡ v = g.first_own in
-        let up : unit_of front (first_of (own (front ++ rest) v)) ≤ greatest_unit front (range_with_len 1 (length front + 1 - 1)) = unit_up_to front 1 (length front + 1 - 1) (first_of (own (front ++ rest) v)) g.from_one (omega arith) in
-        omega arith)
+    (fewer tariff trip front rest price lawful) (λ v low high. none_new tariff trip front rest price lawful v low) (subst P (behind_front front rest) o)

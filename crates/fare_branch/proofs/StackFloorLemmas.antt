@@ -89,7 +89,7 @@ module _ (tariff : Tariff) (trip : Itinerary) (front rest : List Part) (price : 
       (omega arith, omega arith, eqb-true (unit_of (front ++ rest) j) unit h.2)
 
   module _ (unit : ℕ) (low : 1 ≤ unit) (high : unit ≤ greatest_unit front (places front)) where
-    has_first_in : (ys : List ℕ) → own front unit ≡ ys → (x : ℕ) × (xs : List ℕ) × (own front unit ≡ x ∷ xs)
+    pub has_first_in : (ys : List ℕ) → own front unit ≡ ys → (x : ℕ) × (xs : List ℕ) × (own front unit ≡ x ∷ xs)
     has_first_in [] e =
         let n : length (front ++ rest) ≡ length front + length rest = length-append front rest in
         let a = begun unit low high in
@@ -104,13 +104,13 @@ module _ (tariff : Tariff) (trip : Itinerary) (front rest : List Part) (price : 
     has_first_in (x ∷ xs) e = (x, xs, e)
 
     module _ (x : ℕ) (xs : List ℕ) (e : own front unit ≡ x ∷ xs) where
-      firsts : AreFirst tariff trip front rest (x ∷ xs)
+      pub firsts : AreFirst tariff trip front rest (x ∷ xs)
       firsts = let P : List ℕ → Type 0 = λ ys. AreFirst tariff trip front rest ys in subst P e (own_are_first tariff trip front rest unit)
 
       in_two : own (front ++ rest) unit ≡ (x ∷ xs) ++ own_behind tariff trip front rest unit
       in_two = let Q : List ℕ → Type 0 = λ ys. own (front ++ rest) unit ≡ ys ++ own_behind tariff trip front rest unit in subst Q e (own_in_two tariff trip front rest unit)
 
-      first_is : first_of (own (front ++ rest) unit) ≡ x
+      pub first_is : first_of (own (front ++ rest) unit) ≡ x
       first_is = ap first_of in_two
 
       -- where no part is behind, the unit doesn't go on
@@ -144,7 +144,7 @@ module _ (tariff : Tariff) (trip : Itinerary) (front rest : List Part) (price : 
             (lt-ltb (length front) (last_of (own (front ++ rest) unit)) (omega arith))
 
         -- it isn't shut
-        not_shut : is_shut_unit tariff trip front unit ≡ true → ⊥
+        pub not_shut : is_shut_unit tariff trip front unit ≡ true → ⊥
         not_shut shut =
             let none : own_behind tariff trip front rest unit ≡ [] = shut_alone tariff trip front rest price lawful unit low (in_all unit low high) (own front unit) (own_behind tariff trip front rest unit) (own_are_first tariff trip front rest unit) (own_in_two tariff trip front rest unit) shut in
             let empty : k ∷ more ≡ [] = sym some ∙ none in
@@ -152,7 +152,7 @@ module _ (tariff : Tariff) (trip : Itinerary) (front rest : List Part) (price : 
             absurd (omega arith)
 
         -- nor does it cross the unit of the last of the first parts
-        not_blocked : is_blocked front unit ≡ true → ⊥
+        pub not_blocked : is_blocked front unit ≡ true → ⊥
         not_blocked blocked =
             let less : unit_of front (length front) < unit = ltb-true (unit_of front (length front)) unit blocked in
             let n : length (front ++ rest) ≡ length front + length rest = length-append front rest in

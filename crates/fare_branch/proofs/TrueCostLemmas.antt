@@ -97,7 +97,7 @@ module _ (tariff : Tariff) (trip : Itinerary) (parts : List Part) (price : ℕ) 
       single_there tariff trip (start_of trip parts k) (end_of parts k) (part_at parts k).fare filed.0 filed.1 (unit_price tariff trip parts (unit_of parts k)) (not_half filed.0.kind kind) (one_way_unit tariff trip parts price k lawful low high way)
       ∙ ap Some (sym (one_way_true k way))
 
-  no_single : (k : ℕ) → 1 ≤ k → k ≤ length parts → is_ow tariff parts k ≡ false → single_price tariff trip (start_of trip parts k) (end_of parts k) (part_at parts k).fare ≡ None
+  pub no_single : (k : ℕ) → 1 ≤ k → k ≤ length parts → is_ow tariff parts k ≡ false → single_price tariff trip (start_of trip parts k) (end_of parts k) (part_at parts k).fare ≡ None
   no_single k low high way =
       let filed = fare_is_filed tariff trip parts (kept tariff trip parts price lawful) k low high in
       let kind : same_kind filed.0.kind OW ≡ false = rw filed.1 at way in

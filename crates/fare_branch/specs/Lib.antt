@@ -9,6 +9,7 @@ pub mod Costs
 pub mod Homing
 pub mod Rows
 pub mod Stack
+pub mod Ahead
 pub mod Walked
 pub mod Search
 pub mod Dive

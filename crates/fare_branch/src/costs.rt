@@ -18,7 +18,7 @@ use fare_units::{MOST_PARTS, part_at, shut_price, start_of};
 pub(crate) const UNIT_LIMIT: u64 = 32_000_000_000;
 
 /// What an entry costs at least; 0 where nothing is known.
-fn entry_least(entry: &Entry) -> u64
+pub(crate) fn entry_least(entry: &Entry) -> u64
     requires { IsInBounds entry.now }
     ensures value { result ≡ or_nothing (least_cost entry.now) }
     ensures bound { result < COST_LIMIT }

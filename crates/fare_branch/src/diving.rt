@@ -1,19 +1,22 @@
 //! The steps of a dive: to first parts of a piece, or from some first parts to those that one more follows, by the
 //! least floor.
 
-ghost use Rattle.std.specs.Prelude.{◌≡◌, ◌+◌, ◌<◌, ◌≤◌, IfSome};
+ghost use Rattle.std.specs.Prelude.{◌≡◌, ◌+◌, ◌<◌, ◌≤◌, [], IfSome};
 ghost use Rattle.fare_trip.specs.Itinerary.{count};
+ghost use Rattle.fare_component.specs.Table.{IsInBounds};
 ghost use Rattle.fare_units.specs.Walk.{next_start};
+ghost use Rattle.fare_branch.specs.Ahead.{AreAhead};
 ghost use Rattle.fare_branch.specs.Rows.{AreHomingsOf};
 ghost use Rattle.fare_branch.specs.Floors.{IsMadeWith};
 ghost use Rattle.fare_branch.specs.Dive.{GoesFrom, StartsIn};
 
+use crate::ahead::{Ahead, ahead_of, floor_ahead, floor_with};
 use crate::barred::is_barred;
 use crate::homing::Homing;
 use crate::partial::Partial;
 use crate::pieces::{Piece, choice, choices};
 use crate::stacking::stack_floor;
-use fare_component::Table;
+use fare_component::{Entry, Table};
 use fare_rules::Part;
 
 /// Some first parts with their floor, where there are any.
@@ -35,6 +38,7 @@ fn lesser_step(
     homing: &Homing,
     front: &Partial,
     part: Part,
+    guess: Option<u64>,
     from: u64,
     found: Step,
 ) -> Step
@@ -43,6 +47,12 @@ fn lesser_step(
     requires found { IfSome found (GoesFrom table.now front.now) }
     ensures { IfSome result (GoesFrom table.now front.now) }
 {
+    let Some(guess) = guess else {
+        return found;
+    };
+    if is_no_dearer(&found, guess) {
+        return found;
+    }
     let Some(longer) = front.next(table, part) else {
         return found;
     };
@@ -60,14 +70,16 @@ fn least_by_units(
     table: &Table,
     homing: &Homing,
     front: &Partial,
+    ahead: &Ahead,
     end: usize,
-    fare: u32,
+    entry: &Entry,
     from: u64,
     found: Step,
 ) -> Step
     requires homing { AreHomingsOf table.now.edition table.now.trip homing.now }
     requires made { IsMadeWith table.now front.now }
     requires within { end ≤ count table.now.trip }
+    requires bounds { IsInBounds entry.now }
     requires found { IfSome found (GoesFrom table.now front.now) }
     ensures { IfSome result (GoesFrom table.now front.now) }
 {
@@ -78,9 +90,10 @@ fn least_by_units(
         let part = Part {
             end: end as u8,
             unit: unit as u8,
-            fare,
+            fare: entry.fare,
         };
-        found = lesser_step(table, homing, front, part, from, found);
+        let guess = floor_with(ahead, entry, part);
+        found = lesser_step(table, homing, front, part, guess, from, found);
     }
     found
 }
@@ -90,6 +103,7 @@ fn least_by_entries(
     table: &Table,
     homing: &Homing,
     front: &Partial,
+    ahead: &Ahead,
     end: usize,
     from: u64,
     found: Step,
@@ -103,7 +117,7 @@ fn least_by_entries(
 {
     let mut found = found;
     for entry in table.entries(front.next_start(table.trip()), end) {
-        found = least_by_units(table, homing, front, end, entry.fare, from, found);
+        found = least_by_units(table, homing, front, ahead, end, entry, from, found);
     }
     found
 }
@@ -115,9 +129,10 @@ pub(crate) fn least_step(table: &Table, homing: &Homing, front: &Partial, from: 
     ensures { IfSome result (GoesFrom table.now front.now) }
 {
     let trip = table.trip();
+    let ahead = ahead_of(table, homing, front);
     let mut found = None;
     for end in (front.next_start(trip) + 1..trip.count() + 1).rev() {
-        found = least_by_entries(table, homing, front, end, from, found);
+        found = least_by_entries(table, homing, front, &ahead, end, from, found);
     }
     found
 }
@@ -127,9 +142,11 @@ pub(crate) fn first_step(table: &Table, homing: &Homing, piece: Piece, from: u64
     requires homing { AreHomingsOf table.now.edition table.now.trip homing.now }
     ensures { IfSome result (StartsIn table.now piece) }
 {
+    let none = Partial::new();
+    let ahead = ahead_of(table, homing, &none);
     let mut found = None;
     for number in piece.first..piece.past.min(choices(table)) {
-        found = lesser_start(table, homing, piece, number, from, found);
+        found = lesser_start(table, homing, &none, &ahead, piece, number, from, found);
     }
     found
 }
@@ -138,12 +155,16 @@ pub(crate) fn first_step(table: &Table, homing: &Homing, piece: Piece, from: u64
 fn lesser_start(
     table: &Table,
     homing: &Homing,
+    none: &Partial,
+    ahead: &Ahead,
     piece: Piece,
     number: u32,
     from: u64,
     found: Step,
 ) -> Step
     requires homing { AreHomingsOf table.now.edition table.now.trip homing.now }
+    requires none { none.now ≡ [] }
+    requires ahead { AreAhead table.now none.now ahead.now }
     requires low { piece.first ≤ number }
     requires high { number < piece.past }
     requires found { IfSome found (StartsIn table.now piece) }
@@ -158,7 +179,13 @@ fn lesser_start(
         unit: 1,
         fare,
     };
-    let Some(first) = Partial::new().next(table, part) else {
+    let Some(guess) = floor_ahead(table, ahead, none, part) else {
+        return found;
+    };
+    if is_no_dearer(&found, guess) {
+        return found;
+    }
+    let Some(first) = none.next(table, part) else {
         return found;
     };
     let Some(floor) = stack_floor(table, homing, &first) else {

@@ -41,7 +41,7 @@ struct HomingRow {
 }
 
 /// A number of a row by its point.
-fn number_at(row: &[Option<u64>; MOST_POINTS], j: usize) -> Option<u64>
+pub(crate) fn number_at(row: &[Option<u64>; MOST_POINTS], j: usize) -> Option<u64>
     ensures { result ≡ rest_at row.now j }
 {
     if j < MOST_POINTS { row[j] } else { None }

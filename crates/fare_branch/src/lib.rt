@@ -13,6 +13,7 @@
 //! - `reaching`: the least by which a point is reached, over steps to the points before it;
 //! - `homing`: what is behind a point at least until a unit comes home;
 //! - `stacking`: what first parts cost at least, with all that may follow, since what begins must end;
+//! - `ahead`: what is behind the part that comes next at least;
 //! - `barred`: whether the rules on stays and on combined fares bar first parts;
 //! - `diving`: the steps of a dive;
 //! - `descent`: a dive for a price to begin with;
@@ -23,6 +24,7 @@
 //! Each of these stands on those above it.
 #![tactic(auto)]
 
+mod ahead;
 mod barred;
 mod bound;
 mod costs;

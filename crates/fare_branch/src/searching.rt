@@ -1,18 +1,20 @@
 //! The search of a piece.
 
-ghost use Rattle.std.specs.Prelude.{◌≡◌};
+ghost use Rattle.std.specs.Prelude.{◌≡◌, []};
 ghost use Rattle.fare_bounds.specs.Covers.{AreRests};
+ghost use Rattle.fare_branch.specs.Ahead.{AreAhead};
 ghost use Rattle.fare_branch.specs.Rows.{AreHomingsOf};
 ghost use Rattle.fare_branch.specs.Search.{IsLeastPrice, BeginsIn, BeginsBy, IsSearched, kept_at};
 ghost use Rattle.fare_branch.specs.Dive.{IsDived};
 ghost use Rattle.fare_branch.specs.Walked.{IsWalk, IsUnderAll};
 
+use crate::ahead::{Ahead, ahead_of, floor_ahead};
 use crate::bound::Bound;
 use crate::descent::dive;
 use crate::homing::{Homing, homing_of};
 use crate::partial::Partial;
 use crate::pieces::{Piece, choice, choices};
-use crate::walking::{Found, enter, take};
+use crate::walking::{Found, follow, take};
 use fare_bounds::Rest;
 use fare_component::Table;
 use fare_rules::Part;
@@ -75,9 +77,11 @@ fn walk_piece<B: Bound>(
     ensures walk { IsWalk table.now.edition table.now.trip (BeginsIn table.now.edition table.now.trip piece)
         (B.least bound.old) best (B.least bound.new) result }
 {
+    let none = Partial::new();
+    let ahead = ahead_of(table, homing, &none);
     let mut best = best;
     for number in piece.first..piece.past.min(choices(table)) {
-        best = walk_choice(table, homing, number, best, bound);
+        best = walk_choice(table, homing, &none, &ahead, number, best, bound);
     }
     best
 }
@@ -86,11 +90,15 @@ fn walk_piece<B: Bound>(
 fn walk_choice<B: Bound>(
     table: &Table,
     homing: &Homing,
+    none: &Partial,
+    ahead: &Ahead,
     number: u32,
     best: Found,
     bound: &mut B,
 ) -> Found
     requires homing { AreHomingsOf table.now.edition table.now.trip homing.now }
+    requires none { none.now ≡ [] }
+    requires ahead { AreAhead table.now none.now ahead.now }
     requires under { IsUnderAll table.now.edition table.now.trip (B.fixed bound.old) }
     ensures fixed { B.fixed bound.new ≡ B.fixed bound.old }
     ensures walk { IsWalk table.now.edition table.now.trip (BeginsBy table.now.edition table.now.trip number)
@@ -105,5 +113,6 @@ fn walk_choice<B: Bound>(
         unit: 1,
         fare,
     };
-    enter(table, homing, &Partial::new(), part, best, bound)
+    let floor = floor_ahead(table, ahead, none, part);
+    follow(table, homing, none, part, floor, best, bound)
 }

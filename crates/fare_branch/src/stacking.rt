@@ -25,18 +25,18 @@ use fare_units::{MOST_PARTS, is_shut_unit, must_go_on, part_at, start_of};
 
 /// A unit of first parts that is open: parts may come to it.
 #[derive(Clone, Copy)]
-struct Open {
+pub(crate) struct Open {
     /// The point where it begins.
-    start: usize,
+    pub start: usize,
     /// Whether it must close, since it has two parts or more.
-    closes: bool,
+    pub closes: bool,
     /// Whether it must go on.
-    must: bool,
+    pub must: bool,
 }
 
 /// The first of the places of a unit; 0 where there is none.
 #[tactic(auto, using(crate::proofs::StackRowLemmas::own_here, crate::proofs::StackRowLemmas::own_over, crate::proofs::StackRowLemmas::own_done), unfolding(fare_rules::specs::Construction::own))]
-fn first_place(parts: &[Part], unit: usize) -> usize
+pub(crate) fn first_place(parts: &[Part], unit: usize) -> usize
     ensures { result ≡ first_of (own parts.now unit) }
 {
     for k in 1..parts.len() + 1 {
@@ -64,14 +64,14 @@ fn part_count(parts: &[Part], unit: usize) -> usize
 }
 
 /// Whether a unit would cross that of the last of some parts if it went on.
-fn is_blocked(parts: &[Part], unit: usize) -> bool
+pub(crate) fn is_blocked(parts: &[Part], unit: usize) -> bool
     ensures { result ≡ is_blocked parts.now unit }
 {
     (part_at(parts, parts.len()).unit as usize) < unit
 }
 
 /// Whether a unit that begins at a point may come home at another.
-fn may_come_to(table: &Table, start: usize, closes: bool, home: usize) -> bool
+pub(crate) fn may_come_to(table: &Table, start: usize, closes: bool, home: usize) -> bool
     requires start { start ≤ count table.now.trip }
     requires home { home ≤ count table.now.trip }
     ensures { result ≡ may_come_to table.now.edition table.now.trip start closes home }
@@ -98,7 +98,7 @@ fn homing_at(trip: &Trip, homing: &Homing, start: usize, i: usize, home: usize) 
 }
 
 /// The numbers behind the points where a unit may come home.
-fn homes_of(
+pub(crate) fn homes_of(
     table: &Table,
     from: usize,
     opened: Open,
@@ -138,7 +138,7 @@ fn until_home(
 
 /// What is behind a point at least over an open unit, by what is there without it.
 #[tactic(auto, using(crate::proofs::StackRowLemmas::over_must, crate::proofs::StackRowLemmas::over_free))]
-fn over_point(
+pub(crate) fn over_point(
     trip: &Trip,
     homing: &Homing,
     from: usize,
@@ -195,7 +195,7 @@ fn open_unit(table: &Table, parts: &[Part], unit: usize) -> Open
 
 /// What is behind each point at least over one unit more of first parts.
 #[tactic(auto, using(crate::proofs::StackFloorLemmas::over_shut_unit, crate::proofs::StackFloorLemmas::over_blocked_unit, crate::proofs::StackFloorLemmas::over_no_unit, crate::proofs::StackFloorLemmas::over_open_unit))]
-fn over_unit(
+pub(crate) fn over_unit(
     table: &Table,
     homing: &Homing,
     partial: &Partial,

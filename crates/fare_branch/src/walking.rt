@@ -1,21 +1,24 @@
 //! The walk over the constructions that begin with some parts. What can't be before the best that was found, or costs
 //! more than the least price known, is left out.
 
-ghost use Rattle.std.specs.Prelude.{◌≡◌, ◌+◌, ◌<◌, ◌≤◌, length};
+ghost use Rattle.std.specs.Prelude.{◌≡◌, ◌+◌, ◌<◌, ◌≤◌, ◌++◌, ◌∷◌, [], length, Contains};
 ghost use Rattle.fare_trip.specs.Itinerary.{count};
 ghost use Rattle.fare_rules.specs.Construction.{greatest_unit, places};
+ghost use Rattle.fare_component.specs.Table.{IsInBounds, entries_of};
 ghost use Rattle.fare_units.specs.Walk.{Completes, GoesOn, AnyPart, EndsAt, HasFare, IsPart, IsList, TakesBetter};
 ghost use Rattle.fare_units.specs.Walk.{next_start};
+ghost use Rattle.fare_branch.specs.Ahead.{AreAhead};
 ghost use Rattle.fare_branch.specs.Rows.{AreHomingsOf};
-ghost use Rattle.fare_branch.specs.Floors.{IsMadeWith};
+ghost use Rattle.fare_branch.specs.Floors.{IsMadeWith, IsFloorAnswer};
 ghost use Rattle.fare_branch.specs.Walked.{IsWalk, IsUnderAll, is_beaten};
 
+use crate::ahead::{Ahead, ahead_of, floor_with};
 use crate::barred::is_barred;
 use crate::bound::Bound;
 use crate::homing::Homing;
 use crate::partial::{Partial, copied};
 use crate::stacking::stack_floor;
-use fare_component::Table;
+use fare_component::{Entry, Table};
 use fare_rules::Part;
 use fare_units::{Construction, earlier, lawful_price};
 
@@ -83,7 +86,8 @@ fn walk<B: Bound>(
     if front.end() == table.trip().count() {
         return take(table, front, best, bound);
     }
-    walk_ends(table, homing, front, best, bound)
+    let ahead = ahead_of(table, homing, front);
+    walk_ends(table, homing, front, &ahead, best, bound)
 }
 
 /// Walks over those that go on with any part, the greatest end first.
@@ -92,11 +96,13 @@ fn walk_ends<B: Bound>(
     table: &Table,
     homing: &Homing,
     front: &Partial,
+    ahead: &Ahead,
     best: Found,
     bound: &mut B,
 ) -> Found
     requires homing { AreHomingsOf table.now.edition table.now.trip homing.now }
     requires made { IsMadeWith table.now front.now }
+    requires ahead { AreAhead table.now front.now ahead.now }
     requires under { IsUnderAll table.now.edition table.now.trip (B.fixed bound.old) }
     ensures fixed { B.fixed bound.new ≡ B.fixed bound.old }
     ensures walk { IsWalk table.now.edition table.now.trip (GoesOn front.now AnyPart) (B.least bound.old) best
@@ -105,7 +111,7 @@ fn walk_ends<B: Bound>(
     let trip = table.trip();
     let mut best = best;
     for end in (front.next_start(trip) + 1..trip.count() + 1).rev() {
-        best = walk_entries(table, homing, front, end, best, bound);
+        best = walk_entries(table, homing, front, ahead, end, best, bound);
     }
     best
 }
@@ -116,12 +122,14 @@ fn walk_entries<B: Bound>(
     table: &Table,
     homing: &Homing,
     front: &Partial,
+    ahead: &Ahead,
     end: usize,
     best: Found,
     bound: &mut B,
 ) -> Found
     requires homing { AreHomingsOf table.now.edition table.now.trip homing.now }
     requires made { IsMadeWith table.now front.now }
+    requires ahead { AreAhead table.now front.now ahead.now }
     requires rises { next_start table.now.trip front.now < end }
     requires within { end ≤ count table.now.trip }
     requires under { IsUnderAll table.now.edition table.now.trip (B.fixed bound.old) }
@@ -132,7 +140,7 @@ fn walk_entries<B: Bound>(
     let entries = table.entries(front.next_start(table.trip()), end);
     let mut best = best;
     for entry in entries {
-        best = walk_units(table, homing, front, end, entry.fare, best, bound);
+        best = walk_units(table, homing, front, ahead, end, entry, best, bound);
     }
     best
 }
@@ -143,18 +151,23 @@ fn walk_units<B: Bound>(
     table: &Table,
     homing: &Homing,
     front: &Partial,
+    ahead: &Ahead,
     end: usize,
-    fare: u32,
+    entry: &Entry,
     best: Found,
     bound: &mut B,
 ) -> Found
     requires homing { AreHomingsOf table.now.edition table.now.trip homing.now }
     requires made { IsMadeWith table.now front.now }
+    requires ahead { AreAhead table.now front.now ahead.now }
     requires rises { next_start table.now.trip front.now < end }
     requires within { end ≤ count table.now.trip }
+    requires there { Contains (entries_of table.now.edition table.now.trip (next_start table.now.trip front.now) end)
+        entry.now }
+    requires bounds { IsInBounds entry.now }
     requires under { IsUnderAll table.now.edition table.now.trip (B.fixed bound.old) }
     ensures fixed { B.fixed bound.new ≡ B.fixed bound.old }
-    ensures walk { IsWalk table.now.edition table.now.trip (GoesOn front.now (HasFare end fare)) (B.least bound.old)
+    ensures walk { IsWalk table.now.edition table.now.trip (GoesOn front.now (HasFare end entry.now.fare)) (B.least bound.old)
         best (B.least bound.new) result }
 {
     let sectors = table.trip().count();
@@ -164,16 +177,47 @@ fn walk_units<B: Bound>(
         let part = Part {
             end: end as u8,
             unit: unit as u8,
-            fare,
+            fare: entry.fare,
         };
-        best = enter(table, homing, front, part, best, bound);
+        let floor = floor_with(ahead, entry, part);
+        best = follow(table, homing, front, part, floor, best, bound);
     }
     best
 }
 
+/// Walks over those that go on with a part, where its floor is no more than the least price known.
+#[cycle(walk)]
+pub(crate) fn follow<B: Bound>(
+    table: &Table,
+    homing: &Homing,
+    front: &Partial,
+    part: Part,
+    floor: Option<u64>,
+    best: Found,
+    bound: &mut B,
+) -> Found
+    requires homing { AreHomingsOf table.now.edition table.now.trip homing.now }
+    requires made { IsMadeWith table.now front.now }
+    requires rises { next_start table.now.trip front.now < part.end }
+    requires within { part.end ≤ count table.now.trip }
+    requires floor { IsFloorAnswer table.now.edition table.now.trip (front.now ++ part ∷ []) floor }
+    requires under { IsUnderAll table.now.edition table.now.trip (B.fixed bound.old) }
+    ensures fixed { B.fixed bound.new ≡ B.fixed bound.old }
+    ensures walk { IsWalk table.now.edition table.now.trip (GoesOn front.now (IsPart part)) (B.least bound.old) best
+        (B.least bound.new) result }
+{
+    let Some(floor) = floor else {
+        return best;
+    };
+    if bound.seen() < floor {
+        return best;
+    }
+    enter(table, homing, front, part, best, bound)
+}
+
 /// Walks over those that go on with a part, where that can still bring what is wanted.
 #[cycle(walk)]
-pub(crate) fn enter<B: Bound>(
+fn enter<B: Bound>(
     table: &Table,
     homing: &Homing,
     front: &Partial,

@@ -1,4 +1,4 @@
-use Rattle.std.proofs.Common.{◌≡◌, ℕ, ◌+◌, ◌-◌, ◌*◌, ◌<◌, ◌≤◌, true, List, length, take, get_or, ap, sym, subst, ◌∙◌, arith}
+use Rattle.std.proofs.Common.{◌≡◌, ℕ, ◌+◌, ◌-◌, ◌*◌, ◌<◌, ◌≤◌, ◌++◌, ◌∷◌, [], true, List, length, take, get_or, refl, ap, sym, subst, ◌∙◌, arith}
 use Rattle.std.proofs.Math.Seq.{take-length}
 use Rattle.fare_trip.specs.Itinerary.{count}
 use Rattle.fare_rules.specs.declared.part.Part.{Part}
@@ -6,10 +6,11 @@ use Rattle.fare_rules.specs.Construction.{end_of}
 use Rattle.fare_units.specs.Walk.{Completes, GoesOn, IsPart, HasFare, next_start}
 use Rattle.fare_units.proofs.FrontLemmas.{front_falls}
 use Rattle.fare_component.specs.declared.table.entry.Entry.{Entry}
-use Rattle.fare_branch.specs.Floors.{HasNoCompletion, IsFloor}
+use Rattle.fare_branch.specs.Floors.{HasNoCompletion, IsFloor, IsFloorAnswer}
 use Rattle.fare_component.specs.Table.{entries_of}
 use Rattle.fare_branch.specs.Walked.{IsWalk, is_beaten}
 use Rattle.fare_branch.proofs.WalkedLemmas.{walk_fallen}
+use Rattle.fare_branch.proofs.AheadLemmas.{floor_of_entry}
 use Rattle.fare_branch.proofs.StepLemmas.{EndsFrom, HasEntry, walk_whole, walk_further, ends_none, ends_more, ends_all, entries_more, entries_all, units_none, units_more, units_all, part_none, part_dear, part_beaten, part_walked}
 use Rattle.fare_branch.proofs.walking.+walk.Goals as goal
 
@@ -45,10 +46,11 @@ enter-returns-then-is_barred-clause-walk g t c =
 
 pub enter-walk-requires : goal.enter-walk-requires
 enter-walk-requires g t c κs within =
-    let trip = c.args.table.now.trip in
-    let Q : List Part → Type 0 = λ xs. 5 * (count c.args.table.now.trip - end_of xs (length xs)) + 4 < 5 * (count c.args.table.now.trip - end_of c.args.front.now (length c.args.front.now)) in
-    let falls : 5 * (count c.args.table.now.trip - end_of c.in-Some.longer (length c.in-Some.longer)) + 4 < 5 * (count c.args.table.now.trip - end_of c.args.front.now (length c.args.front.now)) =
-    subst Q (sym c.in-Some.ensures.0) (front_falls c.args.table.now.trip c.args.front.now c.args.part c.requires.rises c.requires.within) in
+    let fewer : 5 * (count c.args.table.now.trip - end_of (c.args.front.now ++ c.args.part ∷ []) (length (c.args.front.now ++ c.args.part ∷ []))) + 4 < 5 * (count c.args.table.now.trip - end_of c.args.front.now (length c.args.front.now)) =
+    front_falls c.args.table.now.trip c.args.front.now c.args.part c.requires.rises c.requires.within in
+    let Q : List Part → Type 0 = λ xs. 6 * (count c.args.table.now.trip - end_of xs (length xs)) + 5 < 6 * (count c.args.table.now.trip - end_of c.args.front.now (length c.args.front.now)) in
+    let falls : 6 * (count c.args.table.now.trip - end_of c.in-Some.longer (length c.in-Some.longer)) + 5 < 6 * (count c.args.table.now.trip - end_of c.args.front.now (length c.args.front.now)) =
+    subst Q (sym c.in-Some.ensures.0) (omega arith) in
     (omega arith, (within, (c.requires.homing, (c.in-Some.ensures.1, λ parts price l. let least : g.B.Bound.fixed c.args.bound.now ≤ price = c.requires.under parts price l in omega arith))))
 
 pub enter-returns-clause-walk : goal.enter-returns-clause-walk
@@ -117,17 +119,55 @@ walk_entries-returns-clause-walk g t c =
 pub walk_units-loop-unit-init : goal.walk_units-loop-unit-init
 walk_units-loop-unit-init g t c = record {
   fixed = λ i. g.B.Bound.fixed c.args.bound.now;
-  walk = units_none c.args.table.now.edition c.args.table.now.trip c.args.front.now c.args.end c.args.fare (g.B.Bound.least c.args.bound.now) c.args.best;
+  walk = units_none c.args.table.now.edition c.args.table.now.trip c.args.front.now c.args.end c.args.entry.now.fare (g.B.Bound.least c.args.bound.now) c.args.best;
 }
 
 pub walk_units-loop-unit-preserved : goal.walk_units-loop-unit-preserved
 walk_units-loop-unit-preserved g t c = record {
-  fixed = c.enter-best.ensures.fixed ∙ c.loop-unit.invariant.fixed;
-  walk = units_more c.args.table.now.edition c.args.table.now.trip c.args.front.now (record { end = c.args.end; unit = c.loop-unit.unit; fare = c.args.fare }) (g.B.Bound.least c.args.bound.now) (g.B.Bound.least c.loop-unit.bound) (g.B.Bound.least c.enter-best.new.bound) c.args.best c.loop-unit.best c.enter-best.result
-      c.loop-unit.invariant.walk c.enter-best.ensures.walk;
+  fixed = c.follow-best.ensures.fixed ∙ c.loop-unit.invariant.fixed;
+  walk = units_more c.args.table.now.edition c.args.table.now.trip c.args.front.now (record { end = c.args.end; unit = c.loop-unit.unit; fare = c.args.entry.now.fare }) (g.B.Bound.least c.args.bound.now) (g.B.Bound.least c.loop-unit.bound) (g.B.Bound.least c.follow-best.new.bound) c.args.best c.loop-unit.best c.follow-best.result
+      c.loop-unit.invariant.walk c.follow-best.ensures.walk;
 }
 
 pub walk_units-returns-clause-walk : goal.walk_units-returns-clause-walk
 walk_units-returns-clause-walk g t c =
-    units_all c.args.table.now.edition c.args.table.now.trip c.args.front.now c.args.end c.args.fare c.loop-unit.unit (g.B.Bound.least c.args.bound.now) (g.B.Bound.least c.loop-unit.bound) c.args.best c.loop-unit.best
+    units_all c.args.table.now.edition c.args.table.now.trip c.args.front.now c.args.end c.args.entry.now.fare c.loop-unit.unit (g.B.Bound.least c.args.bound.now) (g.B.Bound.least c.loop-unit.bound) c.args.best c.loop-unit.best
     (omega arith) c.loop-unit.invariant.walk
+
+pub follow-returns-in_default-clause-walk : goal.follow-returns-in_default-clause-walk
+follow-returns-in_default-clause-walk g t c =
+    part_none c.args.table.now.edition c.args.table.now.trip c.args.front.now c.args.part (g.B.Bound.least c.args.bound.now) c.args.best (subst (IsFloorAnswer c.args.table.now.edition c.args.table.now.trip (c.args.front.now ++ c.args.part ∷ [])) c.in_default.is c.requires.floor)
+
+pub follow-returns-then-seen-floor-clause-walk : goal.follow-returns-then-seen-floor-clause-walk
+follow-returns-then-seen-floor-clause-walk g t c =
+    part_dear c.args.table.now.edition c.args.table.now.trip c.args.front.now c.args.part (g.B.Bound.least c.args.bound.now) (g.B.Bound.least c.seen.new.self) c.in-Some.floor c.args.best
+    (omega arith) (omega arith) (subst (IsFloorAnswer c.args.table.now.edition c.args.table.now.trip (c.args.front.now ++ c.args.part ∷ [])) c.in-Some.is c.requires.floor)
+
+pub follow-returns-clause-walk : goal.follow-returns-clause-walk
+follow-returns-clause-walk g t c =
+    walk_fallen c.args.table.now.edition c.args.table.now.trip (GoesOn c.args.front.now (IsPart c.args.part)) (g.B.Bound.least c.args.bound.now) (g.B.Bound.least c.seen.new.self) (g.B.Bound.least c.enter.new.bound) c.args.best c.enter.result
+    (omega arith) c.enter.ensures.walk
+
+pub walk_units-follow-best-requires : goal.walk_units-follow-best-requires
+walk_units-follow-best-requires g t c κs within = (
+  omega arith,
+  (
+    within,
+    (
+      c.requires.homing,
+      (
+        c.requires.made,
+        (
+          c.requires.rises,
+          (
+            c.requires.within,
+            (
+              floor_of_entry c.args.table.now c.args.front.now c.args.ahead.now c.requires.ahead (record { end = c.args.end; unit = c.loop-unit.unit; fare = c.args.entry.now.fare }) c.args.entry.now c.requires.there refl c.floor_with-floor.result c.floor_with-floor.ensures,
+              λ parts price l. let least : g.B.Bound.fixed c.args.bound.now ≤ price = c.requires.under parts price l in let same : g.B.Bound.fixed c.loop-unit.bound ≡ g.B.Bound.fixed c.args.bound.now = c.loop-unit.invariant.fixed in omega arith,
+            ),
+          ),
+        ),
+      ),
+    ),
+  ),
+)

@@ -1,0 +1,186 @@
+//! Ahead: what is behind the part that comes next after some first parts at least, by what that part is: a one way
+//! fare, or a half round trip of one of the units. So most parts that cost too much are passed over before the longer
+//! list is made.
+
+ghost use Rattle.std.specs.Prelude.{◌≡◌, ℕ, ◌+◌, ◌-◌, ◌≤◌, ◌++◌, ◌∷◌, [], Some, is_some, if◌then◌else◌};
+ghost use Rattle.fare_trip.specs.Itinerary.{count};
+ghost use Rattle.fare_rules.specs.Construction.{end_of, first_of, greatest_unit, own, places, start_of};
+ghost use Rattle.fare_component.specs.Table.{IsInBounds};
+ghost use Rattle.fare_bounds.specs.Covers.{least_cost, rest_at};
+ghost use Rattle.fare_units.specs.Walk.{next_start};
+ghost use Rattle.fare_branch.specs.Ahead.{AreAhead, AreBehindHalf, IsHalfRow, must_go_from};
+ghost use Rattle.fare_branch.specs.Costs.{or_nothing};
+ghost use Rattle.fare_branch.specs.Floors.{IsFloorAnswer, IsMadeWith};
+ghost use Rattle.fare_branch.specs.Homing.{IsUpTo};
+ghost use Rattle.fare_branch.specs.Rows.{cell, AreHomingsOf};
+ghost use Rattle.fare_branch.specs.Stack.{AreOver};
+
+use crate::costs::{entry_least, units_floor};
+use crate::homing::{Homing, number_at};
+use crate::partial::Partial;
+use crate::reaching::added;
+use crate::stacking::{
+    Open, first_place, homes_of, is_blocked, may_come_to, over_point, over_unit,
+};
+use fare_component::{Entry, Table};
+use fare_rules::{MOST_POINTS, Part};
+use fare_units::{is_shut_unit, start_of};
+
+/// One more than the greatest number of a unit: one for each of the parts, and a new one.
+const MOST_UNITS: usize = 18;
+
+/// What some first parts cost at least, and what is behind the part that comes next.
+#[derive(Drop)]
+pub(crate) struct Ahead {
+    /// What the first parts cost at least.
+    pub spent: u64,
+    /// What is behind a one way fare, by the point where it ends.
+    pub alone: [Option<u64>; MOST_POINTS],
+    /// What is behind a half round trip, by its unit and the point where it ends.
+    pub half: [[Option<u64>; MOST_POINTS]; MOST_UNITS],
+}
+
+/// Whether a unit that begins at a point must go on behind a half round trip that ends at another: this is its first
+/// part, or ends where the unit may not.
+fn must_go_from(table: &Table, start: usize, begun: bool, i: usize) -> bool
+    requires start { start ≤ count table.now.trip }
+    requires end { i ≤ count table.now.trip }
+    ensures { result ≡ must_go_from table.now.edition table.now.trip start begun i }
+{
+    !(begun && may_come_to(table, start, false, i))
+}
+
+/// What is behind each half round trip of a unit that begins at a point, by what is there without the unit.
+fn half_row(
+    table: &Table,
+    homing: &Homing,
+    from: usize,
+    start: usize,
+    begun: bool,
+    below: &[Option<u64>; MOST_POINTS],
+) -> [Option<u64>; MOST_POINTS]
+    requires start { start ≤ count table.now.trip }
+    ensures { IsHalfRow table.now homing.now from start begun below.now result }
+{
+    let trip = table.trip();
+    let opened = Open {
+        start,
+        closes: begun,
+        must: true,
+    };
+    let homes = homes_of(table, from, opened, below);
+    let mut row = [None; MOST_POINTS];
+    for i in from..trip.count() + 1 {
+        let here = Open {
+            start,
+            closes: begun,
+            must: must_go_from(table, start, begun, i),
+        };
+        row[i] = over_point(trip, homing, i + 1, here, i, &homes, below[i]);
+    }
+    row
+}
+
+/// What is behind each half round trip of a unit that the first parts have.
+fn begun_row(
+    table: &Table,
+    homing: &Homing,
+    front: &Partial,
+    unit: usize,
+    below: &[Option<u64>; MOST_POINTS],
+) -> [Option<u64>; MOST_POINTS]
+    requires homing { AreHomingsOf table.now.edition table.now.trip homing.now }
+    requires made { IsMadeWith table.now front.now }
+    requires low { 1 ≤ unit }
+    requires high { unit ≤ greatest_unit front.now (places front.now) }
+    requires below { AreOver table.now homing.now front.now (unit - 1) below.now }
+    ensures { AreBehindHalf table.now homing.now front.now unit result }
+{
+    let trip = table.trip();
+    let parts = front.parts();
+    if is_blocked(parts, unit) {
+        return [None; MOST_POINTS];
+    }
+    if is_shut_unit(table.edition(), trip, parts, unit) {
+        return [None; MOST_POINTS];
+    }
+    let start = start_of(trip, parts, first_place(parts, unit));
+    half_row(table, homing, front.end(), start, true, below)
+}
+
+/// What is behind each half round trip with which a unit begins.
+fn new_row(
+    table: &Table,
+    homing: &Homing,
+    front: &Partial,
+    below: &[Option<u64>; MOST_POINTS],
+) -> [Option<u64>; MOST_POINTS]
+    requires homing { AreHomingsOf table.now.edition table.now.trip homing.now }
+    requires made { IsMadeWith table.now front.now }
+    requires below { AreOver table.now homing.now front.now (greatest_unit front.now (places front.now)) below.now }
+    ensures { AreBehindHalf table.now homing.now front.now (greatest_unit front.now (places front.now) + 1) result }
+{
+    let start = front.next_start(table.trip());
+    half_row(table, homing, front.end(), start, false, below)
+}
+
+/// What is ahead of some first parts.
+pub(crate) fn ahead_of(table: &Table, homing: &Homing, front: &Partial) -> Ahead
+    requires homing { AreHomingsOf table.now.edition table.now.trip homing.now }
+    requires made { IsMadeWith table.now front.now }
+    ensures { AreAhead table.now front.now result }
+{
+    let _sectors = table.trip().count();
+    let greatest = front.greatest_unit();
+    let spent = units_floor(table, front.parts(), greatest);
+    let mut half = [[None; MOST_POINTS]; MOST_UNITS];
+    let mut alone = homing.rest;
+    for unit in 1..greatest + 1 {
+        half[unit] = begun_row(table, homing, front, unit, &alone);
+        alone = over_unit(table, homing, front, unit, &alone);
+    }
+    half[greatest + 1] = new_row(table, homing, front, &alone);
+    Ahead { spent, alone, half }
+}
+
+/// What is behind a part with an entry.
+fn behind_of(ahead: &Ahead, entry: &Entry, part: Part) -> Option<u64>
+    ensures { result ≡ (if is_some entry.now.single then rest_at ahead.now.alone part.end
+        else cell ahead.now.half part.unit part.end) }
+{
+    let (unit, end) = (part.unit as usize, part.end as usize);
+    if entry.single.is_some() {
+        number_at(&ahead.alone, end)
+    } else if unit < MOST_UNITS {
+        number_at(&ahead.half[unit], end)
+    } else {
+        None
+    }
+}
+
+/// What some first parts cost at least with a part of an entry and what is behind that.
+pub(crate) fn floor_with(ahead: &Ahead, entry: &Entry, part: Part) -> Option<u64>
+    requires { IsInBounds entry.now }
+    ensures { (behind : ℕ) → (if is_some entry.now.single then rest_at ahead.now.alone part.end
+        else cell ahead.now.half part.unit part.end) ≡ Some behind
+        → IsUpTo (ahead.now.spent + or_nothing (least_cost entry.now) + behind) result }
+{
+    let paid = added(Some(ahead.spent), Some(entry_least(entry)));
+    added(paid, behind_of(ahead, entry, part))
+}
+
+/// A number that is at most the price of every completion of some first parts with one more at their end; nothing only
+/// where there is none.
+pub(crate) fn floor_ahead(table: &Table, ahead: &Ahead, front: &Partial, part: Part) -> Option<u64>
+    requires ahead { AreAhead table.now front.now ahead.now }
+    requires made { IsMadeWith table.now front.now }
+    ensures { IsFloorAnswer table.now.edition table.now.trip (front.now ++ part ∷ []) result }
+{
+    let entries = table.entries(front.next_start(table.trip()), part.end as usize);
+    for entry in entries {
+        if entry.fare == part.fare {
+            return floor_with(ahead, entry, part);
+        }
+    }
+    Some(0)
+}
