@@ -20,16 +20,16 @@ use Rattle.fare_units.specs.Onward.{is_shut_unit}
 use Rattle.fare_units.specs.Walk.{next_start}
 use Rattle.fare_units.proofs.NextLemmas.{next_numbered, next_part, front_start, front_unit, start_by}
 use Rattle.fare_bounds.specs.Covers.{least_cost, rest_at}
-use Rattle.fare_branch.specs.declared.homing.Homing.{Homing}
+use Rattle.fare_homing.specs.declared.homing.Homing.{Homing}
 use Rattle.fare_branch.specs.declared.ahead.Ahead.{Ahead}
 use Rattle.fare_branch.specs.Ahead.{AreAhead, AreBehindHalf, IsBehindNext, IsHalfRow, must_go_from}
 use Rattle.fare_branch.specs.Costs.{or_nothing, part_least, units_floor}
 use Rattle.fare_branch.specs.Floors.{IsFloorAnswer}
-use Rattle.fare_branch.specs.Homing.{IsUpTo, homing_at, is_same_city, may_end_at}
-use Rattle.fare_branch.specs.Rows.{cell, AreHomingsOf}
+use Rattle.fare_homing.specs.Homing.{IsUpTo, homing_at, is_same_city, may_end_at}
+use Rattle.fare_homing.specs.Rows.{cell, AreHomingsOf}
 use Rattle.fare_branch.specs.Stack.{AreOver, IsOver, IsOverOpen, is_blocked, may_come_to}
 use Rattle.fare_branch.proofs.OverLemmas.{all_over, alone_behind, apart, behind_front, behind_next, comes_home_later, ComesHome, fewer, first_by, last_behind, last_by, last_may, none_new, point_behind, rises, within}
-use Rattle.fare_branch.proofs.ReachLemmas.{up_more}
+use Rattle.fare_homing.proofs.ReachLemmas.{up_more}
 use Rattle.fare_branch.proofs.ShutLemmas.{own_behind}
 use Rattle.fare_branch.proofs.StackFloorLemmas.{first_is, firsts, has_first_in, not_blocked, not_shut, spent_up}
 use Rattle.fare_branch.proofs.StackLemmas.{true_cost, begins_at, home_at, over_down}

@@ -1,9 +1,8 @@
 -- What the parts of a lawful construction cost at least: each unit costs no less than its parts do.
-use Rattle.std.proofs.Common.{◌≡◌, ℕ, ◌+◌, ◌-◌, ◌<◌, ◌≤◌, Bool, true, false, min, List, [], ◌∷◌, length, refl, ap, sym, subst, ◌∙◌, inl, inr, arith}
+use Rattle.std.proofs.Common.{◌≡◌, ℕ, ◌+◌, ◌-◌, ◌<◌, ◌≤◌, Bool, true, false, List, [], ◌∷◌, length, refl, ap, sym, subst, ◌∙◌, inl, inr, arith}
 use Rattle.std.specs.Prelude.{Option, Some, None, option_map, sum_by}
 use Rattle.std.specs.List.{list_any}
 use Rattle.std.proofs.lemmas.Bool.{cases_Bool, or_cases, eqb-true, eqb-false, ltb-false}
-use Rattle.std.proofs.lemmas.Option.{same_Some}
 use Rattle.std.proofs.lemmas.List.Sums.{sum_by-cons}
 use Rattle.fare_codes.specs.declared.kind.Kind.{Kind}
 use Rattle.fare_codes.specs.declared.kind.Kind.TheVariants.{OW, HR}
@@ -26,9 +25,10 @@ use Rattle.fare_rules.proofs.LawfulLemmas.{IsKept, kept}
 use Rattle.fare_rules.proofs.AmountLemmas.{fare_is_filed, amount_of_lawful}
 use Rattle.fare_rules.proofs.OneWayLemmas.{one_way_unit}
 use Rattle.fare_rules.proofs.MemberLemmas.{Member}
-use Rattle.fare_bounds.specs.Covers.{lesser, hundredths_of}
+use Rattle.fare_bounds.specs.Covers.{hundredths_of}
 use Rattle.fare_branch.specs.Costs.{or_nothing, fare_least, part_least, unit_least}
-use Rattle.fare_branch.specs.Homing.{IsUpTo}
+use Rattle.fare_homing.specs.Homing.{IsUpTo}
+use Rattle.fare_homing.proofs.ReachLemmas.{lesser_first, lesser_second}
 use Rattle.fare_branch.proofs.SumLemmas.{sum_up_members, kept_member}
 
 true_false : true ≡ false → ⊥
@@ -36,16 +36,6 @@ true_false e = cc
 
 none_some : {A : Type 0} (x : A) → None ≡ Some x → ⊥
 none_some x e = cc
-
-pub lesser_first : (a b : Option ℕ) (amount : ℕ) → a ≡ Some amount → IsUpTo amount (lesser a b)
-lesser_first None b amount e = absurd (none_some amount e)
-lesser_first (Some a) None amount e = (a, refl, omega (arith, same_Some a amount e))
-lesser_first (Some a) (Some b) amount e = (min a b, refl, omega (arith, same_Some a amount e))
-
-pub lesser_second : (a b : Option ℕ) (amount : ℕ) → b ≡ Some amount → IsUpTo amount (lesser a b)
-lesser_second None b amount e = (amount, e, omega arith)
-lesser_second (Some a) None amount e = absurd (none_some amount e)
-lesser_second (Some a) (Some b) amount e = (min a b, refl, omega (arith, same_Some b amount e))
 
 -- a fare is one way or a half round trip
 pub not_half : (kind : Kind) → same_kind kind OW ≡ true → same_kind kind HR ≡ false

@@ -20,8 +20,6 @@ pub mod NearLemmas
 pub mod CrossingLemmas
 pub mod StackRowLemmas
 pub mod StackFloorLemmas
-pub mod ReachLemmas
-pub mod HomingRowLemmas
 pub mod StackLemmas
 pub mod GoesOnLemmas
 pub mod TrueCostLemmas

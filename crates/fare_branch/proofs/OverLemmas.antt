@@ -19,14 +19,14 @@ use Rattle.fare_rules.proofs.LawfulLemmas.{kept}
 use Rattle.fare_rules.proofs.NumberLemmas.{any_next}
 use Rattle.fare_units.proofs.NextLemmas.{front_unit, greatest_same}
 use Rattle.fare_component.specs.Table.{entries_of}
-use Rattle.fare_branch.specs.Homing.{IsUpTo, homing_at, is_same_city, may_end_at, back_cost, AreHomings}
+use Rattle.fare_homing.specs.Homing.{IsUpTo, homing_at, is_same_city, may_end_at, back_cost, AreHomings}
 use Rattle.fare_branch.proofs.CostLemmas.{unit_from_one}
 use Rattle.fare_branch.proofs.UnitLemmas.{all, own_has, unit_in, alone_in, holds_none}
 use Rattle.fare_branch.proofs.GoesOnLemmas.{going_on, goes_not, goes_on_from, on_same, none_above, home_behind, own_first, own_last, own_two, two_ends}
 use Rattle.fare_branch.proofs.NearLemmas.{EndsBy, unit_ends_by}
 use Rattle.fare_branch.proofs.OnwardLemmas.{ends_rise, must_close_from, closed_whole, ends_home, either_left, either_right}
 use Rattle.fare_branch.specs.Stack.{goes_on, IsOver}
-use Rattle.fare_branch.proofs.ReachLemmas.{up_more}
+use Rattle.fare_homing.proofs.ReachLemmas.{up_more}
 use Rattle.fare_branch.proofs.StackLemmas.{true_cost, home_at, begins_at, over_more, over_same, over_down, over_up, Opens, opens, from_open, step_over}
 use Rattle.fare_branch.proofs.ShutLemmas.{any_at}
 use Rattle.fare_branch.proofs.SumLemmas.{greatest_fewer, unit_up_to}

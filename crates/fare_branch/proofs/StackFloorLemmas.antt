@@ -21,12 +21,12 @@ use Rattle.fare_component.specs.Table.{Pricing}
 use Rattle.fare_units.specs.Onward.{must_go_on, is_shut_unit}
 use Rattle.fare_units.proofs.NextLemmas.{front_start, front_unit, greatest_same}
 use Rattle.fare_bounds.specs.Covers.{rest_at}
-use Rattle.fare_branch.specs.declared.homing.Homing.{Homing}
+use Rattle.fare_homing.specs.declared.homing.Homing.{Homing}
 use Rattle.fare_branch.specs.declared.stacking.Open.{Open}
 use Rattle.fare_branch.specs.Costs.{part_least, units_floor}
-use Rattle.fare_branch.specs.Homing.{IsUpTo, homing_at}
+use Rattle.fare_homing.specs.Homing.{IsUpTo, homing_at}
 use Rattle.fare_branch.specs.Floors.{IsFloorAnswer}
-use Rattle.fare_branch.specs.Rows.{cell, AreHomingsOf}
+use Rattle.fare_homing.specs.Rows.{cell, AreHomingsOf}
 use Rattle.fare_branch.specs.Stack.{goes_on, AreOver, may_come_to, is_blocked, IsUnderSum, IsOverOpen, AreOverOpen, IsOpenUnit}
 use Rattle.fare_branch.proofs.CostLemmas.{unit_from_one, member_place}
 use Rattle.fare_branch.proofs.CrossingLemmas.{not_crossed, begun_by, began_before}
@@ -34,7 +34,7 @@ use Rattle.fare_branch.proofs.UnitLemmas.{all, unit_in, own_has}
 use Rattle.fare_branch.proofs.FloorLemmas.{front_least}
 use Rattle.fare_branch.proofs.OnwardLemmas.{EndsNear, ends_near, ends_rise, goes_behind, last_append, either_left, either_right}
 use Rattle.fare_branch.proofs.OverLemmas.{behind_is_over}
-use Rattle.fare_branch.proofs.ReachLemmas.{up_more}
+use Rattle.fare_homing.proofs.ReachLemmas.{up_more}
 use Rattle.fare_branch.proofs.SameLemmas.{AreFirst}
 use Rattle.fare_branch.proofs.ShutLemmas.{own_behind, own_in_two, own_are_first, shut_alone, both_true, floor_by}
 use Rattle.fare_branch.proofs.StackLemmas.{true_cost}

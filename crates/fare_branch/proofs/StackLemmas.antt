@@ -8,9 +8,9 @@ use Rattle.fare_rules.specs.declared.part.Part.{Part}
 use Rattle.fare_rules.specs.Construction.{start_of, end_of, own, unit_of, first_of, last_of}
 use Rattle.fare_rules.specs.Shape.{is_ow}
 use Rattle.fare_rules.specs.UnitPrice.{unit_price, part_cost}
-use Rattle.fare_branch.specs.Homing.{IsUpTo, homing_at, is_same_city, AreHomings}
+use Rattle.fare_homing.specs.Homing.{IsUpTo, homing_at, is_same_city, AreHomings}
 use Rattle.fare_branch.specs.Stack.{goes_on, IsOver}
-use Rattle.fare_branch.proofs.ReachLemmas.{up_more}
+use Rattle.fare_homing.proofs.ReachLemmas.{up_more}
 
 -- what a part costs: a one way fare the price of its unit, and a half round trip its amount
 abbrev pub true_cost : Tariff → Itinerary → List Part → ℕ → ℕ

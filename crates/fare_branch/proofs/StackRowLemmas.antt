@@ -10,11 +10,11 @@ use Rattle.fare_rules.proofs.MemberLemmas.{Member}
 use Rattle.fare_rules.proofs.NumberLemmas.{numbers_next, numbers_none}
 use Rattle.fare_units.specs.Advance.{Advances}
 use Rattle.fare_bounds.specs.Covers.{lesser, rest_at}
-use Rattle.fare_branch.specs.declared.homing.Homing.{Homing}
-use Rattle.fare_branch.specs.Homing.{homing_at}
-use Rattle.fare_branch.specs.Rows.{cell}
+use Rattle.fare_homing.specs.declared.homing.Homing.{Homing}
+use Rattle.fare_homing.specs.Homing.{homing_at}
+use Rattle.fare_homing.specs.Rows.{cell}
 use Rattle.fare_branch.specs.Stack.{IsUnderSum, IsUntilHome, IsOverOpen}
-use Rattle.fare_branch.proofs.ReachLemmas.{up_first, up_second, row_more}
+use Rattle.fare_homing.proofs.ReachLemmas.{up_first, up_second, row_more}
 use Rattle.fare_branch.proofs.SumLemmas.{kept_member}
 
 true_false : true ≡ false → ⊥

@@ -29,8 +29,9 @@ use Rattle.fare_component.specs.Table.{entry_of, entries_of, has_amount, single_
 use Rattle.fare_component.proofs.LawLemmas.{amount_is_entry}
 use Rattle.fare_bounds.specs.Covers.{hundredths_of, lesser}
 use Rattle.fare_branch.specs.Costs.{or_nothing, part_least}
-use Rattle.fare_branch.specs.Homing.{IsUpTo, first_cost, between_cost, back_cost}
-use Rattle.fare_branch.proofs.CostLemmas.{not_half, half, at_least_up, one_way_least, half_part, member_place, lesser_first, lesser_second}
+use Rattle.fare_homing.specs.Homing.{IsUpTo, first_cost, between_cost, back_cost}
+use Rattle.fare_homing.proofs.ReachLemmas.{lesser_first, lesser_second}
+use Rattle.fare_branch.proofs.CostLemmas.{not_half, half, at_least_up, one_way_least, half_part, member_place}
 use Rattle.fare_branch.proofs.UnitLemmas.{all, own_has, alone_in, holds_none, single_there, single_not}
 use Rattle.fare_branch.proofs.StackLemmas.{true_cost}
 use Rattle.fare_branch.proofs.SumLemmas.{sum_up_members, kept_member}

@@ -9,10 +9,10 @@ use Rattle.fare_rules.specs.Shape.{is_ow}
 use Rattle.fare_component.specs.Table.{Pricing}
 use Rattle.fare_bounds.specs.Covers.{rest_at}
 use Rattle.fare_branch.specs.declared.ahead.Ahead.{Ahead}
-use Rattle.fare_branch.specs.declared.homing.Homing.{Homing}
+use Rattle.fare_homing.specs.declared.homing.Homing.{Homing}
 use Rattle.fare_branch.specs.Costs.{part_least}
-use Rattle.fare_branch.specs.Homing.{IsUpTo, may_end_at}
-use Rattle.fare_branch.specs.Rows.{cell}
+use Rattle.fare_homing.specs.Homing.{IsUpTo, may_end_at}
+use Rattle.fare_homing.specs.Rows.{cell}
 use Rattle.fare_branch.specs.Stack.{AreHomes, IsOver, IsOverOpen}
 
 -- a number is behind the part that comes next after some first parts: it is there, and with what the first parts cost

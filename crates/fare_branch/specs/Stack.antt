@@ -9,10 +9,10 @@ use Rattle.fare_rules.specs.Construction.{own, first_of, last_of, start_of, end_
 use Rattle.fare_component.specs.Table.{Pricing}
 use Rattle.fare_bounds.specs.Covers.{rest_at}
 use Rattle.fare_units.specs.Onward.{must_go_on}
-use Rattle.fare_branch.specs.declared.homing.Homing.{Homing}
+use Rattle.fare_homing.specs.declared.homing.Homing.{Homing}
 use Rattle.fare_branch.specs.declared.stacking.Open.{Open}
-use Rattle.fare_branch.specs.Homing.{IsUpTo, may_end_at, is_same_city, homing_at}
-use Rattle.fare_branch.specs.Rows.{cell}
+use Rattle.fare_homing.specs.Homing.{IsUpTo, may_end_at, is_same_city, homing_at}
+use Rattle.fare_homing.specs.Rows.{cell}
 
 -- a unit goes on behind a place: its first part stands there or before, and its last one behind
 abbrev pub goes_on : List Part → ℕ → ℕ → Bool

@@ -11,18 +11,17 @@ ghost use Rattle.fare_units.specs.Walk.{next_start};
 ghost use Rattle.fare_branch.specs.Ahead.{AreAhead, AreBehindHalf, IsHalfRow, must_go_from};
 ghost use Rattle.fare_branch.specs.Costs.{or_nothing};
 ghost use Rattle.fare_branch.specs.Floors.{IsFloorAnswer, IsMadeWith};
-ghost use Rattle.fare_branch.specs.Homing.{IsUpTo};
-ghost use Rattle.fare_branch.specs.Rows.{cell, AreHomingsOf};
+ghost use Rattle.fare_homing.specs.Homing.{IsUpTo};
+ghost use Rattle.fare_homing.specs.Rows.{cell, AreHomingsOf};
 ghost use Rattle.fare_branch.specs.Stack.{AreOver};
 
 use crate::costs::{entry_least, units_floor};
-use crate::homing::{Homing, number_at};
 use crate::partial::Partial;
-use crate::reaching::added;
 use crate::stacking::{
     Open, first_place, homes_of, is_blocked, may_come_to, over_point, over_unit,
 };
 use fare_component::{Entry, Table};
+use fare_homing::{Homing, added, number_at};
 use fare_rules::{MOST_POINTS, Part};
 use fare_units::{is_shut_unit, start_of};
 

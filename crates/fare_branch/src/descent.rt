@@ -2,15 +2,15 @@
 //! construction is found or some hundred lists of parts were seen. It is tried first, so that a price is known early.
 
 ghost use Rattle.std.specs.Prelude.{IfSome};
-ghost use Rattle.fare_branch.specs.Rows.{AreHomingsOf};
+ghost use Rattle.fare_homing.specs.Rows.{AreHomingsOf};
 ghost use Rattle.fare_branch.specs.Floors.{IsMadeWith};
 ghost use Rattle.fare_branch.specs.Search.{BeginsIn};
 
 use crate::diving::{first_step, least_step};
-use crate::homing::Homing;
 use crate::partial::Partial;
 use crate::pieces::Piece;
 use fare_component::Table;
+use fare_homing::Homing;
 use fare_units::lawful_price;
 
 /// How many lists of parts a dive goes on to.

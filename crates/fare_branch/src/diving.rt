@@ -6,17 +6,17 @@ ghost use Rattle.fare_trip.specs.Itinerary.{count};
 ghost use Rattle.fare_component.specs.Table.{IsInBounds};
 ghost use Rattle.fare_units.specs.Walk.{next_start};
 ghost use Rattle.fare_branch.specs.Ahead.{AreAhead};
-ghost use Rattle.fare_branch.specs.Rows.{AreHomingsOf};
+ghost use Rattle.fare_homing.specs.Rows.{AreHomingsOf};
 ghost use Rattle.fare_branch.specs.Floors.{IsMadeWith};
 ghost use Rattle.fare_branch.specs.Dive.{GoesFrom, StartsIn};
 
 use crate::ahead::{Ahead, ahead_of, floor_ahead, floor_with};
 use crate::barred::is_barred;
-use crate::homing::Homing;
 use crate::partial::Partial;
 use crate::pieces::{Piece, choice, choices};
 use crate::stacking::stack_floor;
 use fare_component::{Entry, Table};
+use fare_homing::Homing;
 use fare_rules::Part;
 
 /// Some first parts with their floor, where there are any.

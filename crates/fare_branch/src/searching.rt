@@ -3,7 +3,7 @@
 ghost use Rattle.std.specs.Prelude.{◌≡◌, []};
 ghost use Rattle.fare_bounds.specs.Covers.{AreRests};
 ghost use Rattle.fare_branch.specs.Ahead.{AreAhead};
-ghost use Rattle.fare_branch.specs.Rows.{AreHomingsOf};
+ghost use Rattle.fare_homing.specs.Rows.{AreHomingsOf};
 ghost use Rattle.fare_branch.specs.Search.{IsLeastPrice, BeginsIn, BeginsBy, IsSearched, kept_at};
 ghost use Rattle.fare_branch.specs.Dive.{IsDived};
 ghost use Rattle.fare_branch.specs.Walked.{IsWalk, IsUnderAll};
@@ -11,12 +11,12 @@ ghost use Rattle.fare_branch.specs.Walked.{IsWalk, IsUnderAll};
 use crate::ahead::{Ahead, ahead_of, floor_ahead};
 use crate::bound::Bound;
 use crate::descent::dive;
-use crate::homing::{Homing, homing_of};
 use crate::partial::Partial;
 use crate::pieces::{Piece, choice, choices};
 use crate::walking::{Found, follow, take};
 use fare_bounds::Rest;
 use fare_component::Table;
+use fare_homing::{Homing, homing_of};
 use fare_rules::Part;
 use fare_units::Construction;
 

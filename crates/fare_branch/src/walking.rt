@@ -8,17 +8,17 @@ ghost use Rattle.fare_component.specs.Table.{IsInBounds, entries_of};
 ghost use Rattle.fare_units.specs.Walk.{Completes, GoesOn, AnyPart, EndsAt, HasFare, IsPart, IsList, TakesBetter};
 ghost use Rattle.fare_units.specs.Walk.{next_start};
 ghost use Rattle.fare_branch.specs.Ahead.{AreAhead};
-ghost use Rattle.fare_branch.specs.Rows.{AreHomingsOf};
+ghost use Rattle.fare_homing.specs.Rows.{AreHomingsOf};
 ghost use Rattle.fare_branch.specs.Floors.{IsMadeWith, IsFloorAnswer};
 ghost use Rattle.fare_branch.specs.Walked.{IsWalk, IsUnderAll, is_beaten};
 
 use crate::ahead::{Ahead, ahead_of, floor_with};
 use crate::barred::is_barred;
 use crate::bound::Bound;
-use crate::homing::Homing;
 use crate::partial::{Partial, copied};
 use crate::stacking::stack_floor;
 use fare_component::{Entry, Table};
+use fare_homing::Homing;
 use fare_rules::Part;
 use fare_units::{Construction, earlier, lawful_price};
 

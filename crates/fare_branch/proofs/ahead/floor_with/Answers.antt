@@ -1,7 +1,7 @@
 use Rattle.std.proofs.Common.{◌≡◌, ◌+◌, ◌≤◌, refl, ◌∙◌, arith}
 use Rattle.fare_bounds.specs.Covers.{least_cost}
 use Rattle.fare_branch.specs.Costs.{or_nothing}
-use Rattle.fare_branch.proofs.ReachLemmas.{up_more}
+use Rattle.fare_homing.proofs.ReachLemmas.{up_more}
 use Rattle.fare_branch.proofs.ahead.floor_with.Goals as goal
 
 pub returns : goal.returns

@@ -1,0 +1,6 @@
+pub use Rattle.fare_component.specs.Table
+pub use Rattle.fare_bounds.specs.Covers
+pub mod Homing
+pub mod Rows
+pub mod Legs
+pub mod HomingRows

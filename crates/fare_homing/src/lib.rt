@@ -1,0 +1,19 @@
+//! Homing: what the parts behind each point of a trip cost at least until a pricing unit comes home there, since what
+//! begins must also end. No call takes memory.
+//!
+//! - `nearness`: which cities lie near each other;
+//! - `reaching`: the least by which a point is reached, over steps to the points before it;
+//! - `legs`: what the parts from a point cost at least, by what a part is in its unit;
+//! - `homing`: the numbers of a trip.
+//!
+//! Each of these stands on those above it.
+#![tactic(auto)]
+
+mod homing;
+mod legs;
+mod nearness;
+mod reaching;
+
+pub use homing::{Homing, cell, homing_of, number_at};
+pub use nearness::are_near;
+pub use reaching::added;
