@@ -206,10 +206,10 @@ pub(crate) fn follow<B: Bound>(
     ensures walk { IsWalk table.now.edition table.now.trip (GoesOn front.now (IsPart part)) (B.least bound.old) best
         (B.least bound.new) result }
 {
-    let Some(floor) = floor else {
+    let Some(least) = floor else {
         return best;
     };
-    if bound.seen() < floor {
+    if bound.seen() < least {
         return best;
     }
     enter(table, homing, front, part, best, bound)

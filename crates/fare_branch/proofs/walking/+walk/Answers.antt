@@ -138,9 +138,9 @@ pub follow-returns-in_default-clause-walk : goal.follow-returns-in_default-claus
 follow-returns-in_default-clause-walk g t c =
     part_none c.args.table.now.edition c.args.table.now.trip c.args.front.now c.args.part (g.B.Bound.least c.args.bound.now) c.args.best (subst (IsFloorAnswer c.args.table.now.edition c.args.table.now.trip (c.args.front.now ++ c.args.part ∷ [])) c.in_default.is c.requires.floor)
 
-pub follow-returns-then-seen-floor-clause-walk : goal.follow-returns-then-seen-floor-clause-walk
-follow-returns-then-seen-floor-clause-walk g t c =
-    part_dear c.args.table.now.edition c.args.table.now.trip c.args.front.now c.args.part (g.B.Bound.least c.args.bound.now) (g.B.Bound.least c.seen.new.self) c.in-Some.floor c.args.best
+pub follow-returns-then-seen-least-clause-walk : goal.follow-returns-then-seen-least-clause-walk
+follow-returns-then-seen-least-clause-walk g t c =
+    part_dear c.args.table.now.edition c.args.table.now.trip c.args.front.now c.args.part (g.B.Bound.least c.args.bound.now) (g.B.Bound.least c.seen.new.self) c.in-Some.least c.args.best
     (omega arith) (omega arith) (subst (IsFloorAnswer c.args.table.now.edition c.args.table.now.trip (c.args.front.now ++ c.args.part ∷ [])) c.in-Some.is c.requires.floor)
 
 pub follow-returns-clause-walk : goal.follow-returns-clause-walk
