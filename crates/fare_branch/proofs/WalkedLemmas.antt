@@ -1,17 +1,18 @@
 -- Pruned walks over constructions: how they are put together, and what they come to.
-use Rattle.std.proofs.Common.{◌≡◌, ℕ, ◌≤◌, ◌⊎◌, min, true, false, List, [], ◌∷◌, ◌++◌, Option, Some, None, Result, Ok, Err, refl, sym, subst, ◌∙◌, inl, inr, arith}
-use Rattle.std.proofs.lemmas.Bool.{cases_Bool, cases_order}
+use Rattle.std.proofs.Common.{◌≡◌, ℕ, ◌<◌, ◌≤◌, ◌⊎◌, min, Bool, true, false, ◌&&◌, ◌||◌, not, List, [], ◌∷◌, ◌++◌, Option, Some, None, Result, Ok, Err, length, refl, ap, sym, subst, ◌∙◌, inl, inr, arith}
+use Rattle.std.specs.Prelude.{nat_le, nat_lt, ◌==◌}
+use Rattle.std.proofs.lemmas.Bool.{cases_Bool, cases_order, and_parts, or_cases, leb-true, ltb-true, eqb-true, eq-eqb}
 use Rattle.fare_trip.specs.Itinerary.{Itinerary}
 use Rattle.fare_tariff.specs.Tariff.{Tariff}
 use Rattle.fare_rules.specs.declared.part.Part.{Part}
 use Rattle.fare_rules.specs.declared.broken.Broken.{Broken}
 use Rattle.fare_rules.specs.Best.{IsLawful}
 use Rattle.fare_rules.specs.Lawful.{lawful_price}
-use Rattle.fare_rules.specs.Order.{is_before}
+use Rattle.fare_rules.specs.Order.{and_then, compare_parts, is_before, is_less, tie}
 use Rattle.fare_rules.proofs.OrderLemmas.{ListBefore, Before, before_tells, before_says}
 use Rattle.fare_units.specs.Walk.{TakesBetter, IsBound, IsList}
 use Rattle.fare_units.proofs.WalkLemmas.{before_before, not_before_itself}
-use Rattle.fare_branch.specs.Walked.{IsWalk, IsPassed, IsTold, IsAmong, is_beaten}
+use Rattle.fare_branch.specs.Walked.{IsWalk, IsPassed, IsTold, IsAmong, is_beaten, is_no_sooner}
 
 abbrev Found : Type 0
 Found = Option (List Part × ℕ)
@@ -52,14 +53,52 @@ not_after xs ys px py h =
       | inr f ↦ f
     ]
 
+not_less : (a b : ℕ) → b ≤ a → nat_lt a b ≡ false
+not_less a b h = elim (cases_Bool (nat_lt a b)) [ inl t ↦ (let less : a < b = ltb-true a b t in absurd (omega arith)) | inr f ↦ f ]
+
+not_so : (b : Bool) → not b ≡ true → b ≡ false
+not_so true h = absurd (true_false (sym h))
+not_so false h = refl
+
+and_false : (b : Bool) → (b && false) ≡ false
+and_false true = refl
+and_false false = refl
+
+-- what is as long as another list ties with it as all do that begin with it
+tie_longer : (xs ys rest : List Part) → length xs ≡ length ys → tie (xs ++ rest) ys ≡ tie xs ys
+tie_longer [] [] [] e = refl
+tie_longer [] [] (r ∷ rest) e = refl
+tie_longer [] (y ∷ ys) rest e = absurd (omega arith)
+tie_longer (x ∷ xs) [] rest e = absurd (omega arith)
+tie_longer (x ∷ xs) (y ∷ ys) rest e = ap (and_then (compare_parts x y)) (tie_longer xs ys rest (omega arith))
+
+-- so none of these is before it where the list isn't, at no lesser price
+no_sooner_is_passed : (xs front rest : List Part) (px floor price : ℕ) → is_no_sooner xs px front floor ≡ true → floor ≤ price → is_before (front ++ rest) price xs px ≡ false
+unfolding is_before
+no_sooner_is_passed xs front rest px floor price h up =
+    let last = and_parts (nat_le px floor && length front == length xs) (not (is_before front px xs px)) h in
+    let first = and_parts (nat_le px floor) (length front == length xs) last.0 in
+    let low : px ≤ floor = leb-true px floor first.0 in
+    let long : length front ≡ length xs = eqb-true (length front) (length xs) first.1 in
+    let either : (nat_lt px px || ((px == px) && is_less (tie front xs))) ≡ false = not_so (is_before front px xs px) last.1 in
+    let same : (px == px) ≡ true = eq-eqb px px refl in
+    let none : nat_lt px px ≡ false = not_less px px (omega arith) in
+    let tied : is_less (tie front xs) ≡ false = rw (none, same) at either in
+    let past : nat_lt price px ≡ false = not_less price px (omega arith) in
+    rw (past, tie_longer front xs rest long, tied) (and_false (price == px))
+
 -- no completion of parts that are beaten is before the best that was found
 pub beaten_is_passed : (best : Found) (front rest parts : List Part) (floor price : ℕ) → is_beaten best front floor ≡ true → floor ≤ price → parts ≡ front ++ rest → IsBound parts price best
 beaten_is_passed None front rest parts floor price h up whole = absurd (true_false (sym h))
 beaten_is_passed (Some best) front rest parts floor price h up whole =
     let P : List Part → Type 0 = λ xs. is_before xs price best.0 best.1 ≡ false in
     subst P (sym whole)
-    (not_after best.0 (front ++ rest) best.1 price
-    (before_says best.0 (front ++ rest) best.1 price (before_longer best.0 front rest best.1 floor price up (before_tells best.0 front best.1 floor h))))
+    (elim (or_cases (is_before best.0 best.1 front floor) (is_no_sooner best.0 best.1 front floor) h) [
+      | inl l ↦
+          not_after best.0 (front ++ rest) best.1 price
+          (before_says best.0 (front ++ rest) best.1 price (before_longer best.0 front rest best.1 floor price up (before_tells best.0 front best.1 floor l)))
+      | inr r ↦ no_sooner_is_passed best.0 front rest best.1 floor price r up
+    ])
 
 ok_same : (p q : ℕ) → ◌≡◌ {A = Result ℕ Broken} (Ok p) (Ok q) → p ≡ q
 ok_same p q e = cc

@@ -3,6 +3,7 @@ use Rattle.std.specs.Prelude.{ℕ, ◌⊎◌, List, Option, None}
 use Rattle.fare_trip.specs.Itinerary.{Itinerary}
 use Rattle.fare_tariff.specs.Tariff.{Tariff}
 use Rattle.fare_rules.specs.declared.part.Part.{Part}
+use Rattle.fare_rules.specs.Best.{IsLawful}
 use Rattle.fare_component.specs.Table.{Pricing}
 use Rattle.fare_units.specs.Walk.{Completes, IsList}
 use Rattle.fare_branch.specs.declared.pieces.Piece.{Piece}
@@ -19,6 +20,11 @@ pub record GoesFrom (table : Pricing) (front : List Part) (step : List Part × �
 pub record StartsIn (table : Pricing) (piece : Piece) (step : List Part × ℕ) : Type 0 where
   pub begins : BeginsIn table.edition table.trip piece step.0
   pub made : IsMadeWith table step.0
+
+-- a construction with its price is lawful, and begins in a piece
+pub record IsLanded (table : Pricing) (piece : Piece) (found : List Part × ℕ) : Type 0 where
+  pub begins : BeginsIn table.edition table.trip piece found.0
+  pub lawful : IsLawful table.edition table.trip found.0 found.1
 
 -- no list
 abbrev pub IsNoList : List Part → Type 0

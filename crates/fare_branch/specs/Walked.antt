@@ -1,5 +1,6 @@
 -- What a pruned walk over constructions has seen, and what its best is worth.
-use Rattle.std.specs.Prelude.{◌≡◌, ℕ, ◌<◌, ◌≤◌, ◌⊎◌, Bool, false, List, Option, Some, None}
+use Rattle.std.specs.Prelude.{◌≡◌, ℕ, ◌<◌, ◌≤◌, ◌⊎◌, Bool, false, not, ◌&&◌, ◌||◌, ◌==◌, nat_le, List, length, Option}
+use Rattle.std.specs.Prelude.{Some, None}
 use Rattle.fare_trip.specs.Itinerary.{Itinerary}
 use Rattle.fare_tariff.specs.Tariff.{Tariff}
 use Rattle.fare_rules.specs.declared.part.Part.{Part}
@@ -38,7 +39,14 @@ pub record IsWalk (tariff : Tariff) (trip : Itinerary) (D : List Part → Type 0
 abbrev pub IsUnderAll : Tariff → Itinerary → ℕ → Type 0
 IsUnderAll tariff trip least = (parts : List Part) (price : ℕ) → IsLawful tariff trip parts price → least ≤ price
 
--- what was found is before each completion of some parts that costs no less than a floor
+-- some parts are no sooner than a construction that costs no more than their floor: they are as long, and not before it
+-- at one price
+abbrev pub is_no_sooner : List Part → ℕ → List Part → ℕ → Bool
+is_no_sooner parts price front floor =
+    nat_le price floor && length front == length parts && not (is_before front price parts price)
+
+-- what was found is before each completion of some parts that costs no less than a floor, or they are no sooner than it
 abbrev pub is_beaten : Option (List Part × ℕ) → List Part → ℕ → Bool
 is_beaten None front floor = false
-is_beaten (Some best) front floor = is_before best.0 best.1 front floor
+is_beaten (Some best) front floor =
+    is_before best.0 best.1 front floor || is_no_sooner best.0 best.1 front floor

@@ -4,6 +4,7 @@
 ghost use Rattle.std.specs.Prelude.{IfSome};
 ghost use Rattle.fare_homing.specs.Rows.{AreHomingsOf};
 ghost use Rattle.fare_branch.specs.Floors.{IsMadeWith};
+ghost use Rattle.fare_branch.specs.Dive.{IsLanded};
 ghost use Rattle.fare_branch.specs.Search.{BeginsIn};
 
 use crate::diving::{first_step, least_step};
@@ -22,14 +23,17 @@ const MOST_FOLLOWERS: usize = 4;
 /// The most parts of a construction.
 const MOST_DEPTH: u32 = 16;
 
+/// A lawful construction with its price, where there is one.
+type Landing = Option<(Partial, u64)>;
+
 /// A whole construction, where it is lawful.
-fn whole(table: &Table, piece: Piece, front: &Partial) -> Option<Partial>
+fn whole(table: &Table, piece: Piece, front: &Partial) -> Landing
     requires begins { BeginsIn table.now.edition table.now.trip piece front.now }
-    ensures { IfSome result (BeginsIn table.now.edition table.now.trip piece) }
+    ensures { IfSome result (IsLanded table.now piece) }
 {
     match lawful_price(table.edition(), table.trip(), front.construction()) {
         Err(_) => None,
-        Ok(_price) => Some(front.copy()),
+        Ok(price) => Some((front.copy(), price)),
     }
 }
 
@@ -42,11 +46,11 @@ fn descend(
     front: &Partial,
     depth: u32,
     lists: &mut u32,
-) -> Option<Partial>
+) -> Landing
     requires homing { AreHomingsOf table.now.edition table.now.trip homing.now }
     requires begins { BeginsIn table.now.edition table.now.trip piece front.now }
     requires made { IsMadeWith table.now front.now }
-    ensures { IfSome result (BeginsIn table.now.edition table.now.trip piece) }
+    ensures { IfSome result (IsLanded table.now piece) }
 {
     if front.end() == table.trip().count() {
         return whole(table, piece, front);
@@ -71,9 +75,9 @@ fn descend(
 }
 
 /// What a dive comes to in a piece: a construction that begins with one of its choices; nothing where it finds none.
-pub(crate) fn dive(table: &Table, homing: &Homing, piece: Piece) -> Option<Partial>
+pub(crate) fn dive(table: &Table, homing: &Homing, piece: Piece) -> Landing
     requires homing { AreHomingsOf table.now.edition table.now.trip homing.now }
-    ensures { IfSome result (BeginsIn table.now.edition table.now.trip piece) }
+    ensures { IfSome result (IsLanded table.now piece) }
 {
     let mut lists = MOST_LISTS;
     let mut from = 0;

@@ -13,7 +13,7 @@ use crate::bound::Bound;
 use crate::descent::dive;
 use crate::partial::Partial;
 use crate::pieces::{Piece, choice, choices};
-use crate::walking::{Found, follow, take};
+use crate::walking::{Found, follow, keep};
 use fare_bounds::Rest;
 use fare_component::Table;
 use fare_homing::{Homing, homing_of};
@@ -59,7 +59,7 @@ fn try_dive<B: Bound>(table: &Table, homing: &Homing, piece: Piece, bound: &mut 
 {
     match dive(table, homing, piece) {
         None => None,
-        Some(front) => take(table, &front, None, bound),
+        Some((front, price)) => keep(table, &front, price, None, bound),
     }
 }
 

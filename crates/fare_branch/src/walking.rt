@@ -3,6 +3,7 @@
 
 ghost use Rattle.std.specs.Prelude.{◌≡◌, ◌+◌, ◌<◌, ◌≤◌, ◌++◌, ◌∷◌, [], length, Contains};
 ghost use Rattle.fare_trip.specs.Itinerary.{count};
+ghost use Rattle.fare_rules.specs.Best.{IsLawful};
 ghost use Rattle.fare_rules.specs.Construction.{greatest_unit, places};
 ghost use Rattle.fare_component.specs.Table.{IsInBounds, entries_of};
 ghost use Rattle.fare_units.specs.Walk.{Completes, GoesOn, AnyPart, EndsAt, HasFare, IsPart, IsList, TakesBetter};
@@ -10,7 +11,7 @@ ghost use Rattle.fare_units.specs.Walk.{next_start};
 ghost use Rattle.fare_branch.specs.Ahead.{AreAhead};
 ghost use Rattle.fare_homing.specs.Rows.{AreHomingsOf};
 ghost use Rattle.fare_branch.specs.Floors.{IsMadeWith, IsFloorAnswer};
-ghost use Rattle.fare_branch.specs.Walked.{IsWalk, IsUnderAll, is_beaten};
+ghost use Rattle.fare_branch.specs.Walked.{IsWalk, IsUnderAll, is_beaten, is_no_sooner};
 
 use crate::ahead::{Ahead, ahead_of, floor_with};
 use crate::barred::is_barred;
@@ -41,14 +42,47 @@ fn better(front: &Partial, price: u64, best: Found) -> Found
     }
 }
 
-/// Whether what was found is before each completion of some parts that costs no less than a floor.
+/// Whether some parts are no sooner than a construction that costs no more than their floor: they are as long, and not
+/// before it at one price.
+fn is_no_sooner(parts: &Construction, price: u64, front: &Partial, floor: u64) -> bool
+    ensures { result ≡ is_no_sooner parts.now price front.now floor }
+{
+    price <= floor
+        && front.parts().len() == parts.parts().len()
+        && !earlier(front.construction(), price, parts, price)
+}
+
+/// Whether no completion of some parts that costs no less than a floor is before what was found: that is before each of
+/// them, or they are no sooner than it.
 fn is_beaten(best: &Found, front: &Partial, floor: u64) -> bool
     ensures { result ≡ is_beaten best.now front.now floor }
 {
     match best {
         None => false,
-        Some((parts, price)) => earlier(parts, *price, front.construction(), floor),
+        Some((parts, price)) => {
+            earlier(parts, *price, front.construction(), floor)
+                || is_no_sooner(parts, *price, front, floor)
+        }
     }
+}
+
+/// Tells the price of a lawful construction, and keeps it where it is before the best that was found.
+pub(crate) fn keep<B: Bound>(
+    table: &Table,
+    front: &Partial,
+    price: u64,
+    best: Found,
+    bound: &mut B,
+) -> Found
+    requires lawful { IsLawful table.now.edition table.now.trip front.now price }
+    requires under { IsUnderAll table.now.edition table.now.trip (B.fixed bound.old) }
+    ensures fixed { B.fixed bound.new ≡ B.fixed bound.old }
+    ensures walk { IsWalk table.now.edition table.now.trip (IsList front.now) (B.least bound.old) best
+        (B.least bound.new) result }
+{
+    let _trip = table.trip();
+    bound.found(price);
+    better(front, price, best)
 }
 
 /// Takes a construction, where it is lawful and before the best that was found, and tells its price.
@@ -60,10 +94,7 @@ pub(crate) fn take<B: Bound>(table: &Table, front: &Partial, best: Found, bound:
 {
     match lawful_price(table.edition(), table.trip(), front.construction()) {
         Err(_) => best,
-        Ok(price) => {
-            bound.found(price);
-            better(front, price, best)
-        }
+        Ok(price) => keep(table, front, price, best, bound),
     }
 }
 

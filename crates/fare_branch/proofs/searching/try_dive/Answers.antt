@@ -8,4 +8,4 @@ returns-in-None-clause-dived g c =
     inl (walk_nothing c.args.table.now.edition c.args.table.now.trip IsNoList (g.B.Bound.least c.args.bound.now) None (λ parts price l d. d))
 
 pub returns-in-Some-clause-dived : goal.returns-in-Some-clause-dived
-returns-in-Some-clause-dived g c = inr (c.in-Some.front, c.in-Some.ensures, c.take.ensures.walk)
+returns-in-Some-clause-dived g c = inr (c.in-Some.front, c.in-Some.ensures.begins, c.keep.ensures.walk)
