@@ -1,9 +1,9 @@
 -- The least of some numbers, one more at a time.
-use Rattle.std.proofs.Common.{◌≡◌, ℕ, ◌+◌, ◌<◌, ◌≤◌, refl, min, List, length, take, get_or, set, ap, sym, subst, ◌∙◌, inl, inr, arith}
-use Rattle.std.specs.Prelude.{Option, Some, None, Contains}
+use Rattle.std.proofs.Common.{◌≡◌, ℕ, ◌+◌, ◌<◌, ◌≤◌, refl, min, List, [], ◌∷◌, ◌++◌, length, set, ap, sym, subst, ◌∙◌, inl, inr, arith}
+use Rattle.std.specs.Prelude.{Option, Some, None}
 use Rattle.std.proofs.lemmas.Bool.{cases_eq}
 use Rattle.std.proofs.lemmas.Option.{same_Some}
-use Rattle.std.proofs.lemmas.List.{take_more, get_or-set_same, get_or-set_other}
+use Rattle.std.proofs.lemmas.List.{get_or-set_same, get_or-set_other}
 use Rattle.std.proofs.lemmas.List.Elements.{Contains-push_cases}
 use Rattle.fare_component.specs.declared.table.entry.Entry.{Entry}
 use Rattle.fare_bounds.specs.Covers.{lesser, rest_at}
@@ -36,13 +36,11 @@ pub up_second : (a b : Option ℕ) (most : ℕ) → IsUpTo most b → IsUpTo mos
 up_second a b most up = let least = lesser_second a b up.0 up.1 in up_more up.0 most (lesser a b) up.2 least
 
 -- what is under each of some entries, and one more
-pub under_more : (role : Role) (entries : List Entry) (i : ℕ) (d : Entry) (least : Option ℕ) → i < length entries → IsUnderEach role (take i entries) least
-    → IsUnderEach role (take (i + 1) entries) (lesser least (cost_in role (get_or entries i d)))
-under_more role entries i d least within under entry cost there e =
-    let P : List Entry → Type 0 = λ xs. Contains xs entry in
-    elim (Contains-push_cases (take i entries) (get_or entries i d) entry (subst P (take_more entries i d within) there)) [
-      | inl before ↦ up_first least (cost_in role (get_or entries i d)) cost (under entry cost before e)
-      | inr here ↦ lesser_second least (cost_in role (get_or entries i d)) cost (ap (cost_in role) here ∙ e)
+pub under_more : (role : Role) (entries : List Entry) (d : Entry) (least : Option ℕ) → IsUnderEach role entries least → IsUnderEach role (entries ++ d ∷ []) (lesser least (cost_in role d))
+under_more role entries d least under entry cost there e =
+    elim (Contains-push_cases entries d entry there) [
+      | inl before ↦ up_first least (cost_in role d) cost (under entry cost before e)
+      | inr here ↦ lesser_second least (cost_in role d) cost (ap (cost_in role) here ∙ e)
     ]
 
 -- up to all steps before a point, and to that at the point

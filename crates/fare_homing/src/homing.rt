@@ -2,12 +2,14 @@
 
 ghost use Rattle.std.specs.Prelude.{◌≡◌, ℕ, ◌+◌, ◌<◌, ◌≤◌, Some, true};
 ghost use Rattle.fare_trip.specs.Itinerary.{count};
+ghost use Rattle.fare_rules.specs.Construction.{begin_after};
 ghost use Rattle.fare_bounds.specs.Covers.{rest_at};
 ghost use Rattle.fare_homing.specs.Homing.{IsUpTo, may_end_at, homing_at};
 ghost use Rattle.fare_homing.specs.HomingRows.{AreWholes, AreRowsAt};
+ghost use Rattle.fare_homing.specs.Legs.{AreLegsOf};
 ghost use Rattle.fare_homing.specs.Rows.{cell, AreHomingsOf};
 
-use crate::legs::{Role, legs};
+use crate::legs::{LegRows, legs};
 use crate::nearness::are_near;
 use crate::reaching::{least_onward, reach, reached};
 use fare_bounds::begin_after;
@@ -91,19 +93,24 @@ fn whole_to(
 }
 
 /// What one unit costs at least that begins behind a point, by the points where it ends.
-fn wholes_at(table: &Table, homing: &Homing, i: usize) -> [Option<u64>; MOST_POINTS]
-    requires { i < count table.now.trip }
+fn wholes_at(
+    table: &Table,
+    homing: &Homing,
+    i: usize,
+    a: usize,
+    legs: &LegRows,
+) -> [Option<u64>; MOST_POINTS]
+    requires within { i < count table.now.trip }
+    requires start { a ≡ begin_after table.now.trip i }
+    requires legs { AreLegsOf table.now.edition table.now.trip a legs.now }
     ensures { AreWholes table.now.edition table.now.trip i (cell homing.now.closing) (cell homing.now.jaw)
         (rest_at result) }
 {
     let trip = table.trip();
     let count = trip.count();
-    let a = begin_after(trip, i);
-    let alone = legs(table, a, Role::Alone);
-    let first = legs(table, a, Role::First);
-    let mut row = alone;
+    let mut row = legs.alone;
     for j in 0..count + 1 {
-        row[j] = whole_to(table, homing, &first, alone[j], a, j);
+        row[j] = whole_to(table, homing, &legs.first, legs.alone[j], a, j);
     }
     row
 }
@@ -117,12 +124,11 @@ fn row_at(table: &Table, homing: &Homing, i: usize) -> HomingRow
     let trip = table.trip();
     let _count = trip.count();
     let a = begin_after(trip, i);
-    let between = legs(table, a, Role::Between);
-    let last = legs(table, a, Role::Last);
-    let whole = wholes_at(table, homing, i);
-    let within = reached(&between, &homing.closing, &last);
+    let legs = legs(table, a);
+    let whole = wholes_at(table, homing, i, a, &legs);
+    let within = reached(&legs.between, &homing.closing, &legs.last);
     let closing = reached(&whole, &homing.closing, &within);
-    let jaw = reached(&whole, &homing.jaw, &last);
+    let jaw = reached(&whole, &homing.jaw, &legs.last);
     let rest = least_onward(&whole, &homing.rest);
     HomingRow {
         closing,

@@ -1,8 +1,9 @@
 //! Legs: what the parts from a point of a trip cost at least, by what a part is in its unit.
 
-ghost use Rattle.std.specs.Prelude.{◌≡◌, option_map};
+ghost use Rattle.std.specs.Prelude.{◌≡◌, ◌++◌, ◌∷◌, [], List, option_map};
+ghost use Rattle.fare_component.specs.declared.table.entry.Entry.{Entry};
 ghost use Rattle.fare_bounds.specs.Covers.{hundredths_of};
-ghost use Rattle.fare_homing.specs.Legs.{cost_in, IsUnderEach, AreLegs};
+ghost use Rattle.fare_homing.specs.Legs.{cost_in, AreUnderEach, AreLegsOf};
 
 use fare_bounds::lesser;
 use fare_component::{Amount, Entry, Table, entries_are_of_fares};
@@ -51,26 +52,71 @@ fn cost_in(role: Role, entry: &Entry) -> Option<u64>
     }
 }
 
-/// The least that a part costs by some entries.
-fn cheapest_in(role: Role, entries: &[Entry]) -> Option<u64>
-    ensures { IsUnderEach role entries.now result }
+/// What a part costs at least, by what it is in its unit.
+#[derive(Clone, Copy)]
+struct Least {
+    alone: Option<u64>,
+    first: Option<u64>,
+    between: Option<u64>,
+    last: Option<u64>,
+}
+
+/// What the parts from a point cost at least, by the points where they end, for each that a part is in its unit.
+#[derive(Drop)]
+pub(crate) struct LegRows {
+    pub(crate) alone: [Option<u64>; MOST_POINTS],
+    pub(crate) first: [Option<u64>; MOST_POINTS],
+    pub(crate) between: [Option<u64>; MOST_POINTS],
+    pub(crate) last: [Option<u64>; MOST_POINTS],
+}
+
+/// The lesser of what is known of a part and what it costs with one entry more.
+fn lesser_with(least: Least, entry: &Entry) -> Least
+    ensures { (entries : List Entry) → AreUnderEach entries least → AreUnderEach (entries ++ entry.now ∷ []) result }
 {
-    let mut least = None;
+    Least {
+        alone: lesser(least.alone, cost_in(Role::Alone, entry)),
+        first: lesser(least.first, cost_in(Role::First, entry)),
+        between: lesser(least.between, cost_in(Role::Between, entry)),
+        last: lesser(least.last, cost_in(Role::Last, entry)),
+    }
+}
+
+/// What a part costs at least by some entries.
+fn cheapest(entries: &[Entry]) -> Least
+    ensures { AreUnderEach entries.now result }
+{
+    let mut least = Least {
+        alone: None,
+        first: None,
+        between: None,
+        last: None,
+    };
     for entry in entries {
-        least = lesser(least, cost_in(role, entry));
+        least = lesser_with(least, entry);
     }
     least
 }
 
-/// The least that the parts from a point cost, by the points where they end.
-pub(crate) fn legs(table: &Table, a: usize, role: Role) -> [Option<u64>; MOST_POINTS]
-    ensures { AreLegs table.now.edition table.now.trip a role result }
+/// The least that the parts from a point cost.
+pub(crate) fn legs(table: &Table, a: usize) -> LegRows
+    ensures { AreLegsOf table.now.edition table.now.trip a result }
 {
     entries_are_of_fares();
     let count = table.trip().count();
-    let mut row = [None; MOST_POINTS];
+    let none = [None; MOST_POINTS];
+    let mut legs = LegRows {
+        alone: none,
+        first: none,
+        between: none,
+        last: none,
+    };
     for b in 0..count + 1 {
-        row[b] = cheapest_in(role, table.entries(a, b));
+        let least = cheapest(table.entries(a, b));
+        legs.alone[b] = least.alone;
+        legs.first[b] = least.first;
+        legs.between[b] = least.between;
+        legs.last[b] = least.last;
     }
-    row
+    legs
 }

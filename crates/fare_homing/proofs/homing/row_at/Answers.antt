@@ -16,9 +16,9 @@ returns c =
     let last : c.count-count.result ≡ count trip = c.count-count.ensures.value ∙ ap count c.trip-trip.ensures in
     let few : count trip ≤ 16 = omega (arith, c.count-count.ensures.at_most) in
     let start : c.begin_after-a.result ≡ begin_after trip c.args.i = c.begin_after-a.ensures.value ∙ ap (λ t. begin_after t c.args.i) c.trip-trip.ensures in
-    rows_are tariff trip c.args.i few (cell homing.closing) (cell homing.jaw) (rest_at homing.rest) c.legs-between.result c.legs-last.result c.wholes_at-whole.result c.reached-within.result c.reached-closing.result c.reached-jaw.result c.least_onward-rest.result
-    (subst (λ a. AreLegs tariff trip a Between c.legs-between.result) start c.legs-between.ensures)
-    (subst (λ a. AreLegs tariff trip a Last c.legs-last.result) start c.legs-last.ensures)
+    rows_are tariff trip c.args.i few (cell homing.closing) (cell homing.jaw) (rest_at homing.rest) c.legs-legs.result.between c.legs-legs.result.last c.wholes_at-whole.result c.reached-within.result c.reached-closing.result c.reached-jaw.result c.least_onward-rest.result
+    (subst (λ a. AreLegs tariff trip a Between c.legs-legs.result.between) start c.legs-legs.ensures.between)
+    (subst (λ a. AreLegs tariff trip a Last c.legs-legs.result.last) start c.legs-legs.ensures.last)
     c.wholes_at-whole.ensures
     c.reached-within.ensures.last c.reached-within.ensures.steps c.reached-closing.ensures.last c.reached-closing.ensures.steps
     c.reached-jaw.ensures.last c.reached-jaw.ensures.steps c.least_onward-rest.ensures

@@ -14,8 +14,8 @@ use Rattle.fare_homing.proofs.homing.wholes_at.Goals as goal
 pub loop-j-preserved : goal.loop-j-preserved
 loop-j-preserved c =
     let homing = c.args.homing.now in
-    let P : ℕ → Option ℕ → Type 0 = λ j found. (most : ℕ) → IsUpTo most (rest_at c.legs-alone.result j) → IsUpTo most found in
-    let Q : ℕ → Option ℕ → Type 0 = λ j found. IsByFirst c.args.table.now.edition c.args.table.now.trip (cell homing.closing) (cell homing.jaw) c.legs-first.result c.begin_after-a.result j found in
+    let P : ℕ → Option ℕ → Type 0 = λ j found. (most : ℕ) → IsUpTo most (rest_at c.args.legs.now.alone j) → IsUpTo most found in
+    let Q : ℕ → Option ℕ → Type 0 = λ j found. IsByFirst c.args.table.now.edition c.args.table.now.trip (cell homing.closing) (cell homing.jaw) c.args.legs.now.first c.args.a j found in
     record {
       long = length-set c.loop-j.row c.loop-j.j c.whole_to.result ∙ c.loop-j.invariant.long;
       alone = row_put P c.loop-j.row c.loop-j.j c.whole_to.result (omega (arith, c.loop-j.invariant.long)) c.loop-j.invariant.alone c.whole_to.ensures.alone;
@@ -28,9 +28,9 @@ returns c =
     let tariff = c.args.table.now.edition in
     let trip = c.args.table.now.trip in
     let last : c.count-count.result ≡ count trip = c.count-count.ensures.value ∙ ap count c.trip-trip.ensures in
-    let start : c.begin_after-a.result ≡ begin_after trip c.args.i = c.begin_after-a.ensures.value ∙ ap (λ t. begin_after t c.args.i) c.trip-trip.ensures in
-    wholes_are tariff trip c.args.i (cell homing.closing) (cell homing.jaw) c.legs-alone.result c.legs-first.result c.loop-j.row
-    (subst (λ a. AreLegs tariff trip a Alone c.legs-alone.result) start c.legs-alone.ensures)
-    (subst (λ a. AreLegs tariff trip a First c.legs-first.result) start c.legs-first.ensures)
+    let start : c.args.a ≡ begin_after trip c.args.i = c.requires.start in
+    wholes_are tariff trip c.args.i (cell homing.closing) (cell homing.jaw) c.args.legs.now.alone c.args.legs.now.first c.loop-j.row
+    (subst (λ a. AreLegs tariff trip a Alone c.args.legs.now.alone) start c.requires.legs.alone)
+    (subst (λ a. AreLegs tariff trip a First c.args.legs.now.first) start c.requires.legs.first)
     c.loop-j.invariant.alone
-    (λ j within. subst (λ a. IsByFirst tariff trip (cell homing.closing) (cell homing.jaw) c.legs-first.result a j (rest_at c.loop-j.row j)) start (c.loop-j.invariant.first j (omega arith)))
+    (λ j within. subst (λ a. IsByFirst tariff trip (cell homing.closing) (cell homing.jaw) c.args.legs.now.first a j (rest_at c.loop-j.row j)) start (c.loop-j.invariant.first j (omega arith)))

@@ -8,6 +8,6 @@ use Rattle.fare_homing.proofs.homing.wholes_at.Given as goal
 abbrev pub invariant-loop-j : goal.invariant-loop-j
 invariant-loop-j l = record {
   long : length l.row ≡ 17;
-  alone : AreUpTo l.alone l.row;
-  first : (j : ℕ) → j < l.j → IsByFirst l.table.edition l.table.trip (cell l.homing.closing) (cell l.homing.jaw) l.first l.a j (rest_at l.row j);
+  alone : AreUpTo l.legs.alone l.row;
+  first : (j : ℕ) → j < l.j → IsByFirst l.table.edition l.table.trip (cell l.homing.closing) (cell l.homing.jaw) l.legs.first l.a j (rest_at l.row j);
 }
