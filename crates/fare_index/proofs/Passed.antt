@@ -54,8 +54,8 @@ passed_none slots keys heads links leads empty many_heads many_links many_leads 
 }
 
 -- one key more, before those that have been passed
-pub passed_more : (slots : ℕ) (keys : List Key) (till place slot : ℕ) (key : Key) (heads links : List (Option ℕ)) (leads still : List Bool) (later : Option ℕ) → till ≡ place + 1 → place < length keys → key ≡ get_or keys place key → slot ≡ slot_of slots key → slot < slots → later ≡ get_or heads slot later → length still ≡ length leads → ((q : ℕ) → get_or still q false ≡ true → LeadsOn leads later q) → IsPassed slots keys till heads links leads → IsPassed slots keys place (set heads slot (Some place)) (set links place later) still
-passed_more slots keys till place slot key heads links leads still later one within at slot_is slot_within was as_many leading till_there =
+pub passed_more : (slots : ℕ) (keys : List Key) (till place slot : ℕ) (key : Key) (heads links : List (Option ℕ)) (leads still : List Bool) (head later : Option ℕ) → till ≡ place + 1 → place < length keys → key ≡ get_or keys place key → slot ≡ slot_of slots key → slot < slots → head ≡ Some place → later ≡ get_or heads slot later → length still ≡ length leads → ((q : ℕ) → get_or still q false ≡ true → LeadsOn leads later q) → IsPassed slots keys till heads links leads → IsPassed slots keys place (set heads slot head) (set links place later) still
+passed_more slots keys till place slot key heads links leads still head later one within at slot_is slot_within head_is was as_many leading till_there =
     let passed = subst (λ n. IsPassed slots keys n heads links leads) one till_there in
     let rest = drop (place + 1) keys in
     let split : drop place keys ≡ key ∷ drop (place + 1) keys = at_drop_more (λ l. l) keys place key within ∙ ap (λ k. k ∷ drop (place + 1) keys) (sym at) in
@@ -63,7 +63,7 @@ passed_more slots keys till place slot key heads links leads still later one wit
     let in_links : place < length links = omega (arith, within, passed.many_links) in
     let later_is : later ≡ position_from (share_slot slots key) (place + 1) (drop (place + 1) keys) =
     was ∙ get_or_default heads slot later None in_heads ∙ passed.are_heads slot slot_within ∙ ap (λ s. position_from (has_slot slots s) (place + 1) (drop (place + 1) keys)) slot_is in
-    record {
+    subst (λ h. IsPassed slots keys place (set heads slot h) (set links place later) still) (sym head_is) (record {
       many_heads = length-set heads slot (Some place) ∙ passed.many_heads;
       are_heads = λ s h. more_heads s h (passed.are_heads s h) slot_is in_heads ∙ ap (position_from (has_slot slots s) place) (sym split);
       many_links = length-set links place later ∙ passed.many_links;
@@ -84,7 +84,7 @@ passed_more slots keys till place slot key heads links leads still later one wit
           let on = leading q led in
           leads_on slots place q key (get_or keys q d) (drop (place + 1) keys) later later_is on.is_another (passed.lead q d further high on.led))
           (here_or_further place q low);
-    }
+    })
   where
     more_heads : (s : ℕ) → s < slots → get_or heads s None ≡ position_from (has_slot slots s) (place + 1) (drop (place + 1) keys) → slot ≡ slot_of slots key → slot < length heads → get_or (set heads slot (Some place)) s None ≡ position_from (has_slot slots s) place (key ∷ drop (place + 1) keys)
     more_heads s h there own in_heads = ⊎_elim

@@ -3,4 +3,5 @@ pub mod SameKeys
 pub mod Pairs
 pub mod Hashed
 pub mod Slots
+pub mod Link
 pub mod Places

@@ -4,12 +4,14 @@
 //! - `key`: the key of a filed record, in which a pair of cities is unordered where the record's is;
 //! - `pairs`: the keys of unordered pairs;
 //! - `slots`: the slot of a key, by its hash;
+//! - `link`: a place, or nothing, in four bytes;
 //! - `places`: the places of the keys of a slot, linked in one pass over a list of keys from its back;
 //! - `index`: the index of a list of keys.
 #![tactic(auto)]
 
 mod index;
 mod key;
+mod link;
 mod pairs;
 mod places;
 mod slots;

@@ -8,6 +8,7 @@ ghost use Rattle.fare_index.specs.Slots.{share_slot};
 ghost use Rattle.fare_index.specs.Places.{ArePlaces, LeadsOn};
 
 use crate::key::Key;
+use crate::link::Link;
 use crate::slots::slot_of;
 use fare_outside::NoMemory;
 use std::alloc::Global;
@@ -15,17 +16,17 @@ use std::alloc::Global;
 /// The first place of each slot, and for each place the next of its slot and whether it is the first one.
 #[derive(Drop)]
 pub(crate) struct Places {
-    pub(crate) heads: Vec<Option<u32>>,
-    pub(crate) links: Vec<Option<u32>>,
+    pub(crate) heads: Vec<Link>,
+    pub(crate) links: Vec<Link>,
     pub(crate) leads: Vec<bool>,
 }
 
 /// Notes that a place isn't the first of its slot.
-fn follow(leads: &mut Vec<bool>, later: Option<u32>)
+fn follow(leads: &mut Vec<bool>, later: Link)
     ensures same_length { length leads.new.items ≡ length leads.old.items }
     ensures leads { (k : ℕ) → slice_index_or leads.new.items k false ≡ true → LeadsOn leads.old.items later k }
 {
-    match later {
+    match later.place() {
         None => {}
         Some(place) => {
             if (place as usize) < leads.len() {
@@ -35,7 +36,7 @@ fn follow(leads: &mut Vec<bool>, later: Option<u32>)
     }
 }
 
-/// The places of a list of keys. A list whose places don't fit 32 bits is answered as want of memory.
+/// The places of a list of keys. A list whose length doesn't fit 32 bits is answered as want of memory.
 pub(crate) fn places_of(alloc: Global, keys: &[Key]) -> Result<Places, NoMemory>
     ensures { IfOk result (ArePlaces keys.now) }
 {
@@ -43,15 +44,15 @@ pub(crate) fn places_of(alloc: Global, keys: &[Key]) -> Result<Places, NoMemory>
         return Err(NoMemory);
     }
     let slots = keys.len().max(1).next_power_of_two();
-    let mut heads = vec![in alloc; None; slots]?;
-    let mut links = vec![in alloc; None; keys.len()]?;
+    let mut heads = vec![in alloc; Link::none(); slots]?;
+    let mut links = vec![in alloc; Link::none(); keys.len()]?;
     let mut leads = vec![in alloc; true; keys.len()]?;
     for place in (0..keys.len()).rev() {
         let slot = slot_of(&keys[place], slots);
         let later = heads[slot];
         follow(&mut leads, later);
         links[place] = later;
-        heads[slot] = Some(place as u32);
+        heads[slot] = Link::to(place as u32);
     }
     Ok(Places {
         heads,
@@ -66,7 +67,7 @@ pub(crate) fn seek(
     places: &Places,
     key: &Key,
     from: usize,
-    first: Option<u32>,
+    first: Link,
 ) -> Option<usize>
     requires places { ArePlaces keys.now places.now }
     requires within { from ≤ length keys.now }
@@ -75,7 +76,7 @@ pub(crate) fn seek(
     ensures { result ≡ position_from (same_key key.now) from (drop from keys.now) }
 {
     let mut at = first;
-    while let Some(place) = at {
+    while let Some(place) = at.place() {
         if *key == keys[place as usize] {
             return Some(place as usize);
         }

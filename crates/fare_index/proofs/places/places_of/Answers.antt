@@ -5,6 +5,6 @@ use Rattle.fare_index.proofs.places.places_of.Goals as goal
 
 pub loop-place-preserved : goal.loop-place-preserved
 loop-place-preserved c =
-    passed_more c.next_power_of_two-slots.result c.args.keys.now c.loop-place.place (c.loop-place.place - 1) c.slot_of-slot.result c.index-keys-place.result _ _ _ _ _
-    (omega (arith, c.loop-place-test.true)) (omega (arith, c.loop-place-test.true, c.loop-place.auto.place)) c.index-keys-place.is c.slot_of-slot.ensures.slot c.slot_of-slot.ensures.within c.index-later.ensures
+    passed_more c.next_power_of_two-slots.result c.args.keys.now c.loop-place.place (c.loop-place.place - 1) c.slot_of-slot.result c.index-keys-place.result _ _ _ _ _ _
+    (omega (arith, c.loop-place-test.true)) (omega (arith, c.loop-place-test.true, c.loop-place.auto.place)) c.index-keys-place.is c.slot_of-slot.ensures.slot c.slot_of-slot.ensures.within c.to.ensures c.index-later.ensures
     c.follow.ensures.same_length c.follow.ensures.leads c.loop-place.invariant

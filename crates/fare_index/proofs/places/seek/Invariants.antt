@@ -3,8 +3,8 @@ use Rattle.std.proofs.Common.{length}
 use Rattle.fare_index.proofs.Walked.{IsWalked, left_from}
 use Rattle.fare_index.proofs.places.seek.Given as goal
 
-abbrev pub invariant-loop-at : goal.invariant-loop-at
-invariant-loop-at l = IsWalked (length l.places.heads.items) l.keys l.key l.from l.at
+abbrev pub invariant-loop-place : goal.invariant-loop-place
+invariant-loop-place l = IsWalked (length l.places.heads.items) l.keys l.key l.from l.at
 
-abbrev pub decreases-loop-at : goal.decreases-loop-at
-decreases-loop-at l = left_from l.keys l.at
+abbrev pub decreases-loop-place : goal.decreases-loop-place
+decreases-loop-place l = left_from l.keys l.at
