@@ -22,7 +22,7 @@ fn write_record(alloc: Global, lines: &mut Lines, one: &Record) -> Result<(), Al
     match one {
         Record::City(city) => write_city(lines, city),
         Record::Cur(currency) => write_currency(lines, currency),
-        Record::Rule(rule) => write_rule(alloc, lines, rule),
+        Record::Rule(filed) => write_rule(alloc, lines, filed.rule()),
         Record::Fare(fare) => write_fare(lines, fare),
         Record::Mpm(mileage) => write_mileage(lines, mileage),
         Record::Tpm(pair) => write_pair(lines, pair),

@@ -139,7 +139,7 @@ fn record_law(one: &Record)
     match one {
         Record::City(city) => city_law(city),
         Record::Cur(currency) => currency_law(currency),
-        Record::Rule(rule) => rule_law(rule),
+        Record::Rule(filed) => rule_law(filed.rule()),
         Record::Fare(fare) => fare_law(fare),
         Record::Mpm(mileage) => mileage_law(mileage),
         Record::Tpm(pair) => pair_law(pair),

@@ -17,7 +17,7 @@ use crate::record_kind::RecordKind;
 use crate::rows::{Row, Rows};
 use crate::text_fault::TextFault;
 use fare_codes::Day;
-use fare_tariff::{LAST_EDITION, Record};
+use fare_tariff::{FiledRule, LAST_EDITION, Record};
 use std::alloc::Global;
 
 /// The record of a row that isn't END, by its first field.
@@ -36,7 +36,10 @@ pub(crate) fn read_record(
     match kind {
         RecordKind::City => Ok(Record::City(read_city(row, number)?)),
         RecordKind::Cur => Ok(Record::Cur(read_currency(row, number)?)),
-        RecordKind::Rule => Ok(Record::Rule(read_rule(alloc, row, number)?)),
+        RecordKind::Rule => {
+            let rule = read_rule(alloc, row, number)?;
+            Ok(Record::Rule(FiledRule::new(alloc, rule)?))
+        }
         RecordKind::Fare => Ok(Record::Fare(read_fare(row, version, number)?)),
         RecordKind::Mpm => Ok(Record::Mpm(read_mileage(row, number)?)),
         RecordKind::Tpm => Ok(Record::Tpm(read_pair(row, number)?)),

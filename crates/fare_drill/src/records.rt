@@ -16,7 +16,7 @@ use crate::pairs::{first_pairs, pairs};
 use crate::ways::ways;
 use fare_codes::{Country, Currency, Mode, RuleId};
 use fare_outside::NoMemory;
-use fare_tariff::{CurRec, Names, Record, RuleRec};
+use fare_tariff::{CurRec, FiledRule, Names, Record, RuleRec};
 use std::alloc::Global;
 
 /// Room for the records of as many cities as there can be and for the extra cities.
@@ -52,7 +52,7 @@ fn push_base(
 {
     push_currencies(records)?;
     push_cities(records, count)?;
-    records.push(rule_record())?;
+    records.push(rule_record(alloc)?)?;
     let ways = ways(alloc, count)?;
     push_fares(records, seed, ways.as_slice())?;
     let pairs = pairs(alloc, count)?;
@@ -96,10 +96,10 @@ fn push_cities(records: &mut Vec<Record>, count: u32) -> Result<(), NoMemory>
 }
 
 /// The one rule, which asks for little and is combined with every rule.
-fn rule_record() -> Record
-    ensures { result ≡ rule_record }
+fn rule_record(alloc: Global) -> Result<Record, NoMemory>
+    ensures { IfOk result (λ one. one ≡ rule_record) }
 {
-    Record::Rule(RuleRec {
+    let rule = RuleRec {
         id: RuleId::read(b"A").unwrap(),
         stops: 16,
         transfers: 16,
@@ -109,7 +109,8 @@ fn rule_record() -> Record
         excess: true,
         units: Names::All,
         ends: Names::All,
-    })
+    };
+    Ok(Record::Rule(FiledRule::new(alloc, rule)?))
 }
 
 /// How many extra cities there are where there are any: one for each two letters.

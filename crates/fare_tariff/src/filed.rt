@@ -125,7 +125,7 @@ pub(crate) fn own_key(one: &Record) -> Key
     match one {
         Record::City(r) => Key::City(r.code),
         Record::Cur(r) => Key::Currency(r.country),
-        Record::Rule(r) => Key::Rule(r.id),
+        Record::Rule(r) => Key::Rule(r.rule().id),
         Record::Fare(r) => fares_key(r),
         Record::Mpm(r) => Key::permitted(r.from, r.to, r.ind),
         Record::Tpm(r) => Key::ticketed(r.from, r.to),

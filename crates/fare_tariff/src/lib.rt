@@ -29,8 +29,8 @@ pub use limits::{
     MOST_RECORDS, MOST_STOPS, MOST_TRANSFERS, MOST_UNIT,
 };
 pub use records::{
-    CityRec, CurRec, EmaRec, FareKey, FareRec, MileRec, Names, PairRec, Record, RuleList, RuleRec,
-    Terms, same_records,
+    CityRec, CurRec, EmaRec, FareKey, FareRec, FiledRule, MileRec, Names, PairRec, Record,
+    RuleList, RuleRec, Terms, same_records,
 };
 pub use seasons::overlap_is_a_shared_day;
 

@@ -99,7 +99,7 @@ fn saver(rt: &impl Abort, alloc: Global) -> Result<Record, Fail> {
     let mut units = RuleList::new(alloc);
     units.push(saver_id(rt))?;
     units.push(None)?;
-    Ok(Record::Rule(RuleRec {
+    let rule = RuleRec {
         id: RuleId::read(b"SAVER").expect(rt, "a rule"),
         stops: 1,
         transfers: 2,
@@ -109,7 +109,8 @@ fn saver(rt: &impl Abort, alloc: Global) -> Result<Record, Fail> {
         excess: false,
         units: Names::Of(units),
         ends: Names::All,
-    }))
+    };
+    Ok(Record::Rule(FiledRule::new(alloc, rule)?))
 }
 
 fn mileage(rt: &impl Abort, from: [u8; 3], to: [u8; 3], miles: u16) -> Record {

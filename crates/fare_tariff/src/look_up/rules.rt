@@ -83,7 +83,10 @@ pub(crate) fn rule_in(id: RuleId, one: &Record) -> Option<&RuleRec>
     ensures { option_copied result ≡ rule_in id one.now }
 {
     match one {
-        Record::Rule(filed) => { if filed.id.is(id) { Some(filed) } else { None } }
+        Record::Rule(filed) => {
+            let rule = filed.rule();
+            if rule.id.is(id) { Some(rule) } else { None }
+        }
         _ => None,
     }
 }

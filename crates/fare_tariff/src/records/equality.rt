@@ -29,7 +29,7 @@ fn is_record(a: &Record, b: &Record) -> bool
     match (a, b) {
         (Record::City(a), Record::City(b)) => is_city_record(a, b),
         (Record::Cur(a), Record::Cur(b)) => is_currency_record(a, b),
-        (Record::Rule(a), Record::Rule(b)) => is_rule_record(a, b),
+        (Record::Rule(a), Record::Rule(b)) => is_rule_record(a.rule(), b.rule()),
         (Record::Fare(a), Record::Fare(b)) => is_fare_record(a, b),
         (Record::Mpm(a), Record::Mpm(b)) => is_mileage_record(a, b),
         (Record::Tpm(a), Record::Tpm(b)) => is_pair_record(a, b),

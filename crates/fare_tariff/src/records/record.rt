@@ -1,4 +1,4 @@
-use crate::records::{CityRec, CurRec, EmaRec, FareRec, MileRec, PairRec, RuleRec};
+use crate::records::{CityRec, CurRec, EmaRec, FareRec, FiledRule, MileRec, PairRec};
 
 /// A record of a tariff, between its HEAD and its END.
 #[derive(Drop)]
@@ -8,7 +8,7 @@ pub enum Record {
     /// A country's currency.
     Cur(CurRec),
     /// A rule.
-    Rule(RuleRec),
+    Rule(FiledRule),
     /// A fare.
     Fare(FareRec),
     /// A maximum permitted mileage.
