@@ -15,3 +15,4 @@ pub mod FoundFares
 pub mod OneFare
 pub mod FoundOptions
 pub mod Zipped
+pub mod NextFares

@@ -1,7 +1,7 @@
 -- The look-ups of an edition: each searches its one list of records.
-use Rattle.std.specs.Prelude.{ℕ, ◌+◌, ◌-◌, Bool, true, false, List, [], ◌∷◌, Option, Some, None, option_map}
+use Rattle.std.specs.Prelude.{ℕ, ◌+◌, ◌-◌, Bool, true, false, List, [], ◌∷◌, Option, Some, None, option_map, drop}
 use Rattle.std.specs.Prelude.{option_and_then, position, slice_get, bytes_eq, ◌&&◌, ◌||◌, nat_le, max, if◌then◌else◌}
-use Rattle.std.specs.List.{list_any}
+use Rattle.std.specs.List.{list_any, position_from}
 use Rattle.std.specs.Option.{option_or}
 use Rattle.fare_codes.specs.declared.city.City.{City}
 use Rattle.fare_codes.specs.declared.country.Country.{Country}
@@ -104,6 +104,15 @@ numbers_from test number (one ∷ records) =
 -- the record number of the k-th fare, from 0, of a city, another and an indicator
 abbrev pub nth_fare : Tariff → City → City → Indicator → ℕ → Option ℕ
 nth_fare tariff from to ind k = slice_get (numbers_from (is_fare_between from to ind) 2 tariff.records) k
+
+-- the number of the first record behind that of a number which files a fare with the cities and the indicator of a fare
+abbrev pub next_beside : Tariff → ℕ → FareRecord → Option ℕ
+next_beside tariff number fare =
+    position_from (is_fare_between fare.from fare.to fare.ind) (number + 1) (drop (number - 1) tariff.records)
+
+-- the record number of the next fare behind that of a number with its cities and its indicator
+abbrev pub next_fare : Tariff → ℕ → Option ℕ
+next_fare tariff number = option_and_then (next_beside tariff number) (fare_at tariff number)
 
 -- the rule that a record files, where it is this one
 abbrev pub rule_in : RuleId → Record → Option RuleRecord

@@ -1,9 +1,12 @@
 //! What follows of every edition, from its validity alone.
 
-ghost use Rattle.std.specs.Prelude.{◌≡◌, ◌↔◌, ℕ, Some};
+ghost use Rattle.std.specs.Prelude.{◌≡◌, ◌↔◌, ◌+◌, ◌<◌, ℕ, Some};
+ghost use Rattle.fare_codes.specs.declared.city.City.{City};
+ghost use Rattle.fare_codes.specs.declared.indicator.Indicator.{Indicator};
 ghost use Rattle.fare_codes.specs.declared.month_day.MonthDay.{MonthDay};
+ghost use Rattle.fare_tariff.specs.declared.limits.TheConstants.{MOST_FARES_BETWEEN};
 ghost use Rattle.fare_tariff.specs.declared.records.fare_key.FareKey.{FareKey};
-ghost use Rattle.fare_tariff.specs.Lookup.{fare_number};
+ghost use Rattle.fare_tariff.specs.Lookup.{fare_number, next_fare, nth_fare};
 ghost use Rattle.fare_tariff.specs.Filed.{FilesFareOn};
 
 use crate::edition::Edition;
@@ -16,6 +19,16 @@ pub fn fare_of_a_day_is_one(edition: &Edition)
         FilesFareOn edition.now key on a → FilesFareOn edition.now key on b → a ≡ b }
     ensures number { (key : FareKey) (on : MonthDay) (n : ℕ) →
         (fare_number edition.now key on ≡ Some n) ↔ FilesFareOn edition.now key on n }
+{
+    let _records = edition.records();
+}
+
+/// The next fare after the `k`-th from a city to another for an indicator is the one after it, and there are few.
+pub fn fares_come_in_turn(edition: &Edition)
+    ensures next { (from to : City) (ind : Indicator) (k n : ℕ) → nth_fare edition.now from to ind k ≡ Some n
+        → next_fare edition.now n ≡ nth_fare edition.now from to ind (k + 1) }
+    ensures few { (from to : City) (ind : Indicator) (k n : ℕ) → nth_fare edition.now from to ind k ≡ Some n
+        → k < MOST_FARES_BETWEEN }
 {
     let _records = edition.records();
 }

@@ -23,7 +23,7 @@ mod towns;
 
 pub use check::{CheckFault, CheckKind};
 pub use edition::Edition;
-pub use laws::fare_of_a_day_is_one;
+pub use laws::{fare_of_a_day_is_one, fares_come_in_turn};
 pub use limits::{
     LAST_EDITION, MOST_DAYS, MOST_DECIMALS, MOST_FARES_BETWEEN, MOST_MILES, MOST_NAMES,
     MOST_RECORDS, MOST_STOPS, MOST_TRANSFERS, MOST_UNIT,

@@ -5,7 +5,7 @@ ghost use Rattle.std.specs.Prelude.{option_and_then, position, slice_get, if◌t
 ghost use Rattle.std.specs.Option.{option_copied};
 ghost use Rattle.fare_tariff.specs.Filed.{IsFiledFare, IsFareOn, IsFareBetween};
 ghost use Rattle.fare_tariff.specs.Lookup.{fare_in, has_key, is_fare_on, is_fare_between, number_at, numbers_from};
-ghost use Rattle.fare_tariff.specs.Lookup.{fare_number, fare_at, nth_fare};
+ghost use Rattle.fare_tariff.specs.Lookup.{fare_number, fare_at, nth_fare, next_fare};
 
 use crate::edition::Edition;
 use crate::filed::Filed;
@@ -43,6 +43,17 @@ impl Edition {
         ensures few { OnSome result (k < MOST_FARES_BETWEEN) }
     {
         nth_fare_number(self.filed(), from, to, ind, k)
+    }
+
+    /// The record number of the next fare, in the order of the records, with the cities and the indicator of the fare
+    /// that the record of a number files; nothing where there is no more, and where that record files none.
+    pub fn next_fare(&self, number: u32) -> Option<u32>
+        ensures { result ≡ next_fare self.now number }
+    {
+        match self.fare_at(number) {
+            None => None,
+            Some(_) => number_at(self.filed().next(number as usize - 2)),
+        }
     }
 }
 

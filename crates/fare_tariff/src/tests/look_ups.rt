@@ -67,6 +67,9 @@ fn looks_up_fares(rt: HostRuntime) -> Result<(), Fail> {
             number
         );
     }
+    for (number, next) in [(0, None), (7, None), (8, Some(9)), (9, None), (10, None)] {
+        assert_eq!(rt; tariff.next_fare(number), next, "behind {number}");
+    }
     Ok(())
 }
 
@@ -127,5 +130,6 @@ fn compares_records(rt: HostRuntime) -> Result<(), Fail> {
     assert!(rt; !same_records(tariff.records(), places.as_slice()));
     overlap_is_a_shared_day(Season::whole_year(), Season::whole_year());
     fare_of_a_day_is_one(&tariff);
+    fares_come_in_turn(&tariff);
     Ok(())
 }
