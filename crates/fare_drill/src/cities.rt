@@ -1,10 +1,13 @@
 //! The cities of a drill.
 
-ghost use Rattle.std.specs.Prelude.{◌≡◌, ◌≤◌};
+ghost use Rattle.std.specs.Prelude.{◌≡◌, IfOk, length, map};
+ghost use Rattle.std.specs.List.{range_with_len};
 ghost use Rattle.fare_drill.specs.Cities.{letter, city, country_of, extra_city, city_record, extra_record};
 
 use fare_codes::{Area, City, Country};
+use fare_outside::NoMemory;
 use fare_tariff::{CityRec, Record};
+use std::alloc::Global;
 
 /// The letter of a number, from 0 for A, and from A again behind Z.
 fn letter(i: u32) -> u8
@@ -27,6 +30,14 @@ pub(crate) fn extra_city(i: u32) -> City
     ensures { result ≡ extra_city i }
 {
     City::read(&[b'D', letter(i / 26), letter(i)]).unwrap()
+}
+
+/// The first so many extra cities.
+pub(crate) fn extra_cities(alloc: Global, count: u32) -> Result<Vec<City>, NoMemory>
+    ensures cities { IfOk result (λ cities. cities.items ≡ map extra_city (range_with_len 0 count)) }
+    ensures count { IfOk result (λ cities. length cities.items ≡ count) }
+{
+    Ok((0..count).map(|i| extra_city(i)).collect(alloc)?)
 }
 
 /// The country of the city of a number.

@@ -1,20 +1,20 @@
 //! The unordered pairs of numbers, first by the lesser one and then by the greater one.
 
-ghost use Rattle.std.specs.Prelude.{◌≡◌, ◌<◌, ◌≤◌, ◌++◌, OnOk, IfOk, take};
-ghost use Rattle.fare_drill.specs.declared.limits.TheConstants.{EXTRA_CITIES};
+ghost use Rattle.std.specs.Prelude.{◌≡◌, ◌<◌, ◌≤◌, ◌++◌, OnOk, IfOk};
+ghost use Rattle.fare_drill.specs.declared.limits.TheConstants.{MOST_SECTORS};
 ghost use Rattle.fare_drill.specs.Miles.{pairs, pairs_from};
 
-use crate::limits::EXTRA_CITIES;
+use crate::limits::MOST_SECTORS;
 use crate::pair::Pair;
 use fare_outside::NoMemory;
 use std::alloc::Global;
 
 /// The pairs of numbers below a count.
 pub(crate) fn pairs(alloc: Global, count: u32) -> Result<Vec<Pair>, NoMemory>
-    requires { count ≤ EXTRA_CITIES }
+    requires { count ≤ MOST_SECTORS }
     ensures { IfOk result (λ all. all.items ≡ pairs count) }
 {
-    let room = count as usize * EXTRA_CITIES as usize / 2;
+    let room = count as usize * MOST_SECTORS as usize / 2;
     let mut pairs = Vec::with_capacity(alloc, room)?;
     for first in 0..count {
         push_from(&mut pairs, count, first)?;
@@ -24,7 +24,7 @@ pub(crate) fn pairs(alloc: Global, count: u32) -> Result<Vec<Pair>, NoMemory>
 
 /// Appends the pairs of a number and each greater one.
 fn push_from(pairs: &mut Vec<Pair>, count: u32, first: u32) -> Result<(), NoMemory>
-    requires all { count ≤ EXTRA_CITIES }
+    requires all { count ≤ MOST_SECTORS }
     requires one { first < count }
     ensures { OnOk result (pairs.new.items ≡ pairs.old.items ++ pairs_from count first) }
 {
@@ -32,11 +32,4 @@ fn push_from(pairs: &mut Vec<Pair>, count: u32, first: u32) -> Result<(), NoMemo
         pairs.push(Pair { first, second })?;
     }
     Ok(())
-}
-
-/// The first so many of some pairs, or all of them.
-pub(crate) fn first_pairs(pairs: &[Pair], count: usize) -> &[Pair]
-    ensures { result.now ≡ take count pairs.now }
-{
-    &pairs[..count.min(pairs.len())]
 }

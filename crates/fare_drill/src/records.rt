@@ -8,11 +8,11 @@ ghost use Rattle.fare_drill.specs.Fares.{fares};
 ghost use Rattle.fare_drill.specs.Drill.{currency_record, currencies, rule_record, extra_records, base_records};
 ghost use Rattle.fare_drill.specs.Drill.{drill_records, extra_city_count};
 
-use crate::cities::{city_record, extra_record};
+use crate::cities::{city_record, extra_cities, extra_record};
 use crate::fares::push_fares;
 use crate::limits::EXTRA_CITIES;
 use crate::miles::{push_extra_miles, push_permitted, push_ticketed};
-use crate::pairs::{first_pairs, pairs};
+use crate::pairs::pairs;
 use crate::ways::ways;
 use fare_codes::{Country, Currency, Mode, RuleId};
 use fare_outside::NoMemory;
@@ -132,8 +132,8 @@ fn push_extra(records: &mut Vec<Record>, alloc: Global, extra: u32) -> Result<()
     }
     let count = extra_city_count();
     push_extra_cities(records, count)?;
-    let pairs = pairs(alloc, count)?;
-    push_extra_miles(records, first_pairs(pairs.as_slice(), extra as usize))
+    let cities = extra_cities(alloc, count)?;
+    push_extra_miles(records, cities.as_slice(), extra as usize)
 }
 
 /// Appends the records of so many extra cities.
