@@ -1,5 +1,5 @@
 -- The numbers of the records that pass a test, one after another, and a cursor over them.
-use Rattle.std.proofs.Common.{◌≡◌, refl, ℕ, zero, suc, ◌+◌, ◌<◌, ◌≤◌, Bool, true, false, cond, List, [], ◌∷◌, length, ap, sym, subst, ◌∙◌, arith, inl, inr, add-one}
+use Rattle.std.proofs.Common.{◌≡◌, refl, ℕ, zero, suc, ◌+◌, ◌<◌, ◌≤◌, Bool, false, List, [], ◌∷◌, length, ap, sym, subst, ◌∙◌, arith, inl, inr, add-one}
 use Rattle.std.specs.Prelude.{Option, Some, None, IfSome, OnSome, slice_get}
 use Rattle.std.proofs.lemmas.Bool.{cases_Bool, cases_eq}
 use Rattle.std.proofs.lemmas.Option.{same_Some, none-some}

@@ -1,9 +1,9 @@
 -- The entries of a span are those of the fares between its ends.
-use Rattle.std.proofs.Common.{◌≡◌, refl, ℕ, zero, suc, ◌+◌, ◌-◌, ◌<◌, ◌≤◌, Bool, true, false, cond, ◌&&◌, ◌||◌, not, List, [], ◌∷◌, ◌++◌, length, ap, sym, subst, ◌∙◌, ◌⊎◌, arith, inl, inr}
-use Rattle.std.specs.Prelude.{Option, Some, None, is_some, bytes_eq, option_and_then, filter_map, slice_get}
+use Rattle.std.proofs.Common.{◌≡◌, refl, ℕ, zero, suc, ◌+◌, ◌-◌, ◌<◌, ◌≤◌, Bool, true, false, cond, ◌&&◌, not, List, [], ◌∷◌, ◌++◌, length, ap, sym, ◌∙◌, ◌⊎◌, arith, inl, inr}
+use Rattle.std.specs.Prelude.{Option, Some, None, is_some, option_and_then, filter_map, slice_get}
 use Rattle.std.specs.Option.{option_to_list}
-use Rattle.std.specs.List.{cons_option, range_with_len}
-use Rattle.std.proofs.lemmas.Bool.{cases_Bool, and_cases, and_from, false_from_ne_true, false≢true, le-leb, lt-ltb, not-false}
+use Rattle.std.specs.List.{cons_option}
+use Rattle.std.proofs.lemmas.Bool.{and_from, false_from_ne_true, false≢true, le-leb, lt-ltb}
 use Rattle.std.proofs.lemmas.List.{append-nil}
 use Rattle.std.proofs.lemmas.List.Elements.{filter_map-append}
 use Rattle.std.proofs.lemmas.Option.{none-some, same_Some}
@@ -19,7 +19,7 @@ use Rattle.fare_tariff.specs.Lookup.{fare_at, fare_in, is_fare_between, number_a
 use Rattle.fare_rules.specs.Numbers.{numbers}
 use Rattle.fare_rules.specs.Span.{holds_surface}
 use Rattle.fare_rules.specs.Indicator.{indicator}
-use Rattle.fare_rules.specs.ComponentAmount.{component_amount, fare_amount, has_indicator, is_filed_between, repeats_city, runs_between, span_surcharge}
+use Rattle.fare_rules.specs.ComponentAmount.{component_amount, has_indicator, is_filed_between, repeats_city, runs_between, span_surcharge}
 use Rattle.fare_rules.proofs.AmountLemmas.{MayBeUsed}
 use Rattle.fare_rules.proofs.NumberLemmas.{numbers_more}
 use Rattle.fare_rules.proofs.RuleLemmas.{usable_from_amount}

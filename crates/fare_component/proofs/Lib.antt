@@ -1,9 +1,11 @@
 pub mod AmongLemmas
 pub mod AmountLemmas
 pub mod CandidateLemmas
+pub mod ColumnLemmas
 pub mod Counts
 pub mod CursorLemmas
 pub mod EntryLemmas
+pub mod GreatestLemmas
 pub mod LawLemmas
 pub mod OwnLemmas
 pub mod ReachLemmas

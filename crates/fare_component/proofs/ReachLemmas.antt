@@ -1,7 +1,7 @@
 -- The greatest of the references that a component compares, by the pairs that end before its end and by those that end
 -- there.
 use Rattle.std.proofs.Common.{◌≡◌, refl, ℕ, zero, suc, ◌+◌, ◌-◌, ◌<◌, ◌≤◌, eqb, Bool, true, false, cond, not, ◌&&◌, ◌||◌, List, [], ◌∷◌, ◌++◌, max, ap, sym, ◌∙◌, arith}
-use Rattle.std.specs.Prelude.{Option, Some, None, option_map, filter_map, flat_map}
+use Rattle.std.specs.Prelude.{Option, None, option_map, filter_map, flat_map}
 use Rattle.std.specs.List.{cons_option, range_with_len}
 use Rattle.std.proofs.lemmas.Bool.{eq-eqb, ne_eqb}
 use Rattle.std.proofs.lemmas.Grind.{flat_map-append}
@@ -16,43 +16,8 @@ use Rattle.fare_rules.specs.UnitPrice.{at_least}
 use Rattle.fare_rules.proofs.NumberLemmas.{numbers_next, numbers_none, numbers_more}
 use Rattle.fare_component.specs.declared.table.references.Form.{Form}
 use Rattle.fare_component.specs.declared.table.references.Reach.{Reach}
-use Rattle.fare_component.specs.References.{IsReach, greatest_inner, greatest_to, inner_from, inner_pair, pair_to, reference_of}
-
--- an amount that is taken at first is taken at last
-taken_first : (amount high : ℕ) (pairs : List Compared)
-    → max high (greatest_amount amount pairs) ≡ greatest_amount (max amount high) pairs
-taken_first amount high [] = omega arith
-taken_first amount high (found ∷ pairs) =
-    let rest = taken_first amount high pairs in
-    omega (arith, rest)
-
--- an amount is taken apart from what was found
-apart : (amount : ℕ) (pairs : List Compared) → greatest_amount amount pairs ≡ max amount (greatest_amount 0 pairs)
-apart amount [] = omega arith
-apart amount (found ∷ pairs) =
-    let rest = apart amount pairs in
-    omega (arith, rest)
-
--- the greatest of two lists
-both : (first second : List Compared)
-    → greatest_amount 0 (first ++ second) ≡ max (greatest_amount 0 first) (greatest_amount 0 second)
-both [] second = omega arith
-both (found ∷ first) second =
-    let rest = both first second in
-    omega (arith, rest)
-
-one_taken : (amount i j : ℕ) (found : Option ℕ) (pairs : List Compared)
-    → greatest_amount amount (cons_option (option_map (with_amount i j) found) pairs)
-    ≡ greatest_amount (at_least amount found) pairs
-one_taken amount i j None pairs = refl
-one_taken amount i j (Some high) pairs = taken_first amount high pairs
-
--- what is found for one pair is put before others, or behind them
-put_first : (found : Option Compared) (pairs : List Compared)
-    → greatest_amount 0 (cons_option found pairs)
-    ≡ max (greatest_amount 0 (cons_option found [])) (greatest_amount 0 pairs)
-put_first None pairs = omega arith
-put_first (Some found) pairs = omega arith
+use Rattle.fare_component.specs.References.{IsReach, greatest_inner, greatest_to, inner_from, inner_pair, reference_of, stop_to}
+use Rattle.fare_component.proofs.GreatestLemmas.{apart, at_least_apart, both, one_taken, put_first}
 
 module _ (p : ℕ → ℕ → Option Compared) where
   -- what is found for the pairs that begin at a point and end before another
@@ -140,27 +105,41 @@ tests_there true stop = refl
 tests_there false stop = refl
 
 module _ (tariff : Tariff) (trip : Itinerary) (form : Form) (a : ℕ) where
-  -- the pair of two points is taken, and then those of the points behind the first
-  pub pair_taken : (amount i j : ℕ) → i < j
-      → greatest_amount amount (filter_map (pair_to tariff trip form a j) (numbers i j))
-      ≡ greatest_amount (at_least amount (cond (is_end_or_stopover trip a i) (reference_of tariff trip form i j) None))
-      (filter_map (pair_to tariff trip form a j) (numbers (i + 1) j))
-  pair_taken amount i j h =
-      ap (λ l. greatest_amount amount (filter_map (pair_to tariff trip form a j) l)) (numbers_next i j h)
-      ∙ one_taken amount i j (cond (is_end_or_stopover trip a i) (reference_of tariff trip form i j) None)
-      (filter_map (pair_to tariff trip form a j) (numbers (i + 1) j))
+  -- what a form has between a point that begins a pair which is compared and a later point
+  abbrev pair_to : ℕ → ℕ → ℕ → Option Compared
+  pair_to a j i =
+      option_map (with_amount i j) (cond (is_end_or_stopover trip a i) (reference_of tariff trip form i j) None)
 
-  -- behind the last point no pair is left
-  pub pairs_taken : (amount i j : ℕ) → j ≤ i
-      → greatest_amount amount (filter_map (pair_to tariff trip form a j) (numbers i j)) ≡ amount
-  pairs_taken amount i j h =
-      ap (λ l. greatest_amount amount (filter_map (pair_to tariff trip form a j) l)) (numbers_none i j h)
+  -- a point behind the start begins a pair where it is a stopover
+  pair_stop : (i j : ℕ) → a < i → pair_to a j i ≡ stop_to tariff trip form j i
+  pair_stop i j h =
+      ap (λ first. option_map (with_amount i j) (cond (first || is_stopover trip i) (reference_of tariff trip form i j) None)) (ne_eqb i a (λ e. omega arith))
+
+  stop_pairs : (j : ℕ)
+      → greatest_amount 0 (filter_map (pair_to a j) (numbers (a + 1) j)) ≡ greatest_to tariff trip form (a + 1) j j
+  unfolding greatest_to
+  stop_pairs j =
+      ap (greatest_amount 0) (row_same (pair_to a j) (stop_to tariff trip form j) (a + 1) (j - (a + 1)) (λ i low high. pair_stop i j (omega arith)))
+
+  -- and the start itself does
+  first_pairs : (j : ℕ) → a < j
+      → greatest_amount 0 (filter_map (pair_to a j) (numbers a j))
+      ≡ at_least (greatest_to tariff trip form (a + 1) j j) (reference_of tariff trip form a j)
+  first_pairs j h =
+      let found = reference_of tariff trip form a j in
+      let rest = filter_map (pair_to a j) (numbers (a + 1) j) in
+      ap (λ l. greatest_amount 0 (filter_map (pair_to a j) l)) (numbers_next a j h)
+      ∙ ap (λ first. greatest_amount 0 (cons_option (option_map (with_amount a j) (cond (first || is_stopover trip a) found None)) rest)) (eq-eqb a a refl)
+      ∙ one_taken 0 a j found rest
+      ∙ at_least_apart found rest
+      ∙ ap (λ n. at_least n found) (stop_pairs j)
 
   -- one point further there are the pairs that end at that point, where it is a stopover
   more : (j : ℕ) → a ≤ j
       → greatest_inner tariff trip form a (j + 1)
-      ≡ max (greatest_inner tariff trip form a j) (cond (is_stopover trip j) (greatest_to tariff trip form a a j) 0)
-  unfolding greatest_inner greatest_to
+      ≡ max (greatest_inner tariff trip form a j)
+      (cond (is_stopover trip j) (greatest_amount 0 (filter_map (pair_to a j) (numbers a j))) 0)
+  unfolding greatest_inner
   more j h =
       last_row (inner_pair tariff trip form a) a j h
       ∙ rows_more (inner_pair tariff trip form a) a (j - a) j (omega arith)
@@ -169,15 +148,17 @@ module _ (tariff : Tariff) (trip : Itinerary) (form : Form) (a : ℕ) where
 
   pub further : (j : ℕ) → a < j → is_stopover trip j ≡ true
       → greatest_inner tariff trip form a (j + 1)
-      ≡ max (greatest_inner tariff trip form a j) (greatest_to tariff trip form a a j)
+      ≡ max (greatest_inner tariff trip form a j)
+      (at_least (greatest_to tariff trip form (a + 1) j j) (reference_of tariff trip form a j))
   further j h stop =
       more j (omega arith)
-      ∙ ap (λ t. max (greatest_inner tariff trip form a j) (cond t (greatest_to tariff trip form a a j) 0)) stop
+      ∙ ap (λ t. max (greatest_inner tariff trip form a j) (cond t (greatest_amount 0 (filter_map (pair_to a j) (numbers a j))) 0)) stop
+      ∙ ap (max (greatest_inner tariff trip form a j)) (first_pairs j h)
 
   pub no_further : (j : ℕ) → a < j → is_stopover trip j ≡ false
       → greatest_inner tariff trip form a (j + 1) ≡ greatest_inner tariff trip form a j
   no_further j h stop =
-      let e = more j (omega arith) ∙ ap (λ t. max (greatest_inner tariff trip form a j) (cond t (greatest_to tariff trip form a a j) 0)) stop in
+      let e = more j (omega arith) ∙ ap (λ t. max (greatest_inner tariff trip form a j) (cond t (greatest_amount 0 (filter_map (pair_to a j) (numbers a j))) 0)) stop in
       omega (arith, e)
 
   -- at first there are none
@@ -216,7 +197,7 @@ module _ (tariff : Tariff) (trip : Itinerary) (form : Form) (a : ℕ) where
         ∙ tests_before (eqb i a) (is_end_or_stopover trip a i) (is_stopover trip j))
 
     there : (i : ℕ) → a < i
-        → compared_pair tariff trip a b form.fare form.back i b ≡ pair_to tariff trip form a b i
+        → compared_pair tariff trip a b form.fare form.back i b ≡ pair_to a b i
     there i h =
         let other : eqb i a ≡ false = ne_eqb i a (λ e. omega arith) in
         let same : eqb b b ≡ true = eq-eqb b b refl in
@@ -235,17 +216,17 @@ module _ (tariff : Tariff) (trip : Itinerary) (form : Form) (a : ℕ) where
 
     column : a < b
         → greatest_amount 0 (filter_map (λ i. compared_pair tariff trip a b form.fare form.back i b) (numbers a b))
-        ≡ greatest_to tariff trip form a (a + 1) b
-    unfolding greatest_to
+        ≡ greatest_to tariff trip form (a + 1) b b
     column h =
         ap (λ l. greatest_amount 0 (filter_map (λ i. compared_pair tariff trip a b form.fare form.back i b) l)) (numbers_next a b h)
         ∙ ap (λ o. greatest_amount 0 (cons_option o (filter_map (λ i. compared_pair tariff trip a b form.fare form.back i b) (numbers (a + 1) b)))) whole
-        ∙ ap (greatest_amount 0) (row_same (λ i. compared_pair tariff trip a b form.fare form.back i b) (pair_to tariff trip form a b) (a + 1) (b - (a + 1)) (λ i low high. there i (omega arith)))
+        ∙ ap (greatest_amount 0) (row_same (λ i. compared_pair tariff trip a b form.fare form.back i b) (pair_to a b) (a + 1) (b - (a + 1)) (λ i low high. there i (omega arith)))
+        ∙ stop_pairs b
 
     -- what a component compares is what ends before its end, and what ends there and begins behind its start
     pub of_component : (amount : ℕ) → a < b
         → greatest_amount amount (compared_pairs tariff trip a b form.fare form.back)
-        ≡ max (max amount (greatest_inner tariff trip form a b)) (greatest_to tariff trip form a (a + 1) b)
+        ≡ max (max amount (greatest_inner tariff trip form a b)) (greatest_to tariff trip form (a + 1) b b)
     unfolding compared_pairs greatest_inner
     of_component amount h =
         let p = compared_pair tariff trip a b form.fare form.back in

@@ -12,9 +12,10 @@ use Rattle.fare_rules.specs.Backhaul.{greatest_reference}
 use Rattle.fare_rules.specs.Base.{base, compared_pairs, greatest_amount}
 use Rattle.fare_rules.specs.Reference.{reference}
 use Rattle.fare_rules.specs.Terms.{terms_of_fare}
+use Rattle.fare_component.specs.declared.table.references.Column.{Column}
 use Rattle.fare_component.specs.declared.table.references.Form.{Form}
 use Rattle.fare_component.specs.declared.table.references.References.{References}
-use Rattle.fare_component.specs.References.{AreReferences, IsOfForm, IsReach, IsReference}
+use Rattle.fare_component.specs.References.{AreReferences, IsColumn, IsOfForm, IsReach, IsReference, kept_at}
 
 -- at each place of a list of one value stands that value, and behind it too where that is what stands behind
 pub same_at : {A : Type 0} (x : A) (n place : ℕ) → get_or (replicate n x) place x ≡ x
@@ -25,18 +26,18 @@ same_at x n place =
     ]
 
 -- what stands at a place once one is written
-at_put : (slots : List (Option (Option ℕ))) (place at : ℕ) (found : Option ℕ) (P : Option ℕ → Type 0)
-    → (at ≡ place → P found) → IfSome (get_or slots at None) P
-    → IfSome (get_or (set slots place (Some found)) at None) P
-at_put slots place at found P here there =
+at_put : {A : Type 0} (slots : List A) (place at : ℕ) (one d : A) (P : A → Type 0) → (at ≡ place → P one)
+    → P (get_or slots at d) → P (get_or (set slots place one) at d)
+at_put slots place at one d P here there =
     elim (cases_eq at place) [
-      | inr other ↦ subst (λ (o : Option (Option ℕ)). IfSome o P) (sym (get_or-set_other slots place at (Some found) None other)) there
+      | inr other ↦ subst P (sym (get_or-set_other slots place at one d other)) there
       | inl same ↦
           elim (cases_lt place (length slots)) [
-            | inl within ↦ subst (λ (o : Option (Option ℕ)). IfSome o P) (sym (get_or-set_at slots place at (Some found) None same within)) (here same)
+            | inl within ↦ subst P (sym (get_or-set_at slots place at one d same within)) (here same)
             | inr past ↦
-                subst (λ (o : Option (Option ℕ)). IfSome o P)
-                (sym (get_or_past (set slots place (Some found)) at None (omega (arith, length-set slots place (Some found), past, same)))) tt
+                let before = get_or_past slots at d (omega arith) in
+                let after = get_or_past (set slots place one) at d (omega (arith, length-set slots place one)) in
+                subst P (before ∙ sym after) there
           ]
     ]
 
@@ -47,24 +48,41 @@ pub references_put : (tariff : Tariff) (trip : Itinerary) (known : References) (
     → AreReferences tariff trip (record known { found = set known.found (i * 17 + j) (Some found) })
 references_put tariff trip known i j found short rises within right one =
     record {
-      found = λ p q up last. at_put known.found (i * 17 + j) (p * 17 + q) found (IsReference tariff trip known.form p q)
+      found = λ p q up last. at_put known.found (i * 17 + j) (p * 17 + q) (Some found) None (λ o. IfSome o (IsReference tariff trip known.form p q))
           (λ same.
           let first : i ≡ p = omega arith in
           let second : j ≡ q = omega arith in
           subst (λ (n : ℕ). IsReference tariff trip known.form n q found) first
           (subst (λ (n : ℕ). IsReference tariff trip known.form i n found) second one))
           (right.found p q up last);
+      columns = right.columns;
+      reach = right.reach;
+      asked = right.asked;
+    }
+
+-- and once one column is
+pub column_kept : (tariff : Tariff) (trip : Itinerary) (known : References) (j : ℕ) (column : Column)
+    → AreReferences tariff trip known → IsColumn tariff trip known.form j column
+    → AreReferences tariff trip (record known { columns = set known.columns j (Some column) })
+column_kept tariff trip known j column right one =
+    record {
+      found = right.found;
+      columns = λ q within. at_put known.columns j q (Some column) None (λ o. IfSome o (IsColumn tariff trip known.form q))
+          (λ same. subst (λ (n : ℕ). IsColumn tariff trip known.form n column) (sym same) one)
+          (right.columns q within);
       reach = right.reach;
       asked = right.asked;
     }
 
 -- where nothing is known, what is known is right
 pub nothing_known : (tariff : Tariff) (trip : Itinerary) (known : References)
-    → ((place : ℕ) → get_or known.found place None ≡ None) → IsReach tariff trip known.form known.reach
-    → known.asked ≡ terms_of_fare tariff known.form.fare → AreReferences tariff trip known
-nothing_known tariff trip known none reach asked =
+    → ((place : ℕ) → get_or known.found place None ≡ None) → ((j : ℕ) → kept_at known j ≡ None)
+    → IsReach tariff trip known.form known.reach → known.asked ≡ terms_of_fare tariff known.form.fare
+    → AreReferences tariff trip known
+nothing_known tariff trip known none columns reach asked =
     record {
       found = λ i j up last. subst (λ (o : Option (Option ℕ)). IfSome o (IsReference tariff trip known.form i j)) (sym (none (i * 17 + j))) tt;
+      columns = λ j within. subst (λ (o : Option Column). IfSome o (IsColumn tariff trip known.form j)) (sym (columns j)) tt;
       reach = reach;
       asked = asked;
     }

@@ -1,7 +1,6 @@
 -- A walk over the candidates of a span: what it has kept is what is to be kept of all numbers that it has come past.
-use Rattle.std.proofs.Common.{◌≡◌, refl, ℕ, ◌+◌, ◌-◌, ◌<◌, ◌≤◌, Bool, true, false, cond, List, [], ◌∷◌, ◌++◌, length, min, ap, sym, subst, ◌∙◌, arith, inl, inr}
+use Rattle.std.proofs.Common.{◌≡◌, refl, ℕ, ◌+◌, ◌-◌, ◌<◌, ◌≤◌, Bool, true, false, cond, List, [], ◌∷◌, ◌++◌, length, ap, sym, subst, ◌∙◌, arith, inl, inr}
 use Rattle.std.specs.Prelude.{Option, Some, None, IfSome, unwrap_or, filter_map}
-use Rattle.std.specs.Option.{option_to_list}
 use Rattle.std.proofs.lemmas.List.{length-append}
 use Rattle.fare_codes.specs.declared.city.City.{City}
 use Rattle.fare_codes.specs.declared.indicator.Indicator.{Indicator}
@@ -13,7 +12,7 @@ use Rattle.fare_rules.specs.Indicator.{indicator}
 use Rattle.fare_component.specs.declared.table.entry.Entry.{Entry}
 use Rattle.fare_component.specs.declared.table.cursor.Cursor.{Cursor}
 use Rattle.fare_component.specs.declared.table.candidates.Candidates.{Candidates}
-use Rattle.fare_component.specs.Candidates.{StandsAt, StandAt, first_of, lesser, passed, reached, files_at}
+use Rattle.fare_component.specs.Candidates.{StandsAt, StandAt, first_of, lesser, passed, reached}
 use Rattle.fare_component.specs.Table.{entry_at, entry_of, entries_of, has_amount}
 use Rattle.fare_component.proofs.CandidateLemmas.{is_shown}
 use Rattle.fare_component.proofs.CursorLemmas.{of_value, number_high}

@@ -1,5 +1,5 @@
 -- The entries of spans, computed on the definitions.
-use Rattle.std.specs.Prelude.{◌≡◌, refl, ℕ, List, [], ◌∷◌, Option, Some, None, true, false, codes}
+use Rattle.std.specs.Prelude.{◌≡◌, refl, ℕ, [], ◌∷◌, Some, None, true, false}
 use Rattle.fare_codes.specs.declared.area.Area.TheVariants.{Two}
 use Rattle.fare_codes.specs.declared.cabin.Cabin.TheVariants.{Y}
 use Rattle.fare_codes.specs.declared.indicator.Indicator.TheVariants.{EH, PA}

@@ -10,6 +10,7 @@ use Rattle.fare_rules.specs.Numbers.{numbers}
 use Rattle.fare_rules.specs.Base.{Compared, with_amount, is_end_or_stopover, reference_between, greatest_amount}
 use Rattle.fare_rules.specs.Span.{first_day, is_stopover}
 use Rattle.fare_rules.specs.Terms.{terms_of_fare}
+use Rattle.fare_component.specs.declared.table.references.Column.{Column}
 use Rattle.fare_component.specs.declared.table.references.Form.{Form}
 use Rattle.fare_component.specs.declared.table.references.Reach.{Reach}
 use Rattle.fare_component.specs.declared.table.references.References.{References}
@@ -36,15 +37,26 @@ pub record IsReference (tariff : Tariff) (trip : Itinerary) (form : Form) (i j :
   pub value : found ≡ reference_of tariff trip form i j
   pub bound : IfSome found (λ amount. amount < FARE_LIMIT)
 
--- what a form has between a point that begins a pair which is compared, as the start of a component or a stopover, and
--- a later point
-abbrev pub pair_to : Tariff → Itinerary → Form → ℕ → ℕ → ℕ → Option Compared
-pair_to tariff trip form a j i =
-    option_map (with_amount i j) (if is_end_or_stopover trip a i then reference_of tariff trip form i j else None)
+-- what a form has between a stopover and a later point
+abbrev pub stop_to : Tariff → Itinerary → Form → ℕ → ℕ → Option Compared
+stop_to tariff trip form j i =
+    option_map (with_amount i j) (if is_stopover trip i then reference_of tariff trip form i j else None)
 
--- the greatest of what a form has between such points, from one on, and a later point; 0 where it has nothing
+-- the greatest of what a form has between the stopovers from a point on, before another, and a later point; 0 where it
+-- has nothing
 unfoldable pub greatest_to : Tariff → Itinerary → Form → ℕ → ℕ → ℕ → Nuc
-greatest_to tariff trip form a first j = greatest_amount 0 (filter_map (pair_to tariff trip form a j) (numbers first j))
+greatest_to tariff trip form first past j =
+    greatest_amount 0 (filter_map (stop_to tariff trip form j) (numbers first past))
+
+-- a column knows the greatest of what a form has between all stopovers from a point on and a later point, which is
+-- below every fare's limit
+pub record IsColumn (tariff : Tariff) (trip : Itinerary) (form : Form) (j : ℕ) (column : Column) : Type 0 where
+  pub value : column.high ≡ greatest_to tariff trip form column.first j j
+  pub bound : column.high < FARE_LIMIT
+
+-- what is kept of the stopovers before a point: nothing yet, or a column
+abbrev pub kept_at : References → ℕ → Option Column
+kept_at known j = slice_index_or known.columns j None
 
 -- what a form has for a pair of points that is compared in each component from a point to one behind the pair: a pair
 -- from the component's start or a stopover to a stopover
@@ -69,10 +81,11 @@ pub record IsReach (tariff : Tariff) (trip : Itinerary) (form : Form) (reach : R
   pub value : reach.high ≡ greatest_inner tariff trip form reach.from reach.past
   pub bound : reach.high < FARE_LIMIT
 
--- what is known is right: of two points of the trip nothing yet, or their reference; how far the form has come; and the
--- terms of its rule
+-- what is known is right: of two points of the trip nothing yet, or their reference; the columns that are kept; how far the form has
+-- come; and the terms of its rule
 pub record AreReferences (tariff : Tariff) (trip : Itinerary) (known : References) : Type 0 where
   pub found : (i j : ℕ) → i < j → j ≤ count trip → IfSome (known_at known i j) (IsReference tariff trip known.form i j)
+  pub columns : (j : ℕ) → j ≤ count trip → IfSome (kept_at known j) (IsColumn tariff trip known.form j)
   pub reach : IsReach tariff trip known.form known.reach
   pub asked : known.asked ≡ terms_of_fare tariff known.form.fare
 

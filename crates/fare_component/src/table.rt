@@ -2,7 +2,8 @@
 //!
 //! - `indicators`: the indicators of all spans and the mileages of all sectors;
 //! - `references`, `forms`: the references of fares between the points, each looked up once;
-//! - `reaches`: the greatest of them, kept for longer components from the same point;
+//! - `columns`: the greatest of them to a point, kept for the components from earlier points;
+//! - `reaches`: the greatest of all, kept for longer components from the same point;
 //! - `bases`, `backhauls`: the base and the backhaul minimum of a fare by them;
 //! - `span`: what a span asks of every fare;
 //! - `entry`: one fare of a span;
@@ -22,6 +23,7 @@ ghost use Rattle.fare_component.specs.Usable.{IsAmount};
 mod backhauls;
 mod bases;
 mod candidates;
+mod columns;
 mod cursor;
 mod entries;
 mod entry;

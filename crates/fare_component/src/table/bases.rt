@@ -6,8 +6,9 @@ ghost use Rattle.fare_rules.specs.Base.{base, compared_pairs, greatest_amount};
 ghost use Rattle.fare_component.specs.Shared.{AreIndicators};
 ghost use Rattle.fare_component.specs.References.{AreReferencesFrom, IsOfForm};
 
+use crate::table::columns::greatest_to;
 use crate::table::indicators::Indicators;
-use crate::table::reaches::{go_to, greatest_to};
+use crate::table::reaches::go_to;
 use crate::table::references::References;
 use fare_codes::{FARE_LIMIT, Nuc};
 use fare_tariff::{Edition, FareRec};
@@ -45,7 +46,7 @@ fn greatest_of_pairs(
 {
     go_to(edition, trip, indicators, known, a, b);
     let high = known.reach.high;
-    let last = greatest_to(edition, trip, indicators, a, known, a + 1, b);
+    let last = greatest_to(edition, trip, indicators, known, a + 1, b);
     let greatest = amount.hundredths().max(high).max(last.hundredths());
     Nuc::new(greatest)
 }

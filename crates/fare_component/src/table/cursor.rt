@@ -2,7 +2,7 @@ ghost use Rattle.std.specs.Prelude.{◌≡◌, ◌+◌, ◌≤◌, ◌↔◌, Is
 ghost use Rattle.fare_component.specs.Candidates.{StandsAt};
 
 use fare_codes::{City, Indicator};
-use fare_tariff::Edition;
+use fare_tariff::{Edition, fares_come_in_turn};
 
 /// A place among the fares from a city to another for an indicator, which come in record order.
 #[derive(Clone, Copy)]
@@ -51,9 +51,10 @@ pub(crate) fn cursor_past(
     if !shows(&cursor, number) {
         return cursor;
     }
-    let place = cursor.place + 1;
+    let _fares = (from, to, ind);
+    fares_come_in_turn(edition);
     Cursor {
-        place,
-        next: edition.nth_fare(from, to, ind, place),
+        place: cursor.place + 1,
+        next: edition.next_fare(number),
     }
 }

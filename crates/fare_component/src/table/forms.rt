@@ -1,6 +1,6 @@
 //! What is known of the references of each form of fare.
 
-ghost use Rattle.std.specs.Prelude.{◌≡◌, ◌<◌, ◌≤◌, ℕ, length, slice_index_or, IfOk, IfSome, OnOk};
+ghost use Rattle.std.specs.Prelude.{◌≡◌, ◌<◌, ◌≤◌, ℕ, length, slice_index_or, IfOk, IfSome, IsTrue, OnOk};
 ghost use Rattle.fare_trip.specs.Itinerary.{Itinerary, count};
 ghost use Rattle.fare_tariff.specs.Tariff.{Tariff};
 ghost use Rattle.fare_component.specs.declared.table.references.References.{References};
@@ -15,10 +15,12 @@ use std::alloc::Global;
 /// So many forms are kept at once; a trip whose fares have more is priced with some references looked up again.
 const MOST_FORMS: usize = 64;
 
-/// The references of the forms that came so far, all of one day.
+/// The references of the forms that came so far, all of one day, and the place of the form that is expected next: the
+/// fares of a span mostly have the forms of those of the span before, in the same order.
 #[derive(Drop)]
 pub(crate) struct Forms {
     pub(crate) items: Vec<References>,
+    next: usize,
 }
 
 impl Forms {
@@ -28,6 +30,7 @@ impl Forms {
     {
         Forms {
             items: Vec::new(alloc),
+            next: 0,
         }
     }
 
@@ -45,14 +48,26 @@ impl Forms {
         }
     }
 
+    /// Whether the form of a fare in a direction stands at a place.
+    fn stands_at(&self, place: usize, fare: &FareRec, back: bool) -> bool
+        ensures within { IsTrue result → place < length self.now.items.items }
+        ensures form { (d : References)
+            → IsTrue result → IsOfForm fare.now back (slice_index_or self.now.items.items place d).form }
+    {
+        place < self.items.len() && is_of_form(&self.items[place].form, fare, back)
+    }
+
     /// The place of the form of a fare in a direction, where it came already.
     fn find(&self, fare: &FareRec, back: bool) -> Option<usize>
         ensures within { IfSome result (λ place. place < length self.now.items.items) }
         ensures form { (d : References)
             → IfSome result (λ place. IsOfForm fare.now back (slice_index_or self.now.items.items place d).form) }
     {
+        if self.stands_at(self.next, fare, back) {
+            return Some(self.next);
+        }
         for place in 0..self.items.len() {
-            if is_of_form(&self.items[place].form, fare, back) {
+            if self.stands_at(place, fare, back) {
                 return Some(place);
             }
         }
@@ -103,9 +118,11 @@ impl Forms {
             → IfOk result (λ place. IsOfForm fare.now back (slice_index_or self.new.items.items place d).form) }
         ensures forms { OnOk result (AreForms edition.now trip.now a self.new.items.items) }
     {
-        match self.find(fare, back) {
-            Some(place) => Ok(place),
-            None => self.add(edition, trip, a, fare, back),
-        }
+        let place = match self.find(fare, back) {
+            Some(place) => place,
+            None => self.add(edition, trip, a, fare, back)?,
+        };
+        self.next = place + 1;
+        Ok(place)
     }
 }

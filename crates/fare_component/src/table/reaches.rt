@@ -1,86 +1,18 @@
 //! How far the references of a form were gone through, point by point: what is greatest of them is kept for the longer
 //! components from the same point.
 
-ghost use Rattle.std.specs.Prelude.{◌≡◌, ◌+◌, ◌<◌, ◌≤◌, ◌≢◌, IfSome, None, if◌then◌else◌};
+ghost use Rattle.std.specs.Prelude.{◌≡◌, ◌+◌, ◌<◌, ◌≤◌};
 ghost use Rattle.fare_trip.specs.Itinerary.{count};
-ghost use Rattle.fare_rules.specs.Base.{is_end_or_stopover};
 ghost use Rattle.fare_component.specs.Shared.{AreIndicators};
-ghost use Rattle.fare_component.specs.References.{AreReferences, greatest_inner, greatest_to, reference_of};
+ghost use Rattle.fare_component.specs.References.{AreReferences, greatest_inner};
 
+use crate::table::columns::greatest_to;
 use crate::table::entry::at_least;
 use crate::table::indicators::Indicators;
 use crate::table::references::{Reach, References};
-use fare_codes::{FARE_LIMIT, Nuc};
+use fare_codes::FARE_LIMIT;
 use fare_tariff::Edition;
 use fare_trip::Trip;
-
-/// Whether a point begins a pair that is compared: it is the start of a component or a stopover.
-fn begins_pair(trip: &Trip, a: usize, i: usize) -> bool
-    requires reached { i ≢ a → 1 ≤ i }
-    requires within { i ≤ count trip.now }
-    ensures { result ≡ is_end_or_stopover trip.now a i }
-{
-    i == a || trip.sector(i).stop
-}
-
-/// The reference between two points of which the first begins a pair that is compared, where it does.
-fn reference_from(
-    edition: &Edition,
-    trip: &Trip,
-    indicators: &Indicators,
-    a: usize,
-    known: &mut References,
-    i: usize,
-    j: usize,
-) -> Option<Nuc>
-    requires indicators { AreIndicators edition.now trip.now indicators.now.rows }
-    requires known { AreReferences edition.now trip.now known.old }
-    requires begins { a ≤ i }
-    requires rises { i < j }
-    requires within { j ≤ count trip.now }
-    ensures value { result
-        ≡ (if is_end_or_stopover trip.now a i then reference_of edition.now trip.now known.old.form i j else None) }
-    ensures bound { IfSome result (λ amount. amount < FARE_LIMIT) }
-    ensures form { known.new.form ≡ known.old.form }
-    ensures reach { known.new.reach ≡ known.old.reach }
-    ensures known { AreReferences edition.now trip.now known.new }
-{
-    if begins_pair(trip, a, i) {
-        known.between(edition, trip, indicators, i, j)
-    } else {
-        None
-    }
-}
-
-/// The greatest reference between the points that begin compared pairs, from one on, and a later point; 0 where there
-/// is none.
-#[tactic(auto, using(crate::proofs::ReachLemmas::pair_taken, crate::proofs::ReachLemmas::pairs_taken), unfolding(crate::specs::References::greatest_to))]
-pub(crate) fn greatest_to(
-    edition: &Edition,
-    trip: &Trip,
-    indicators: &Indicators,
-    a: usize,
-    known: &mut References,
-    first: usize,
-    j: usize,
-) -> Nuc
-    requires indicators { AreIndicators edition.now trip.now indicators.now.rows }
-    requires known { AreReferences edition.now trip.now known.old }
-    requires begins { a ≤ first }
-    requires within { j ≤ count trip.now }
-    ensures value { result ≡ greatest_to edition.now trip.now known.old.form a first j }
-    ensures bound { result < FARE_LIMIT }
-    ensures form { known.new.form ≡ known.old.form }
-    ensures reach { known.new.reach ≡ known.old.reach }
-    ensures known { AreReferences edition.now trip.now known.new }
-{
-    let mut greatest = Nuc::new(0);
-    for i in first..j {
-        let found = reference_from(edition, trip, indicators, a, known, i, j);
-        greatest = at_least(greatest, found);
-    }
-    greatest
-}
 
 /// The greatest reference, in hundredths, of the pairs that each component from a point to one behind another compares,
 /// where it is known for those that end before that other point.
@@ -107,8 +39,9 @@ fn high_to(
     ensures known { AreReferences edition.now trip.now known.new }
 {
     if trip.sector(j).stop {
-        let found = greatest_to(edition, trip, indicators, a, known, a, j);
-        high.max(found.hundredths())
+        let later = greatest_to(edition, trip, indicators, known, a + 1, j);
+        let first = known.between(edition, trip, indicators, a, j);
+        high.max(at_least(later, first).hundredths())
     } else {
         high
     }

@@ -7,7 +7,7 @@ ghost use Rattle.fare_rules.specs.Base.{reference_between};
 ghost use Rattle.fare_rules.specs.Terms.{terms_of_fare};
 ghost use Rattle.fare_component.specs.declared.table.references.Form.{Form};
 ghost use Rattle.fare_component.specs.Shared.{AreIndicators};
-ghost use Rattle.fare_component.specs.References.{AreReferences, IsOfForm, IsReach, IsReference, reference_of};
+ghost use Rattle.fare_component.specs.References.{AreReferences, IsOfForm, IsReach, IsReference, kept_at, reference_of};
 
 use crate::conditions::terms_of_fare;
 use crate::table::indicators::{Indicators, indicator_of};
@@ -38,13 +38,21 @@ pub(crate) struct Reach {
     pub(crate) high: u64,
 }
 
+/// The greatest reference of one form, in hundredths, from the stopovers from a point on to a later point.
+#[derive(Clone, Copy)]
+pub(crate) struct Column {
+    pub(crate) first: usize,
+    pub(crate) high: u64,
+}
+
 /// The references of one form that were looked up so far, in hundredths and by the two points, and what the form's rule
-/// asks.
+/// asks; a column stands by the point where it ends.
 #[derive(Drop)]
 pub(crate) struct References {
     pub(crate) form: Form,
     pub(crate) asked: Option<Terms>,
     pub(crate) found: [Option<Option<u64>>; MOST_PAIRS],
+    pub(crate) columns: [Option<Column>; MOST_POINTS],
     pub(crate) reach: Reach,
 }
 
@@ -138,6 +146,7 @@ impl References {
         ensures day { result.form.on ≡ on }
         ensures asked { result.asked ≡ terms_of_fare edition.now result.form.fare }
         ensures none { (place : ℕ) → slice_index_or result.found place None ≡ None }
+        ensures columns { (j : ℕ) → kept_at result j ≡ None }
         ensures reach { (tariff : Tariff) (trip : Itinerary) → IsReach tariff trip result.form result.reach }
     {
         References {
@@ -148,6 +157,7 @@ impl References {
             },
             asked: terms_of_fare(edition, fare),
             found: [None; MOST_PAIRS],
+            columns: [None; MOST_POINTS],
             reach: Reach::at(0),
         }
     }

@@ -13,6 +13,6 @@ returns-clause-forms c =
     (All-push (AreReferencesFrom tariff trip c.args.a) _ c.new.result
     (All-take (AreReferencesFrom tariff trip c.args.a) 63 c.args.self.now.items.items c.requires.forms)
     (record {
-      right = nothing_known tariff trip c.new.result c.new.ensures.none (c.new.ensures.reach tariff trip) c.new.ensures.asked;
+      right = nothing_known tariff trip c.new.result c.new.ensures.none c.new.ensures.columns (c.new.ensures.reach tariff trip) c.new.ensures.asked;
       day = c.new.ensures.day ∙ ap (λ (s : Sector). s.day) c.sector-on.ensures;
     }))
