@@ -19,7 +19,8 @@ use Rattle.fare_rules.proofs.LawfulLemmas.{kept}
 use Rattle.fare_rules.proofs.NumberLemmas.{any_next}
 use Rattle.fare_units.proofs.NextLemmas.{front_unit, greatest_same}
 use Rattle.fare_component.specs.Table.{entries_of}
-use Rattle.fare_homing.specs.Homing.{IsUpTo, homing_at, is_same_city, may_end_at, back_cost, AreHomings}
+use Rattle.fare_homing.specs.Homing.{IsUpTo, homing_at, is_same_city, may_end_at, back_cost}
+use Rattle.fare_homing.specs.HomingRows.{AreHomings}
 use Rattle.fare_branch.proofs.CostLemmas.{unit_from_one}
 use Rattle.fare_branch.proofs.UnitLemmas.{all, own_has, unit_in, alone_in, holds_none}
 use Rattle.fare_branch.proofs.GoesOnLemmas.{going_on, goes_not, goes_on_from, on_same, none_above, home_behind, own_first, own_last, own_two, two_ends}
@@ -27,6 +28,7 @@ use Rattle.fare_branch.proofs.NearLemmas.{EndsBy, unit_ends_by}
 use Rattle.fare_branch.proofs.OnwardLemmas.{ends_rise, must_close_from, closed_whole, ends_home, either_left, either_right}
 use Rattle.fare_branch.specs.Stack.{goes_on, IsOver}
 use Rattle.fare_homing.proofs.ReachLemmas.{up_more}
+use Rattle.fare_homing.proofs.UnderLemmas.{alone_under, between_under, first_under, last_closes_under, last_jaw_under, nothing_left}
 use Rattle.fare_branch.proofs.StackLemmas.{true_cost, home_at, begins_at, over_more, over_same, over_down, over_up, Opens, opens, from_open, step_over}
 use Rattle.fare_branch.proofs.ShutLemmas.{any_at}
 use Rattle.fare_branch.proofs.SumLemmas.{greatest_fewer, unit_up_to}
@@ -216,7 +218,7 @@ module _ (tariff : Tariff) (trip : Itinerary) (parts : List Part) (price : ℕ) 
 
         alone_over : Stands k (greatest_unit parts (places parts)) (point_behind parts k) (true_cost tariff trip parts (k + 1) + behind)
         alone_over =
-            let up : IsUpTo (true_cost tariff trip parts (k + 1)) (whole (point_behind parts k) (end_of parts (k + 1))) = are.alone (point_behind parts k) (end_of parts (k + 1)) (entry tariff trip parts price lawful (k + 1)) (true_cost tariff trip parts (k + 1)) contained (alone_cost tariff trip parts price lawful (k + 1) (omega arith) high way) in
+            let up : IsUpTo (true_cost tariff trip parts (k + 1)) (whole (point_behind parts k) (end_of parts (k + 1))) = alone_under are (point_behind parts k) (end_of parts (k + 1)) (entry tariff trip parts price lawful (k + 1)) (true_cost tariff trip parts (k + 1)) contained (alone_cost tariff trip parts price lawful (k + 1) (omega arith) high way) in
             let o : Stands (k + 1) (greatest_unit parts (places parts)) (point_behind parts k) (true_cost tariff trip parts (k + 1) + behind) = step_over tariff trip closing jaw whole left are parts (k + 1) (greatest_unit parts (places parts)) (point_behind parts k) (end_of parts (k + 1)) (true_cost tariff trip parts (k + 1)) behind rises within up (λ v low most t. home_later v t) over in
             over_same trip closing jaw left parts (k + 1) k (greatest_unit parts (places parts)) (point_behind parts k) (true_cost tariff trip parts (k + 1) + behind) (λ v low most. alone_same v) o
 
@@ -241,8 +243,8 @@ module _ (tariff : Tariff) (trip : Itinerary) (parts : List Part) (price : ℕ) 
         last_up : (start : ℕ) → back_cost (entry tariff trip parts price lawful (k + 1)) ≡ Some (true_cost tariff trip parts (k + 1)) → IsUpTo (true_cost tariff trip parts (k + 1)) (homing_at trip closing jaw start (point_behind parts k) (end_of parts (k + 1)))
         last_up start cost =
             elim (cases_Bool (is_same_city trip start (end_of parts (k + 1)))) [
-              | inl t ↦ rw t (are.last_closes (point_behind parts k) (end_of parts (k + 1)) (entry tariff trip parts price lawful (k + 1)) (true_cost tariff trip parts (k + 1)) contained cost)
-              | inr f ↦ rw f (are.last_jaw (point_behind parts k) (end_of parts (k + 1)) (entry tariff trip parts price lawful (k + 1)) (true_cost tariff trip parts (k + 1)) contained cost)
+              | inl t ↦ rw t (last_closes_under are (point_behind parts k) (end_of parts (k + 1)) (entry tariff trip parts price lawful (k + 1)) (true_cost tariff trip parts (k + 1)) contained cost)
+              | inr f ↦ rw f (last_jaw_under are (point_behind parts k) (end_of parts (k + 1)) (entry tariff trip parts price lawful (k + 1)) (true_cost tariff trip parts (k + 1)) contained cost)
             ]
 
         -- with other parts of its unit behind it
@@ -311,7 +313,7 @@ module _ (tariff : Tariff) (trip : Itinerary) (parts : List Part) (price : ℕ) 
             let some : 2 ≤ length (own parts (unit_of parts (k + 1))) = shape.0 in
             let may : may_end_at tariff trip (begin_after trip (point_behind parts k)) (home_at parts (unit_of parts (k + 1))) ≡ true = subst Q begins (half_ends_by (unit_of parts (k + 1)) mine_low mine_high (own parts (unit_of parts (k + 1))) refl (omega arith) none_ow) in
             let cost = first_costs tariff trip parts price lawful (k + 1) (omega arith) high way first less in
-            let up : IsUpTo (true_cost tariff trip parts (k + 1) + c.0) (whole (point_behind parts k) (home_at parts (unit_of parts (k + 1)))) = up_more (true_cost tariff trip parts (k + 1) + homing.0) (true_cost tariff trip parts (k + 1) + c.0) (whole (point_behind parts k) (home_at parts (unit_of parts (k + 1)))) (omega arith) (are.first (point_behind parts k) (end_of parts (k + 1)) (home_at parts (unit_of parts (k + 1))) (entry tariff trip parts price lawful (k + 1)) (true_cost tariff trip parts (k + 1)) homing.0 contained cost h.0 h.1 may homing.1) in
+            let up : IsUpTo (true_cost tariff trip parts (k + 1) + c.0) (whole (point_behind parts k) (home_at parts (unit_of parts (k + 1)))) = up_more (true_cost tariff trip parts (k + 1) + homing.0) (true_cost tariff trip parts (k + 1) + c.0) (whole (point_behind parts k) (home_at parts (unit_of parts (k + 1)))) (omega arith) (first_under are (point_behind parts k) (end_of parts (k + 1)) (home_at parts (unit_of parts (k + 1))) (entry tariff trip parts price lawful (k + 1)) (true_cost tariff trip parts (k + 1)) homing.0 contained cost h.0 may homing.1) in
             let rise : point_behind parts k < end_of parts (k + 1) = rises in
             let past : end_of parts (k + 1) < home_at parts (unit_of parts (k + 1)) = h.0 in
             let o : Stands (k + 1) (unit_of parts (k + 1) - 1) (point_behind parts k) ((true_cost tariff trip parts (k + 1) + c.0) + c.1) =
@@ -333,7 +335,7 @@ module _ (tariff : Tariff) (trip : Itinerary) (parts : List Part) (price : ℕ) 
             let cost = between_costs tariff trip parts price lawful (k + 1) (omega arith) high way in
             let low_cost : cost.0 ≤ true_cost tariff trip parts (k + 1) = cost.2 in
             let low_homing : closes.0 ≤ c.0 = closes.2 in
-            let up : IsUpTo (true_cost tariff trip parts (k + 1) + c.0) (closing (point_behind parts k) (home_at parts (unit_of parts (k + 1)))) = up_more (cost.0 + closes.0) (true_cost tariff trip parts (k + 1) + c.0) (closing (point_behind parts k) (home_at parts (unit_of parts (k + 1)))) (omega arith) (are.between (point_behind parts k) (end_of parts (k + 1)) (home_at parts (unit_of parts (k + 1))) (entry tariff trip parts price lawful (k + 1)) cost.0 closes.0 contained cost.1 h.0 h.1 closes.1) in
+            let up : IsUpTo (true_cost tariff trip parts (k + 1) + c.0) (closing (point_behind parts k) (home_at parts (unit_of parts (k + 1)))) = up_more (cost.0 + closes.0) (true_cost tariff trip parts (k + 1) + c.0) (closing (point_behind parts k) (home_at parts (unit_of parts (k + 1)))) (omega arith) (between_under are (point_behind parts k) (end_of parts (k + 1)) (home_at parts (unit_of parts (k + 1))) (entry tariff trip parts price lawful (k + 1)) cost.0 closes.0 contained cost.1 h.0 closes.1) in
             let here : goes_on parts k (unit_of parts (k + 1)) ≡ true = goes_on_from parts k (unit_of parts (k + 1)) (omega arith) (omega arith) in
             let o : Stands k (unit_of parts (k + 1)) (point_behind parts k) ((true_cost tariff trip parts (k + 1) + c.0) + c.1) = from_open trip closing jaw left parts k (unit_of parts (k + 1)) (point_behind parts k) (true_cost tariff trip parts (k + 1) + c.0) c.1 mine_low here (from_city (begins_at trip parts (unit_of parts (k + 1))) (point_behind parts k) (home_at parts (unit_of parts (k + 1))) (true_cost tariff trip parts (k + 1) + c.0) city up) (under_same (home_at parts (unit_of parts (k + 1))) c.1 c.4) in
             let m : Stands k (greatest_unit parts (places parts)) (point_behind parts k) ((true_cost tariff trip parts (k + 1) + c.0) + c.1) = over_up trip closing jaw left parts k (unit_of parts (k + 1)) (greatest_unit parts (places parts)) (point_behind parts k) ((true_cost tariff trip parts (k + 1) + c.0) + c.1) mine_high (λ v low most. above_not v low) o in
@@ -374,7 +376,7 @@ module _ (tariff : Tariff) (trip : Itinerary) (parts : List Part) (price : ℕ) 
         let here : k ≡ length parts = omega arith in
         let last : point_behind parts (length parts) ≡ count trip = behind_all parts ∙ (all tariff trip parts price lawful).last in
         let P : ℕ → Type 0 = λ j. left (point_behind parts j) ≡ Some 0 in
-        let end : left (point_behind parts k) ≡ Some 0 = subst P (sym here) (ap left last ∙ are.end) in
+        let end : left (point_behind parts k) ≡ Some 0 = subst P (sym here) (ap left last ∙ nothing_left are) in
         over_up trip closing jaw left parts k 0 (greatest_unit parts (places parts)) (point_behind parts k) 0 (omega arith) (λ v low most. none_behind v) (0, end, omega arith)
       where
         none_behind : (v : ℕ) → goes_on parts k v ≡ false

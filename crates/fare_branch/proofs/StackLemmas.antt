@@ -8,9 +8,11 @@ use Rattle.fare_rules.specs.declared.part.Part.{Part}
 use Rattle.fare_rules.specs.Construction.{start_of, end_of, own, unit_of, first_of, last_of}
 use Rattle.fare_rules.specs.Shape.{is_ow}
 use Rattle.fare_rules.specs.UnitPrice.{unit_price, part_cost}
-use Rattle.fare_homing.specs.Homing.{IsUpTo, homing_at, is_same_city, AreHomings}
+use Rattle.fare_homing.specs.Homing.{IsUpTo, homing_at, is_same_city}
+use Rattle.fare_homing.specs.HomingRows.{AreHomings}
 use Rattle.fare_branch.specs.Stack.{goes_on, IsOver}
 use Rattle.fare_homing.proofs.ReachLemmas.{up_more}
+use Rattle.fare_homing.proofs.UnderLemmas.{nested_closes_under, nested_jaw_under, onward_under}
 
 -- what a part costs: a one way fare the price of its unit, and a half round trip its amount
 abbrev pub true_cost : Tariff → Itinerary → List Part → ℕ → ℕ
@@ -104,30 +106,30 @@ module _ (trip : Itinerary) (closing jaw : ℕ → ℕ → Option ℕ) (left : �
 
 module _ (tariff : Tariff) (trip : Itinerary) (closing jaw whole : ℕ → ℕ → Option ℕ) (left : ℕ → Option ℕ) (are : AreHomings tariff trip closing jaw whole left) where
   -- a number for what is nested with one for what is behind it
-  nested_closing : (i b j w x : ℕ) → i < b → b < j → j ≤ count trip → IsUpTo w (whole i b) → IsUpTo x (closing b j) → IsUpTo (w + x) (closing i j)
-  nested_closing i b j w x low less high up more =
+  nested_closing : (i b j w x : ℕ) → i < b → b < j → IsUpTo w (whole i b) → IsUpTo x (closing b j) → IsUpTo (w + x) (closing i j)
+  nested_closing i b j w x low less up more =
       let a : up.0 ≤ w = up.2 in
       let c : more.0 ≤ x = more.2 in
-      up_more (up.0 + more.0) (w + x) (closing i j) (omega arith) (are.nested_closes i b j up.0 more.0 low less high up.1 more.1)
+      up_more (up.0 + more.0) (w + x) (closing i j) (omega arith) (nested_closes_under are i b j up.0 more.0 low less up.1 more.1)
 
-  nested_at_jaw : (i b j w x : ℕ) → i < b → b < j → j ≤ count trip → IsUpTo w (whole i b) → IsUpTo x (jaw b j) → IsUpTo (w + x) (jaw i j)
-  nested_at_jaw i b j w x low less high up more =
+  nested_at_jaw : (i b j w x : ℕ) → i < b → b < j → IsUpTo w (whole i b) → IsUpTo x (jaw b j) → IsUpTo (w + x) (jaw i j)
+  nested_at_jaw i b j w x low less up more =
       let a : up.0 ≤ w = up.2 in
       let c : more.0 ≤ x = more.2 in
-      up_more (up.0 + more.0) (w + x) (jaw i j) (omega arith) (are.nested_jaw i b j up.0 more.0 low less high up.1 more.1)
+      up_more (up.0 + more.0) (w + x) (jaw i j) (omega arith) (nested_jaw_under are i b j up.0 more.0 low less up.1 more.1)
 
-  nested : (start i b j w x : ℕ) → i < b → b < j → j ≤ count trip → IsUpTo w (whole i b) → IsUpTo x (homing_at trip closing jaw start b j) → IsUpTo (w + x) (homing_at trip closing jaw start i j)
-  nested start i b j w x low less high up more =
+  nested : (start i b j w x : ℕ) → i < b → b < j → IsUpTo w (whole i b) → IsUpTo x (homing_at trip closing jaw start b j) → IsUpTo (w + x) (homing_at trip closing jaw start i j)
+  nested start i b j w x low less up more =
       elim (cases_Bool (is_same_city trip start j)) [
-        | inl t ↦ rw t (nested_closing i b j w x low less high up (rw t at more))
-        | inr f ↦ rw f (nested_at_jaw i b j w x low less high up (rw f at more))
+        | inl t ↦ rw t (nested_closing i b j w x low less up (rw t at more))
+        | inr f ↦ rw f (nested_at_jaw i b j w x low less up (rw f at more))
       ]
 
   behind_whole : (i b w x : ℕ) → i < b → b ≤ count trip → IsUpTo w (whole i b) → IsUpTo x (left b) → IsUpTo (w + x) (left i)
   behind_whole i b w x low high up more =
       let a : up.0 ≤ w = up.2 in
       let c : more.0 ≤ x = more.2 in
-      up_more (up.0 + more.0) (w + x) (left i) (omega arith) (are.onward i b up.0 more.0 low high up.1 more.1)
+      up_more (up.0 + more.0) (w + x) (left i) (omega arith) (onward_under are i b up.0 more.0 low high up.1 more.1)
 
   -- a whole unit stands before what is over the others, each of which comes home behind it
   pub step_over : (parts : List Part) (k n i b w x : ℕ) → i < b → b ≤ count trip → IsUpTo w (whole i b)
@@ -139,6 +141,6 @@ module _ (tariff : Tariff) (trip : Itinerary) (closing jaw whole : ℕ → ℕ �
         let c = o.0 t in
         let s : c.0 + c.1 ≤ x = c.2 in
         let h = homes (suc u) (omega arith) (omega arith) t in
-        (w + c.0, c.1, omega arith, nested (begins_at trip parts (suc u)) i b (home_at parts (suc u)) w c.0 low h.0 h.1 up c.3, c.4),
+        (w + c.0, c.1, omega arith, nested (begins_at trip parts (suc u)) i b (home_at parts (suc u)) w c.0 low h.0 up c.3, c.4),
     λ f. step_over parts k u i b w x low high up (λ v one most. homes v one (omega arith)) (o.1 f),
   )

@@ -1,165 +1,243 @@
 -- The numbers of homing from a trip's end back, one point on.
-use Rattle.std.proofs.Common.{◌≡◌, ℕ, ◌+◌, ◌<◌, ◌≤◌, true, List, [], length, set, replicate, refl, ap, sym, subst, ◌∙◌, inl, inr, arith}
-use Rattle.std.specs.Prelude.{Option, Some, None, Contains, slice_index_or}
-use Rattle.std.proofs.lemmas.Bool.{cases_eq}
-use Rattle.std.proofs.lemmas.List.{get_or-set_same, get_or-set_other, length-replicate}
-use Rattle.fare_trip.specs.Itinerary.{Itinerary, count}
+use Rattle.std.proofs.Common.{◌≡◌, ℕ, zero, suc, ◌+◌, ◌<◌, ◌≤◌, ◌⊎◌, true, false, List, [], length, get_or, set, replicate, refl, ap, sym, subst, ◌∙◌, inl, inr, arith}
+use Rattle.std.specs.Prelude.{Option, Some, None, slice_index_or}
+use Rattle.std.proofs.lemmas.Bool.{both_ways, cases_Bool, cases_eq}
+use Rattle.std.proofs.lemmas.Option.{none-some, same_Some}
+use Rattle.std.proofs.lemmas.List.{get_or_default, get_or-set_same, get_or-set_other, length-replicate}
+use Rattle.fare_trip.specs.Itinerary.{Itinerary, count, point}
 use Rattle.fare_tariff.specs.Tariff.{Tariff}
+use Rattle.fare_codes.specs.declared.country.Country.{Country}
 use Rattle.fare_rules.specs.Construction.{begin_after}
+use Rattle.fare_rules.specs.Indicator.{country}
+use Rattle.fare_rules.specs.Shape.{is_same_country, lie_together}
 use Rattle.fare_rules.proofs.CoverLemmas.{begins_later}
 use Rattle.fare_component.specs.declared.table.entry.Entry.{Entry}
-use Rattle.fare_component.specs.Table.{entries_of}
-use Rattle.fare_bounds.specs.Covers.{rest_at}
-use Rattle.fare_bounds.proofs.CoverLemmas.{EntriesAreOfFares}
-use Rattle.fare_homing.specs.declared.legs.Role.TheVariants.{Alone, First, Between, Last}
-use Rattle.fare_homing.specs.Homing.{IsUpTo, may_end_at, homing_at, AreHomings}
-use Rattle.fare_homing.specs.HomingRows.{AreWholes, AreRowsAt}
-use Rattle.fare_homing.specs.Legs.{AreLegs}
-use Rattle.fare_homing.specs.Rows.{cell}
-use Rattle.fare_homing.proofs.ReachLemmas.{up_more}
+use Rattle.fare_component.proofs.LawLemmas.{entry_is_of_fare}
+use Rattle.fare_bounds.specs.Covers.{lesser, rest_at}
+use Rattle.fare_homing.specs.Homing.{single_cost, first_cost, between_cost, back_cost, is_same_city, may_end_at, homing_at}
+use Rattle.fare_homing.specs.HomingRows.{AreHomings, AreHomingsAt, IsClosing, IsJaw, IsNext, IsOnward, IsPart, IsWhole}
+use Rattle.fare_homing.specs.Least.{IsAt, IsLeastOf, IsReached, IsSum}
+use Rattle.fare_homing.specs.Rows.{cell, AreCountries, EndWithin}
+use Rattle.fare_homing.proofs.LeastLemmas.{least_both, least_none, least_one, least_same, reached_by, sum_same}
 
--- the numbers of a row are no more than those of another
-abbrev pub AreUpTo : List (Option ℕ) → List (Option ℕ) → Type 0
-AreUpTo from row = (j most : ℕ) → IsUpTo most (rest_at from j) → IsUpTo most (rest_at row j)
+pub none_at : {A : Type 0} (n i : ℕ) → slice_index_or {A = Option A} (replicate n None) i None ≡ None
+none_at zero i = refl
+none_at (suc n) zero = refl
+none_at (suc n) (suc i) = none_at n i
 
--- the numbers of a row are no more than each step before with what is behind it
-abbrev pub IsReached : List (Option ℕ) → (ℕ → ℕ → Option ℕ) → List (Option ℕ) → Type 0
-IsReached steps later row = (b j x y : ℕ) → b < j → j < 17 → rest_at steps b ≡ Some x → later b j ≡ Some y → IsUpTo (x + y) (rest_at row j)
-
--- what a unit costs by its first part, where it may end at a point
-abbrev pub IsByFirst : Tariff → Itinerary → (ℕ → ℕ → Option ℕ) → (ℕ → ℕ → Option ℕ) → List (Option ℕ) → ℕ → ℕ → Option ℕ → Type 0
-IsByFirst tariff trip closings jaws first a j found = may_end_at tariff trip a j ≡ true → (b x y : ℕ) → b < j
-    → rest_at first b ≡ Some x → homing_at trip closings jaws a b j ≡ Some y → IsUpTo (x + y) found
-
-module _ (tariff : Tariff) (trip : Itinerary) (i : ℕ) where
-  pub wholes_are : (closings jaws : ℕ → ℕ → Option ℕ) (alone first row : List (Option ℕ)) → AreLegs tariff trip (begin_after trip i) Alone alone
-      → AreLegs tariff trip (begin_after trip i) First first → AreUpTo alone row
-      → ((j : ℕ) → j ≤ count trip → IsByFirst tariff trip closings jaws first (begin_after trip i) j (rest_at row j))
-      → AreWholes tariff trip i closings jaws (rest_at row)
-  wholes_are closings jaws alone first row alone_legs first_legs up by = record {
-    alone = λ j entry cost there e. up j cost (alone_legs j entry cost there e);
-    first = λ b j entry cost behind there e less within ends later.
-        let step = first_legs b entry cost there e in
-        let low : step.0 ≤ cost = step.2 in
-        up_more (step.0 + behind) (cost + behind) (rest_at row j) (omega arith) (by j within ends b step.0 behind less step.1 later);
-  }
-
-  pub rows_are : count trip ≤ 16 → (closings jaws : ℕ → ℕ → Option ℕ) (rests : ℕ → Option ℕ) (between last whole within closing jaw : List (Option ℕ)) (rest : Option ℕ)
-      → AreLegs tariff trip (begin_after trip i) Between between → AreLegs tariff trip (begin_after trip i) Last last
-      → AreWholes tariff trip i closings jaws (rest_at whole)
-      → AreUpTo last within → IsReached between closings within → AreUpTo within closing → IsReached whole closings closing
-      → AreUpTo last jaw → IsReached whole jaws jaw
-      → ((b x y : ℕ) → b < 17 → rest_at whole b ≡ Some x → rests b ≡ Some y → IsUpTo (x + y) rest)
-      → AreRowsAt tariff trip i closings jaws rests (rest_at closing) (rest_at jaw) (rest_at whole) rest
-  rows_are few closings jaws rests between last whole within closing jaw rest between_legs last_legs wholes within_last within_steps closing_last closing_steps jaw_last jaw_steps on = record {
-    wholes = wholes;
-    closes = record {
-      between = λ b j entry cost behind there e less high later.
-          let step = between_legs b entry cost there e in
-          let low : step.0 ≤ cost = step.2 in
-          up_more (step.0 + behind) (cost + behind) (rest_at closing j) (omega arith)
-          (closing_last j (step.0 + behind) (within_steps b j step.0 behind less (omega arith) step.1 later));
-      last = λ j entry cost there e. closing_last j cost (within_last j cost (last_legs j entry cost there e));
-      nested = λ b j cost behind past less high e later. closing_steps b j cost behind less (omega arith) e later;
-    };
-    ends = record {
-      last = λ j entry cost there e. jaw_last j cost (last_legs j entry cost there e);
-      nested = λ b j cost behind past less high e later. jaw_steps b j cost behind less (omega arith) e later;
-    };
-    onward = λ b cost behind past high e later. on b cost behind (omega arith) e later;
-  }
+-- no number stands in rows with none
+no_cell : (n m i j : ℕ) → cell (replicate n (replicate m None)) i j ≡ None
+no_cell zero m i j = refl
+no_cell (suc n) m zero j = none_at m j
+no_cell (suc n) m (suc i) j = no_cell n m i j
 
 -- what is behind a point until a unit comes home is the same where the numbers are
 homing_same : (trip : Itinerary) (closings jaws new_closings new_jaws : ℕ → ℕ → Option ℕ) (a b j : ℕ) → new_closings b j ≡ closings b j → new_jaws b j ≡ jaws b j
     → homing_at trip new_closings new_jaws a b j ≡ homing_at trip closings jaws a b j
 homing_same trip closings jaws new_closings new_jaws a b j e f = rw (e, f) refl
 
--- the numbers are known from a point on
-pub record AreHomingsFrom (tariff : Tariff) (trip : Itinerary) (first : ℕ) (closing jaw whole : ℕ → ℕ → Option ℕ) (rest : ℕ → Option ℕ) : Type 0 where
-  pub rows : (i : ℕ) → first ≤ i → i < count trip → AreRowsAt tariff trip i closing jaw rest (closing i) (jaw i) (whole i) (rest i)
-  pub end : rest (count trip) ≡ Some 0
+-- and ends within the trip where they do
+pub homing_within : (trip : Itinerary) (closing jaw : List (List (Option ℕ))) → EndWithin trip closing → EndWithin trip jaw
+    → (a b j number : ℕ) → homing_at trip (cell closing) (cell jaw) a b j ≡ Some number → j ≤ count trip
+homing_within trip closing jaw closes ends a b j number e =
+    elim (cases_Bool (is_same_city trip a j)) [
+      | inl t ↦ closes b j number (rw t at e)
+      | inr f ↦ ends b j number (rw f at e)
+    ]
 
-module _ (tariff : Tariff) (trip : Itinerary) (law : EntriesAreOfFares) where
-  -- a part behind a point ends behind it
-  ends_behind : (i b : ℕ) (entry : Entry) → Contains (entries_of tariff trip (begin_after trip i) b) entry → i < b
-  ends_behind i b entry there =
-      let is = law tariff trip (begin_after trip i) b entry there in
+-- whether two points of a trip lie in one country, by what is read among the countries of its points
+pub lie_at : (tariff : Tariff) (trip : Itinerary) (countries : List (Option Country)) (start home : ℕ) (there here : Option Country) → AreCountries tariff trip countries
+    → start ≤ count trip → home ≤ count trip → count trip < length countries
+    → lie_together tariff (point trip home) (point trip start) ≡ is_same_country (get_or countries home here) (get_or countries start there)
+lie_at tariff trip countries start home there here are low high long = rw (found start there low, found home here high) refl
+  where
+    found : (i : ℕ) (read : Option Country) → i ≤ count trip → get_or countries i read ≡ country tariff (point trip i)
+    found i read within = get_or_default countries i read None (omega arith) ∙ are i within
+
+module _ (tariff : Tariff) (trip : Itinerary) where
+  -- a part behind a point ends behind it, and within the trip
+  pub part_after : (cost_of : Entry → Option ℕ) (i b cost : ℕ) → IsPart tariff trip cost_of (begin_after trip i) b cost → (i < b) × (b ≤ count trip)
+  part_after cost_of i b cost part =
+      let is = entry_is_of_fare tariff trip (begin_after trip i) b part.entry part.there in
       let low : i ≤ begin_after trip i = begins_later trip i in
-      omega (arith, is.rises)
+      (omega (arith, is.rises), is.within)
 
-  -- and the point is not the trip's end
-  begins_within : (i b : ℕ) (entry : Entry) → Contains (entries_of tariff trip (begin_after trip i) b) entry → i < count trip
-  begins_within i b entry there =
-      let is = law tariff trip (begin_after trip i) b entry there in
-      let low : i ≤ begin_after trip i = begins_later trip i in
-      omega (arith, is.rises, is.within)
+  module _ (i : ℕ) where
+    -- what one unit costs at least that ends at a point: where it may, by what is behind its first part, and else alone
+    pub whole_by : (closings jaws : ℕ → ℕ → Option ℕ) (j : ℕ) (alone : Option ℕ) (first behind : ℕ → Option ℕ) (found : Option ℕ) → may_end_at tariff trip (begin_after trip i) j ≡ true
+        → ((b : ℕ) → homing_at trip closings jaws (begin_after trip i) b j ≡ behind b) → IsLeastOf (IsPart tariff trip single_cost (begin_after trip i) j) alone
+        → ((b : ℕ) → IsLeastOf (IsPart tariff trip first_cost (begin_after trip i) b) (first b)) → IsLeastOf (IsReached alone first behind i j) found
+        → IsLeastOf (IsWhole tariff trip closings jaws i j) found
+    whole_by closings jaws j alone first behind found may is one each least =
+        let Step : ℕ → ℕ → Type 0 = IsPart tariff trip first_cost (begin_after trip i) in
+        let homing : ℕ → Option ℕ = λ b. homing_at trip closings jaws (begin_after trip i) b j in
+        least_same (λ n. IsPart tariff trip single_cost (begin_after trip i) j n ⊎ IsSum Step behind i j n) (IsWhole tariff trip closings jaws i j) found
+        (λ n h. elim h [ inl part ↦ inl part | inr s ↦ inr (may, sum_same Step Step behind homing i j n (λ b x step. step) (λ b past. is b) s) ])
+        (λ n h. elim h [ inl part ↦ inl part | inr s ↦ inr (sum_same Step Step homing behind i j n (λ b x step. step) (λ b past. sym (is b)) s.1) ])
+        (reached_by (IsPart tariff trip single_cost (begin_after trip i) j) Step alone first behind i j found one each least)
 
-  -- the numbers of a point stay what they are where those of the points behind it do
-  same_rows : (i : ℕ) (closings jaws new_closings new_jaws : ℕ → ℕ → Option ℕ) (rests new_rests closing jaw whole new_closing new_jaw new_whole : ℕ → Option ℕ) (rest new_rest : Option ℕ)
-      → ((b j : ℕ) → i < b → new_closings b j ≡ closings b j) → ((b j : ℕ) → i < b → new_jaws b j ≡ jaws b j) → ((b : ℕ) → i < b → new_rests b ≡ rests b)
-      → ((j : ℕ) → new_closing j ≡ closing j) → ((j : ℕ) → new_jaw j ≡ jaw j) → ((j : ℕ) → new_whole j ≡ whole j) → new_rest ≡ rest
-      → AreRowsAt tariff trip i closings jaws rests closing jaw whole rest → AreRowsAt tariff trip i new_closings new_jaws new_rests new_closing new_jaw new_whole new_rest
-  same_rows i closings jaws new_closings new_jaws rests new_rests closing jaw whole new_closing new_jaw new_whole rest new_rest cs js rs c j w r rows = record {
-    wholes = record {
-      alone = λ k entry cost there e. subst (IsUpTo cost) (sym (w k)) (rows.wholes.alone k entry cost there e);
-      first = λ b k entry cost behind there e less high ends later.
-          let past : i < b = ends_behind i b entry there in
-          subst (IsUpTo (cost + behind)) (sym (w k))
-          (rows.wholes.first b k entry cost behind there e less high ends (sym (homing_same trip closings jaws new_closings new_jaws (begin_after trip i) b k (cs b k past) (js b k past)) ∙ later));
-    };
-    closes = record {
-      between = λ b k entry cost behind there e less high later.
-          subst (IsUpTo (cost + behind)) (sym (c k)) (rows.closes.between b k entry cost behind there e less high (sym (cs b k (ends_behind i b entry there)) ∙ later));
-      last = λ k entry cost there e. subst (IsUpTo cost) (sym (c k)) (rows.closes.last k entry cost there e);
-      nested = λ b k cost behind past less high e later.
-          subst (IsUpTo (cost + behind)) (sym (c k)) (rows.closes.nested b k cost behind past less high (sym (w b) ∙ e) (sym (cs b k past) ∙ later));
-    };
-    ends = record {
-      last = λ k entry cost there e. subst (IsUpTo cost) (sym (j k)) (rows.ends.last k entry cost there e);
-      nested = λ b k cost behind past less high e later.
-          subst (IsUpTo (cost + behind)) (sym (j k)) (rows.ends.nested b k cost behind past less high (sym (w b) ∙ e) (sym (js b k past) ∙ later));
-    };
-    onward = λ b cost behind past high e later. subst (IsUpTo (cost + behind)) (sym r) (rows.onward b cost behind past high (sym (w b) ∙ e) (sym (rs b past) ∙ later));
-  }
+    pub whole_alone : (closings jaws : ℕ → ℕ → Option ℕ) (j : ℕ) (alone : Option ℕ) → may_end_at tariff trip (begin_after trip i) j ≡ false
+        → IsLeastOf (IsPart tariff trip single_cost (begin_after trip i) j) alone → IsLeastOf (IsWhole tariff trip closings jaws i j) alone
+    whole_alone closings jaws j alone may one =
+        least_same (IsPart tariff trip single_cost (begin_after trip i) j) (IsWhole tariff trip closings jaws i j) alone (λ n part. inl part)
+        (λ n h. elim h [ inl part ↦ part | inr s ↦ absurd (both_ways (may_end_at tariff trip (begin_after trip i) j) may s.0) ]) one
 
+    -- the numbers of a point, each by the least of its parts and of the whole units that come first
+    pub rows_are : (closings jaws : ℕ → ℕ → Option ℕ) (rests closing jaw whole between last next : ℕ → Option ℕ) (rest : Option ℕ)
+        → ((j : ℕ) → IsLeastOf (IsPart tariff trip between_cost (begin_after trip i) j) (between j)) → ((j : ℕ) → IsLeastOf (IsPart tariff trip back_cost (begin_after trip i) j) (last j))
+        → ((j : ℕ) → IsLeastOf (IsWhole tariff trip closings jaws i j) (whole j)) → ((j : ℕ) → next j ≡ lesser (between j) (whole j))
+        → ((j : ℕ) → IsLeastOf (IsReached (last j) next (λ b. closings b j) i j) (closing j))
+        → ((j : ℕ) → IsLeastOf (IsReached (last j) whole (λ b. jaws b j) i j) (jaw j)) → IsLeastOf (IsOnward trip rests whole i) rest
+        → AreHomingsAt tariff trip i closings jaws rests closing jaw whole rest
+    rows_are closings jaws rests closing jaw whole between last next rest betweens lasts wholes nexts closes ends onward = record {
+      wholes = wholes;
+      closes = λ j. reached_by (IsPart tariff trip back_cost (begin_after trip i) j) (IsNext tariff trip whole i) (last j) next (λ b. closings b j) i j (closing j) (lasts j)
+          (λ b. subst (IsLeastOf (IsNext tariff trip whole i b)) (sym (nexts b)) (least_both (IsPart tariff trip between_cost (begin_after trip i) b) (IsAt whole b) (between b) (whole b) (betweens b) (least_one (whole b))))
+          (closes j);
+      ends = λ j. reached_by (IsPart tariff trip back_cost (begin_after trip i) j) (IsAt whole) (last j) whole (λ b. jaws b j) i j (jaw j) (lasts j) (λ b. least_one (whole b)) (ends j);
+      onward = onward;
+    }
+
+    -- behind a point before the trip's end, the onward number is the least of the sums of a whole unit and the rest
+    pub onward_within : (rests whole : ℕ → Option ℕ) (rest : Option ℕ) → i < count trip → IsLeastOf (IsSum (IsAt whole) rests i (count trip + 1)) rest → IsLeastOf (IsOnward trip rests whole i) rest
+    onward_within rests whole rest before known =
+        least_same (IsSum (IsAt whole) rests i (count trip + 1)) (IsOnward trip rests whole i) rest (λ n s. inr s)
+        (λ n h. elim h [ inl end ↦ absurd (omega (arith, end.0)) | inr s ↦ s ]) known
+
+    -- the numbers of a point end within the trip where those of the points behind it do
+    pub closes_within : (closings : ℕ → ℕ → Option ℕ) (whole closing : ℕ → Option ℕ) → ((b j n : ℕ) → closings b j ≡ Some n → j ≤ count trip)
+        → ((j : ℕ) → IsLeastOf (IsClosing tariff trip closings whole i j) (closing j)) → (j n : ℕ) → closing j ≡ Some n → j ≤ count trip
+    closes_within closings whole closing within known j n e =
+        elim ((known j).reached n e) [
+          | inl last ↦ (part_after back_cost i j n last).1
+          | inr s ↦ within s.end j s.rest s.later
+        ]
+
+    pub ends_within : (jaws : ℕ → ℕ → Option ℕ) (whole jaw : ℕ → Option ℕ) → ((b j n : ℕ) → jaws b j ≡ Some n → j ≤ count trip)
+        → ((j : ℕ) → IsLeastOf (IsJaw tariff trip jaws whole i j) (jaw j)) → (j n : ℕ) → jaw j ≡ Some n → j ≤ count trip
+    ends_within jaws whole jaw within known j n e =
+        elim ((known j).reached n e) [
+          | inl last ↦ (part_after back_cost i j n last).1
+          | inr s ↦ within s.end j s.rest s.later
+        ]
+
+    -- at the trip's end and past it no part begins
+    no_part : count trip ≤ i → (cost_of : Entry → Option ℕ) (b cost : ℕ) → IsPart tariff trip cost_of (begin_after trip i) b cost → ⊥
+    no_part past cost_of b cost part = let is = part_after cost_of i b cost part in omega (arith, is.0, is.1)
+
+    -- so there is no number, but that nothing is behind the end
+    pub nothing_behind : count trip ≤ i → (closings jaws : ℕ → ℕ → Option ℕ) (rests closing jaw whole : ℕ → Option ℕ) (rest : Option ℕ)
+        → ((j : ℕ) → closing j ≡ None) → ((j : ℕ) → jaw j ≡ None) → ((j : ℕ) → whole j ≡ None) → IsLeastOf (λ n. (i ≡ count trip) × (n ≡ 0)) rest
+        → AreHomingsAt tariff trip i closings jaws rests closing jaw whole rest
+    nothing_behind past closings jaws rests closing jaw whole rest no_closing no_jaw no_whole here = record {
+      wholes = λ j. subst (IsLeastOf (IsWhole tariff trip closings jaws i j)) (sym (no_whole j)) (least_none (IsWhole tariff trip closings jaws i j)
+          (λ n h. elim h [ inl part ↦ no_part past single_cost j n part | inr s ↦ no_part past first_cost s.1.end s.1.cost s.1.steps ]));
+      closes = λ j. subst (IsLeastOf (IsClosing tariff trip closings whole i j)) (sym (no_closing j)) (least_none (IsClosing tariff trip closings whole i j)
+          (λ n h. elim h [
+            | inl last ↦ no_part past back_cost j n last
+            | inr s ↦ elim s.steps [ inl part ↦ no_part past between_cost s.end s.cost part | inr unit ↦ none-some s.cost (sym (no_whole s.end) ∙ unit) ]
+          ]));
+      ends = λ j. subst (IsLeastOf (IsJaw tariff trip jaws whole i j)) (sym (no_jaw j)) (least_none (IsJaw tariff trip jaws whole i j)
+          (λ n h. elim h [ inl last ↦ no_part past back_cost j n last | inr s ↦ no_unit (λ b. jaws b j) j n s ]));
+      onward = least_same (λ n. (i ≡ count trip) × (n ≡ 0)) (IsOnward trip rests whole i) rest (λ n end. inl end)
+          (λ n h. elim h [ inl end ↦ end | inr s ↦ absurd (no_unit rests (count trip + 1) n s) ]) here;
+    }
+      where
+        no_unit : (behind : ℕ → Option ℕ) (j n : ℕ) → IsSum (IsAt whole) behind i j n → ⊥
+        no_unit behind j n s = none-some s.cost (sym (no_whole s.end) ∙ s.steps)
+
+    -- the numbers of a point stay what they are where those of the points behind it do
+    module _ (closings jaws new_closings new_jaws : ℕ → ℕ → Option ℕ) (rests new_rests whole new_whole : ℕ → Option ℕ)
+        (cs : (b j : ℕ) → i < b → new_closings b j ≡ closings b j) (js : (b j : ℕ) → i < b → new_jaws b j ≡ jaws b j) (rs : (b : ℕ) → i < b → new_rests b ≡ rests b) (w : (b : ℕ) → new_whole b ≡ whole b) where
+      whole_on : (j n : ℕ) → IsWhole tariff trip closings jaws i j n → IsWhole tariff trip new_closings new_jaws i j n
+      whole_on j n h = elim h [
+        | inl part ↦ inl part
+        | inr s ↦ inr (
+          s.0,
+          sum_same (IsPart tariff trip first_cost (begin_after trip i)) (IsPart tariff trip first_cost (begin_after trip i)) (λ b. homing_at trip closings jaws (begin_after trip i) b j) (λ b. homing_at trip new_closings new_jaws (begin_after trip i) b j) i j n
+              (λ b x step. step) (λ b past. homing_same trip closings jaws new_closings new_jaws (begin_after trip i) b j (cs b j past) (js b j past)) s.1,
+        )
+      ]
+
+      unit_on : (behind new : ℕ → Option ℕ) (j n : ℕ) → ((b : ℕ) → i < b → new b ≡ behind b) → IsSum (IsAt whole) behind i j n → IsSum (IsAt new_whole) new i j n
+      unit_on behind new j n same s = sum_same (IsAt whole) (IsAt new_whole) behind new i j n (λ b x e. w b ∙ e) same s
+
+      closing_on : (j n : ℕ) → IsClosing tariff trip closings whole i j n → IsClosing tariff trip new_closings new_whole i j n
+      closing_on j n h = elim h [
+        | inl last ↦ inl last
+        | inr s ↦ inr (sum_same (IsNext tariff trip whole i) (IsNext tariff trip new_whole i) (λ b. closings b j) (λ b. new_closings b j) i j n
+            (λ b x next. elim next [ inl part ↦ inl part | inr unit ↦ inr (w b ∙ unit) ]) (λ b past. cs b j past) s)
+      ]
+
+      jaw_on : (j n : ℕ) → IsJaw tariff trip jaws whole i j n → IsJaw tariff trip new_jaws new_whole i j n
+      jaw_on j n h = elim h [ inl last ↦ inl last | inr s ↦ inr (unit_on (λ b. jaws b j) (λ b. new_jaws b j) j n (λ b past. js b j past) s) ]
+
+      onward_on : (n : ℕ) → IsOnward trip rests whole i n → IsOnward trip new_rests new_whole i n
+      onward_on n h = elim h [ inl end ↦ inl end | inr s ↦ inr (unit_on rests new_rests (count trip + 1) n rs s) ]
+
+    same_rows : (closings jaws new_closings new_jaws : ℕ → ℕ → Option ℕ) (rests new_rests closing jaw whole new_closing new_jaw new_whole : ℕ → Option ℕ) (rest new_rest : Option ℕ)
+        → ((b j : ℕ) → i < b → new_closings b j ≡ closings b j) → ((b j : ℕ) → i < b → new_jaws b j ≡ jaws b j) → ((b : ℕ) → i < b → new_rests b ≡ rests b)
+        → ((j : ℕ) → new_closing j ≡ closing j) → ((j : ℕ) → new_jaw j ≡ jaw j) → ((j : ℕ) → new_whole j ≡ whole j) → new_rest ≡ rest
+        → AreHomingsAt tariff trip i closings jaws rests closing jaw whole rest → AreHomingsAt tariff trip i new_closings new_jaws new_rests new_closing new_jaw new_whole new_rest
+    same_rows closings jaws new_closings new_jaws rests new_rests closing jaw whole new_closing new_jaw new_whole rest new_rest cs js rs c e w r rows = record {
+      wholes = λ j. subst (IsLeastOf (IsWhole tariff trip new_closings new_jaws i j)) (sym (w j)) (least_same (IsWhole tariff trip closings jaws i j) (IsWhole tariff trip new_closings new_jaws i j) (whole j)
+          (whole_on closings jaws new_closings new_jaws rests new_rests whole new_whole cs js rs w j) (whole_on new_closings new_jaws closings jaws new_rests rests new_whole whole cs_back js_back rs_back w_back j) (rows.wholes j));
+      closes = λ j. subst (IsLeastOf (IsClosing tariff trip new_closings new_whole i j)) (sym (c j)) (least_same (IsClosing tariff trip closings whole i j) (IsClosing tariff trip new_closings new_whole i j) (closing j)
+          (closing_on closings jaws new_closings new_jaws rests new_rests whole new_whole cs js rs w j) (closing_on new_closings new_jaws closings jaws new_rests rests new_whole whole cs_back js_back rs_back w_back j) (rows.closes j));
+      ends = λ j. subst (IsLeastOf (IsJaw tariff trip new_jaws new_whole i j)) (sym (e j)) (least_same (IsJaw tariff trip jaws whole i j) (IsJaw tariff trip new_jaws new_whole i j) (jaw j)
+          (jaw_on closings jaws new_closings new_jaws rests new_rests whole new_whole cs js rs w j) (jaw_on new_closings new_jaws closings jaws new_rests rests new_whole whole cs_back js_back rs_back w_back j) (rows.ends j));
+      onward = subst (IsLeastOf (IsOnward trip new_rests new_whole i)) (sym r) (least_same (IsOnward trip rests whole i) (IsOnward trip new_rests new_whole i) rest
+          (onward_on closings jaws new_closings new_jaws rests new_rests whole new_whole cs js rs w) (onward_on new_closings new_jaws closings jaws new_rests rests new_whole whole cs_back js_back rs_back w_back) rows.onward);
+    }
+      where
+        cs_back : (b j : ℕ) → i < b → closings b j ≡ new_closings b j
+        cs_back b j past = sym (cs b j past)
+
+        js_back : (b j : ℕ) → i < b → jaws b j ≡ new_jaws b j
+        js_back b j past = sym (js b j past)
+
+        rs_back : (b : ℕ) → i < b → rests b ≡ new_rests b
+        rs_back b past = sym (rs b past)
+
+        w_back : (b : ℕ) → whole b ≡ new_whole b
+        w_back b = sym (w b)
+
+-- the numbers are known from a point on, and end within the trip
+pub record AreHomingsFrom (tariff : Tariff) (trip : Itinerary) (first : ℕ) (closing jaw whole : List (List (Option ℕ))) (rest : List (Option ℕ)) : Type 0 where
+  pub at : (i : ℕ) → first ≤ i → AreHomingsAt tariff trip i (cell closing) (cell jaw) (rest_at rest) (cell closing i) (cell jaw i) (cell whole i) (rest_at rest i)
+  pub closes : EndWithin trip closing
+  pub ends : EndWithin trip jaw
+
+module _ (tariff : Tariff) (trip : Itinerary) where
   -- from the first point on they are those of the trip
-  pub homings_whole : (closing jaw whole : ℕ → ℕ → Option ℕ) (rest : ℕ → Option ℕ) → AreHomingsFrom tariff trip 0 closing jaw whole rest → AreHomings tariff trip closing jaw whole rest
-  homings_whole closing jaw whole rest known = record {
-    alone = λ i j entry cost there e. (known.rows i (omega arith) (begins_within i j entry there)).wholes.alone j entry cost there e;
-    first = λ i b j entry cost behind there e less high ends later. (known.rows i (omega arith) (begins_within i b entry there)).wholes.first b j entry cost behind there e less high ends later;
-    between = λ i b j entry cost behind there e less high later. (known.rows i (omega arith) (begins_within i b entry there)).closes.between b j entry cost behind there e less high later;
-    last_closes = λ i j entry cost there e. (known.rows i (omega arith) (begins_within i j entry there)).closes.last j entry cost there e;
-    last_jaw = λ i j entry cost there e. (known.rows i (omega arith) (begins_within i j entry there)).ends.last j entry cost there e;
-    nested_closes = λ i b j cost behind past less high e later. (known.rows i (omega arith) (omega arith)).closes.nested b j cost behind past less high e later;
-    nested_jaw = λ i b j cost behind past less high e later. (known.rows i (omega arith) (omega arith)).ends.nested b j cost behind past less high e later;
-    onward = λ i b cost behind past high e later. (known.rows i (omega arith) (omega arith)).onward b cost behind past high e later;
-    end = known.end;
-  }
+  pub homings_whole : (closing jaw whole : List (List (Option ℕ))) (rest : List (Option ℕ)) → AreHomingsFrom tariff trip 0 closing jaw whole rest → AreHomings tariff trip (cell closing) (cell jaw) (cell whole) (rest_at rest)
+  homings_whole closing jaw whole rest known = record { at = λ i. known.at i (omega arith) }
 
   -- the numbers that are put at their point
   pub put_homings : (p : ℕ) (closing jaw whole : List (List (Option ℕ))) (rest : List (Option ℕ)) (closes ends wholes : List (Option ℕ)) (onward : Option ℕ)
-      → p < count trip → p < length closing → p < length jaw → p < length whole → p < length rest
-      → AreHomingsFrom tariff trip (p + 1) (cell closing) (cell jaw) (cell whole) (rest_at rest)
-      → AreRowsAt tariff trip p (cell closing) (cell jaw) (rest_at rest) (rest_at closes) (rest_at ends) (rest_at wholes) onward
-      → AreHomingsFrom tariff trip p (cell (set closing p closes)) (cell (set jaw p ends)) (cell (set whole p wholes)) (rest_at (set rest p onward))
-  put_homings p closing jaw whole rest closes ends wholes onward inside long_closing long_jaw long_whole long_rest known here = record {
-    rows = λ k low high. elim (cases_eq k p) [
-      | inl same ↦ subst Here (sym same) (same_rows p (cell closing) (cell jaw) (cell (set closing p closes)) (cell (set jaw p ends)) (rest_at rest) (rest_at (set rest p onward))
+      → p < length closing → p < length jaw → p < length whole → p < length rest
+      → AreHomingsFrom tariff trip (p + 1) closing jaw whole rest
+      → AreHomingsAt tariff trip p (cell closing) (cell jaw) (rest_at rest) (rest_at closes) (rest_at ends) (rest_at wholes) onward
+      → AreHomingsFrom tariff trip p (set closing p closes) (set jaw p ends) (set whole p wholes) (set rest p onward)
+  put_homings p closing jaw whole rest closes ends wholes onward long_closing long_jaw long_whole long_rest known here = record {
+    at = λ k low. elim (cases_eq k p) [
+      | inl same ↦ subst Here (sym same) (same_rows tariff trip p (cell closing) (cell jaw) (cell (set closing p closes)) (cell (set jaw p ends)) (rest_at rest) (rest_at (set rest p onward))
           (rest_at closes) (rest_at ends) (rest_at wholes) (cell (set closing p closes) p) (cell (set jaw p ends) p) (cell (set whole p wholes) p) onward (rest_at (set rest p onward) p)
           (λ b j past. cell_other closing closes b j (past_other b past)) (λ b j past. cell_other jaw ends b j (past_other b past)) (λ b past. get_or-set_other rest p b onward None (past_other b past))
           (λ j. cell_same closing closes j long_closing) (λ j. cell_same jaw ends j long_jaw) (λ j. cell_same whole wholes j long_whole) (get_or-set_same rest p onward None long_rest) here)
       | inr other ↦
           let past_k : (b : ℕ) → k < b → b ≡ p → ⊥ = λ b past same. omega arith in
-          same_rows k (cell closing) (cell jaw) (cell (set closing p closes)) (cell (set jaw p ends)) (rest_at rest) (rest_at (set rest p onward))
+          same_rows tariff trip k (cell closing) (cell jaw) (cell (set closing p closes)) (cell (set jaw p ends)) (rest_at rest) (rest_at (set rest p onward))
           (cell closing k) (cell jaw k) (cell whole k) (cell (set closing p closes) k) (cell (set jaw p ends) k) (cell (set whole p wholes) k) (rest_at rest k) (rest_at (set rest p onward) k)
           (λ b j past. cell_other closing closes b j (past_k b past)) (λ b j past. cell_other jaw ends b j (past_k b past)) (λ b past. get_or-set_other rest p b onward None (past_k b past))
-          (λ j. cell_other closing closes k j other) (λ j. cell_other jaw ends k j other) (λ j. cell_other whole wholes k j other) (get_or-set_other rest p k onward None other) (known.rows k (omega arith) high)
+          (λ j. cell_other closing closes k j other) (λ j. cell_other jaw ends k j other) (λ j. cell_other whole wholes k j other) (get_or-set_other rest p k onward None other) (known.at k (omega arith))
     ];
-    end = get_or-set_other rest p (count trip) onward None (λ same. omega arith) ∙ known.end;
+    closes = within_put closing closes long_closing known.closes (closes_within tariff trip p (cell closing) (rest_at wholes) (rest_at closes) known.closes here.closes);
+    ends = within_put jaw ends long_jaw known.ends (ends_within tariff trip p (cell jaw) (rest_at wholes) (rest_at ends) known.ends here.ends);
   }
     where
       Here : ℕ → Type 0
-      Here k = AreRowsAt tariff trip k (cell (set closing p closes)) (cell (set jaw p ends)) (rest_at (set rest p onward)) (cell (set closing p closes) k) (cell (set jaw p ends) k) (cell (set whole p wholes) k) (rest_at (set rest p onward) k)
+      Here k = AreHomingsAt tariff trip k (cell (set closing p closes)) (cell (set jaw p ends)) (rest_at (set rest p onward)) (cell (set closing p closes) k) (cell (set jaw p ends) k) (cell (set whole p wholes) k) (rest_at (set rest p onward) k)
 
       past_other : (b : ℕ) → p < b → b ≡ p → ⊥
       past_other b past same = omega arith
@@ -170,9 +248,34 @@ module _ (tariff : Tariff) (trip : Itinerary) (law : EntriesAreOfFares) where
       cell_same : (rows : List (List (Option ℕ))) (row : List (Option ℕ)) (j : ℕ) → p < length rows → cell (set rows p row) p j ≡ rest_at row j
       cell_same rows row j long = ap (λ (xs : List (Option ℕ)). slice_index_or xs j None) (get_or-set_same rows p row [] long)
 
--- at the trip's end nothing is behind
-pub homings_at_end : (tariff : Tariff) (trip : Itinerary) (closing jaw whole : ℕ → ℕ → Option ℕ) (n : ℕ) → count trip < n
-    → AreHomingsFrom tariff trip (count trip) closing jaw whole (rest_at (set (replicate n None) (count trip) (Some 0)))
-homings_at_end tariff trip closing jaw whole n within =
-    let long : length {A = Option ℕ} (replicate n None) ≡ n = length-replicate {A = Option ℕ} n None in
-    record { rows = λ i low high. absurd (omega arith); end = get_or-set_same (replicate n None) (count trip) (Some 0) None (omega arith) }
+      within_put : (rows : List (List (Option ℕ))) (row : List (Option ℕ)) → p < length rows → EndWithin trip rows → ((j n : ℕ) → rest_at row j ≡ Some n → j ≤ count trip) → EndWithin trip (set rows p row)
+      within_put rows row long before new b j n e = elim (cases_eq b p) [
+        | inl same ↦ new j n (sym (cell_same rows row j long) ∙ ap (λ k. cell (set rows p row) k j) (sym same) ∙ e)
+        | inr other ↦ before b j n (sym (cell_other rows row b j other) ∙ e)
+      ]
+
+  -- at the trip's end nothing is behind
+  pub homings_at_end : (n : ℕ) → count trip < n
+      → AreHomingsFrom tariff trip (count trip) (replicate n (replicate n None)) (replicate n (replicate n None)) (replicate n (replicate n None)) (set (replicate n None) (count trip) (Some 0))
+  homings_at_end n within = record {
+    at = λ i low. nothing_behind tariff trip i low none none rest (none i) (none i) (none i) (rest i) (no_cell n n i) (no_cell n n i) (no_cell n n i) (rest_is i);
+    closes = λ i j number e. absurd (none-some number (sym (no_cell n n i j) ∙ e));
+    ends = λ i j number e. absurd (none-some number (sym (no_cell n n i j) ∙ e));
+  }
+    where
+      none : ℕ → ℕ → Option ℕ
+      none = cell (replicate n (replicate n None))
+
+      rest : ℕ → Option ℕ
+      rest = rest_at (set (replicate n None) (count trip) (Some 0))
+
+      rest_is : (i : ℕ) → IsLeastOf (λ number. (i ≡ count trip) × (number ≡ 0)) (rest i)
+      rest_is i = elim (cases_eq i (count trip)) [
+        | inl same ↦
+            let long : length {A = Option ℕ} (replicate n None) ≡ n = length-replicate {A = Option ℕ} n None in
+            let here : rest i ≡ Some 0 = ap rest same ∙ get_or-set_same (replicate n None) (count trip) (Some 0) None (omega arith) in
+            record { reached = λ number e. (same, sym (same_Some 0 number (sym here ∙ e))); lowest = λ number h. (0, here, omega arith) }
+        | inr other ↦
+            let here : rest i ≡ None = get_or-set_other (replicate n None) (count trip) i (Some 0) None other ∙ none_at n i in
+            subst (IsLeastOf (λ number. (i ≡ count trip) × (number ≡ 0))) (sym here) (least_none (λ number. (i ≡ count trip) × (number ≡ 0)) (λ number h. other h.0))
+      ]

@@ -1,2 +1,5 @@
 pub mod ReachLemmas
+pub mod LeastLemmas
 pub mod HomingRowLemmas
+pub mod UnderLemmas
+pub mod LegLemmas

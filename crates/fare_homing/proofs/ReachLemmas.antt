@@ -1,28 +1,28 @@
--- The least of some numbers, one more at a time.
-use Rattle.std.proofs.Common.{◌≡◌, ℕ, ◌+◌, ◌<◌, ◌≤◌, refl, min, List, [], ◌∷◌, ◌++◌, length, set, ap, sym, subst, ◌∙◌, inl, inr, arith}
+-- The lesser and the sum of two amounts, and the numbers of a row.
+use Rattle.std.proofs.Common.{◌≡◌, refl, ℕ, ◌+◌, ◌<◌, ◌≤◌, ◌⊎◌, min, List, length, set, sym, subst, ◌∙◌, ap, inl, inr, arith, get_or}
 use Rattle.std.specs.Prelude.{Option, Some, None}
-use Rattle.std.proofs.lemmas.Bool.{cases_eq}
-use Rattle.std.proofs.lemmas.Option.{same_Some}
+use Rattle.std.proofs.lemmas.Bool.{cases_eq, cases_lt}
+use Rattle.std.proofs.Math.ListN.{get_or-eq_default}
+use Rattle.std.proofs.lemmas.Option.{none-some, same_Some}
 use Rattle.std.proofs.lemmas.List.{get_or-set_same, get_or-set_other}
-use Rattle.std.proofs.lemmas.List.Elements.{Contains-push_cases}
-use Rattle.fare_component.specs.declared.table.entry.Entry.{Entry}
 use Rattle.fare_bounds.specs.Covers.{lesser, rest_at}
-use Rattle.fare_homing.specs.declared.legs.Role.{Role}
 use Rattle.fare_homing.specs.Homing.{IsUpTo}
-use Rattle.fare_homing.specs.Legs.{cost_in, IsUnderEach}
+use Rattle.fare_homing.specs.Least.{added, capped_sum}
 
-none_some : (n : ℕ) → None ≡ Some n → ⊥
-none_some n e = cc
+-- an amount that is no number isn't there
+pub none_there : (x : Option ℕ) → ((n : ℕ) → x ≡ Some n → ⊥) → x ≡ None
+none_there None never = refl
+none_there (Some n) never = absurd (never n refl)
 
 -- the lesser of two amounts is no more than either
 pub lesser_first : (a b : Option ℕ) (amount : ℕ) → a ≡ Some amount → IsUpTo amount (lesser a b)
-lesser_first None b amount e = absurd (none_some amount e)
+lesser_first None b amount e = absurd (none-some amount e)
 lesser_first (Some a) None amount e = (a, refl, omega (arith, same_Some a amount e))
 lesser_first (Some a) (Some b) amount e = (min a b, refl, omega (arith, same_Some a amount e))
 
 pub lesser_second : (a b : Option ℕ) (amount : ℕ) → b ≡ Some amount → IsUpTo amount (lesser a b)
 lesser_second None b amount e = (amount, e, omega arith)
-lesser_second (Some a) None amount e = absurd (none_some amount e)
+lesser_second (Some a) None amount e = absurd (none-some amount e)
 lesser_second (Some a) (Some b) amount e = (min a b, refl, omega (arith, same_Some b amount e))
 
 -- a lesser number is up to no more
@@ -35,42 +35,79 @@ up_first a b most up = let least = lesser_first a b up.0 up.1 in up_more up.0 mo
 pub up_second : (a b : Option ℕ) (most : ℕ) → IsUpTo most b → IsUpTo most (lesser a b)
 up_second a b most up = let least = lesser_second a b up.0 up.1 in up_more up.0 most (lesser a b) up.2 least
 
--- what is under each of some entries, and one more
-pub under_more : (role : Role) (entries : List Entry) (d : Entry) (least : Option ℕ) → IsUnderEach role entries least → IsUnderEach role (entries ++ d ∷ []) (lesser least (cost_in role d))
-under_more role entries d least under entry cost there e =
-    elim (Contains-push_cases entries d entry there) [
-      | inl before ↦ up_first least (cost_in role d) cost (under entry cost before e)
-      | inr here ↦ lesser_second least (cost_in role d) cost (ap (cost_in role) here ∙ e)
-    ]
+-- a sum is there exactly where both amounts are
+pub added_is : (a b : Option ℕ) (sum : ℕ) → added a b ≡ Some sum
+    → (x : ℕ) × (y : ℕ) × (a ≡ Some x) × (b ≡ Some y) × (sum ≡ capped_sum x y)
+added_is None b sum e = absurd (none-some sum e)
+added_is (Some x) None sum e = absurd (none-some sum e)
+added_is (Some x) (Some y) sum e = (x, y, refl, refl, sym (same_Some (capped_sum x y) sum e))
 
--- up to all steps before a point, and to that at the point
-pub step_more : (steps rests : ℕ → Option ℕ) (p : ℕ) (least sum : Option ℕ) → ((x y : ℕ) → steps p ≡ Some x → rests p ≡ Some y → IsUpTo (x + y) sum)
-    → ((b x y : ℕ) → b < p → steps b ≡ Some x → rests b ≡ Some y → IsUpTo (x + y) least)
-    → (b x y : ℕ) → b < p + 1 → steps b ≡ Some x → rests b ≡ Some y → IsUpTo (x + y) (lesser least sum)
-step_more steps rests p least sum here before b x y below e f =
-    elim (cases_eq b p) [
-      | inl same ↦ up_second least sum (x + y) (here x y (ap steps (sym same) ∙ e) (ap rests (sym same) ∙ f))
-      | inr other ↦ up_first least sum (x + y) (before b x y (omega arith) e f)
-    ]
+pub added_of : (a b : Option ℕ) (x y : ℕ) → a ≡ Some x → b ≡ Some y → added a b ≡ Some (capped_sum x y)
+added_of a b x y e f = rw (e, f) refl
 
--- what holds of the numbers of a row below a point, where the number at the point is put
-pub row_more : (P : ℕ → Option ℕ → Type 0) (row : List (Option ℕ)) (p : ℕ) (number : Option ℕ) → p < length row → ((j : ℕ) → j < p → P j (rest_at row j)) → P p number
-    → (j : ℕ) → j < p + 1 → P j (rest_at (set row p number) j)
-row_more P row p number within before here j below =
+-- and is no more than both together
+pub capped_low : (x y : ℕ) → capped_sum x y ≤ x + y
+capped_low x y = omega arith
+
+pub added_up : (a b found : Option ℕ) → found ≡ added a b → (x y : ℕ) → a ≡ Some x → b ≡ Some y → IsUpTo (x + y) found
+added_up a b found is x y e f = (capped_sum x y, is ∙ added_of a b x y e f, capped_low x y)
+
+-- what holds of the items of a row below a point, where the item at the point is put
+pub row_more : {A : Type 0} (P : ℕ → Option A → Type 0) (row : List (Option A)) (p : ℕ) (item : Option A) → p < length row
+    → ((j : ℕ) → j < p → P j (get_or row j None)) → P p item → (j : ℕ) → j < p + 1 → P j (get_or (set row p item) j None)
+row_more P row p item within before here j below =
     elim (cases_eq j p) [
       | inl same ↦
-          let Q : ℕ → Type 0 = λ n. P n (rest_at (set row p number) n) in
-          subst Q (sym same) (subst (P p) (sym (get_or-set_same row p number None within)) here)
-      | inr other ↦ subst (P j) (sym (get_or-set_other row p j number None other)) (before j (omega arith))
+          let Q : ℕ → Type 0 = λ n. P n (get_or (set row p item) n None) in
+          subst Q (sym same) (subst (P p) (sym (get_or-set_same row p item None within)) here)
+      | inr other ↦ subst (P j) (sym (get_or-set_other row p j item None other)) (before j (omega arith))
     ]
 
--- and what holds of all of them
-pub row_put : (P : ℕ → Option ℕ → Type 0) (row : List (Option ℕ)) (p : ℕ) (number : Option ℕ) → p < length row → ((j : ℕ) → P j (rest_at row j)) → P p number
-    → (j : ℕ) → P j (rest_at (set row p number) j)
-row_put P row p number within before here j =
+-- what holds of each number of a row, where that at a point is put and what holds of the others goes on
+pub row_put : (Before After : ℕ → Option ℕ → Type 0) (row : List (Option ℕ)) (p : ℕ) (number : Option ℕ) → p < length row
+    → ((j : ℕ) → Before j (rest_at row j)) → ((j : ℕ) (found : Option ℕ) → (j ≡ p → ⊥) → Before j found → After j found)
+    → After p number → (j : ℕ) → After j (rest_at (set row p number) j)
+row_put Before After row p number within before goes here j =
     elim (cases_eq j p) [
       | inl same ↦
-          let Q : ℕ → Type 0 = λ n. P n (rest_at (set row p number) n) in
-          subst Q (sym same) (subst (P p) (sym (get_or-set_same row p number None within)) here)
-      | inr other ↦ subst (P j) (sym (get_or-set_other row p j number None other)) (before j)
+          let Q : ℕ → Type 0 = λ n. After n (rest_at (set row p number) n) in
+          subst Q (sym same) (subst (After p) (sym (get_or-set_same row p number None within)) here)
+      | inr other ↦ subst (After j) (sym (get_or-set_other row p j number None other)) (goes j (rest_at row j) other (before j))
+    ]
+
+-- the numbers of a row from a point to before another are lowered to others
+pub record AreLowered (old : List (Option ℕ)) (new : ℕ → Option ℕ) (low past : ℕ) (row : List (Option ℕ)) : Type 0 where
+  pub lowered : (j : ℕ) → low ≤ j → j < past → rest_at row j ≡ lesser (rest_at old j) (new j)
+  pub others : (j : ℕ) → (j < low) ⊎ (past ≤ j) → rest_at row j ≡ rest_at old j
+
+module _ (old : List (Option ℕ)) (new : ℕ → Option ℕ) (low : ℕ) where
+  pub lower_first : AreLowered old new low low old
+  lower_first = record { lowered = λ j from to. absurd (omega arith); others = λ j other. refl }
+
+  pub lower_more : (p : ℕ) (row : List (Option ℕ)) (number : Option ℕ) → p < length row → low ≤ p → number ≡ lesser (rest_at row p) (new p)
+      → AreLowered old new low p row → AreLowered old new low (p + 1) (set row p number)
+  lower_more p row number within from is known = record {
+    lowered = λ j low_j high. elim (cases_eq j p) [
+      | inl same ↦
+          let P : ℕ → Type 0 = λ k. rest_at (set row p number) k ≡ lesser (rest_at old k) (new k) in
+          subst P (sym same) (get_or-set_same row p number None within ∙ is ∙ ap (λ x. lesser x (new p)) (known.others p (inr (omega arith))))
+      | inr other ↦ get_or-set_other row p j number None other ∙ known.lowered j low_j (omega arith)
+    ];
+    others = λ j other. get_or-set_other row p j number None (apart j other) ∙ known.others j (elim other [ inl below ↦ inl below | inr high ↦ inr (omega arith) ]);
+  }
+    where
+      apart : (j : ℕ) → (j < low) ⊎ (p + 1 ≤ j) → j ≡ p → ⊥
+      apart j (inl below) same = omega arith
+      apart j (inr high) same = omega arith
+
+-- the lesser of the numbers of two rows at each point, past their ends too
+pub lesser_at : (first second row : List (Option ℕ)) (n j : ℕ) → length first ≤ n → length second ≤ n → AreLowered first (rest_at second) 0 n row
+    → rest_at row j ≡ lesser (rest_at first j) (rest_at second j)
+lesser_at first second row n j few more known =
+    elim (cases_lt j n) [
+      | inl less ↦ known.lowered j (omega arith) less
+      | inr past ↦
+          let none : rest_at first j ≡ None = get_or-eq_default first None (omega arith) in
+          let nor : rest_at second j ≡ None = get_or-eq_default second None (omega arith) in
+          known.others j (inr past) ∙ none ∙ sym (rw (none, nor) refl)
     ]

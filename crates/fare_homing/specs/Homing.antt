@@ -1,13 +1,11 @@
 -- Homing: what the parts behind a point cost at least until a unit comes home there, since what begins must also end.
-use Rattle.std.specs.Prelude.{◌≡◌, ℕ, ◌+◌, ◌<◌, ◌≤◌, Bool, true, ◌||◌, Option, Some, None, Contains}
-use Rattle.std.specs.Prelude.{option_map, is_some, bytes_eq, if◌then◌else◌}
+use Rattle.std.specs.Prelude.{◌≡◌, ℕ, ◌≤◌, Bool, ◌||◌, Option, Some, None, option_map, is_some, bytes_eq}
+use Rattle.std.specs.Prelude.{if◌then◌else◌}
 use Rattle.fare_codes.specs.declared.city.City.{City}
-use Rattle.fare_trip.specs.Itinerary.{Itinerary, count, point}
+use Rattle.fare_trip.specs.Itinerary.{Itinerary, point}
 use Rattle.fare_tariff.specs.Tariff.{Tariff}
-use Rattle.fare_rules.specs.Construction.{begin_after}
 use Rattle.fare_rules.specs.Shape.{lie_together}
 use Rattle.fare_component.specs.declared.table.entry.Entry.{Entry}
-use Rattle.fare_component.specs.Table.{entries_of}
 use Rattle.fare_bounds.specs.Covers.{hundredths_of, lesser}
 
 -- an amount is there, and no more than some number
@@ -21,6 +19,10 @@ are_near tariff a b = bytes_eq a b || lie_together tariff a b
 -- an amount of a half round trip: nothing where the entry has a price as a unit of its own
 abbrev pub half_cost : Entry → Option ℕ → Option ℕ
 half_cost entry amount = if is_some entry.single then None else amount
+
+-- what a part alone in its unit costs with an entry: its price as a unit of its own
+abbrev pub single_cost : Entry → Option ℕ
+single_cost entry = entry.single
 
 -- what the first part of a unit of half round trips costs with an entry: its amount priced out
 abbrev pub first_cost : Entry → Option ℕ
@@ -47,30 +49,3 @@ is_same_city trip start home = bytes_eq (point trip home) (point trip start)
 -- elsewhere it is an open jaw, of which the next part is the last
 abbrev pub homing_at : Itinerary → (ℕ → ℕ → Option ℕ) → (ℕ → ℕ → Option ℕ) → ℕ → ℕ → ℕ → Option ℕ
 homing_at trip closing jaw start i home = if is_same_city trip start home then closing i home else jaw i home
-
--- numbers are under what the parts behind each point cost: `closing i j` until a unit closes at j, `jaw i j` until it
--- ends there as an open jaw, `whole i j` where one unit begins behind i and ends at j, `rest i` up to the trip's end
--- where no unit is open. Each is no more than what any next part costs, alone, first, between or last in its unit, or
--- any whole unit, with what is then behind it.
-pub record AreHomings (tariff : Tariff) (trip : Itinerary) (closing jaw whole : ℕ → ℕ → Option ℕ)
-    (rest : ℕ → Option ℕ) : Type 0 where
-  pub alone : (i j : ℕ) (entry : Entry) (cost : ℕ) → Contains (entries_of tariff trip (begin_after trip i) j) entry
-      → entry.single ≡ Some cost → IsUpTo cost (whole i j)
-  pub first : (i b j : ℕ) (entry : Entry) (cost behind : ℕ)
-      → Contains (entries_of tariff trip (begin_after trip i) b) entry → first_cost entry ≡ Some cost → b < j
-      → j ≤ count trip → may_end_at tariff trip (begin_after trip i) j ≡ true
-      → homing_at trip closing jaw (begin_after trip i) b j ≡ Some behind → IsUpTo (cost + behind) (whole i j)
-  pub between : (i b j : ℕ) (entry : Entry) (cost behind : ℕ)
-      → Contains (entries_of tariff trip (begin_after trip i) b) entry → between_cost entry ≡ Some cost → b < j
-      → j ≤ count trip → closing b j ≡ Some behind → IsUpTo (cost + behind) (closing i j)
-  pub last_closes : (i j : ℕ) (entry : Entry) (cost : ℕ) → Contains (entries_of tariff trip (begin_after trip i) j) entry
-      → back_cost entry ≡ Some cost → IsUpTo cost (closing i j)
-  pub last_jaw : (i j : ℕ) (entry : Entry) (cost : ℕ) → Contains (entries_of tariff trip (begin_after trip i) j) entry
-      → back_cost entry ≡ Some cost → IsUpTo cost (jaw i j)
-  pub nested_closes : (i b j : ℕ) (cost behind : ℕ) → i < b → b < j → j ≤ count trip → whole i b ≡ Some cost
-      → closing b j ≡ Some behind → IsUpTo (cost + behind) (closing i j)
-  pub nested_jaw : (i b j : ℕ) (cost behind : ℕ) → i < b → b < j → j ≤ count trip → whole i b ≡ Some cost
-      → jaw b j ≡ Some behind → IsUpTo (cost + behind) (jaw i j)
-  pub onward : (i b : ℕ) (cost behind : ℕ) → i < b → b ≤ count trip → whole i b ≡ Some cost → rest b ≡ Some behind
-      → IsUpTo (cost + behind) (rest i)
-  pub end : rest (count trip) ≡ Some 0

@@ -1,53 +1,64 @@
--- HomingRows: the numbers of homing at one point, by those of the points behind it.
-use Rattle.std.specs.Prelude.{◌≡◌, ℕ, ◌+◌, ◌<◌, ◌≤◌, true, Option, Some, Contains}
+-- HomingRows: the numbers of homing at each point, by those of the points behind it.
+use Rattle.std.specs.Prelude.{◌≡◌, ℕ, ◌+◌, true, ◌⊎◌, Option}
 use Rattle.fare_trip.specs.Itinerary.{Itinerary, count}
 use Rattle.fare_tariff.specs.Tariff.{Tariff}
 use Rattle.fare_rules.specs.Construction.{begin_after}
 use Rattle.fare_component.specs.declared.table.entry.Entry.{Entry}
 use Rattle.fare_component.specs.Table.{entries_of}
-use Rattle.fare_homing.specs.Homing.{IsUpTo, first_cost, between_cost, back_cost, may_end_at, homing_at}
+use Rattle.fare_homing.specs.Homing.{single_cost, first_cost, between_cost, back_cost, may_end_at, homing_at}
+use Rattle.fare_homing.specs.Least.{IsAt, IsCost, IsLeastOf, IsSum}
 
--- numbers by the points where a unit ends are under what one unit costs that begins behind a point: alone, or its first
--- part with what is then behind it
-pub record AreWholes (tariff : Tariff) (trip : Itinerary) (i : ℕ) (closings jaws : ℕ → ℕ → Option ℕ)
-    (whole : ℕ → Option ℕ) : Type 0 where
-  pub alone : (j : ℕ) (entry : Entry) (cost : ℕ) → Contains (entries_of tariff trip (begin_after trip i) j) entry
-      → entry.single ≡ Some cost → IsUpTo cost (whole j)
-  pub first : (b j : ℕ) (entry : Entry) (cost behind : ℕ)
-      → Contains (entries_of tariff trip (begin_after trip i) b) entry → first_cost entry ≡ Some cost → b < j
-      → j ≤ count trip → may_end_at tariff trip (begin_after trip i) j ≡ true
-      → homing_at trip closings jaws (begin_after trip i) b j ≡ Some behind → IsUpTo (cost + behind) (whole j)
+-- what a part from a point to another costs, by what it is in its unit
+abbrev pub IsPart : Tariff → Itinerary → (Entry → Option ℕ) → ℕ → ℕ → ℕ → Type 0
+IsPart tariff trip cost_of a b = IsCost cost_of (entries_of tariff trip a b)
 
--- numbers by the points where a unit closes are under what is behind a point until it does: the next part goes on in
--- it, or is its last, or one whole unit comes before
-pub record AreClosings (tariff : Tariff) (trip : Itinerary) (i : ℕ) (closings : ℕ → ℕ → Option ℕ)
-    (whole closing : ℕ → Option ℕ) : Type 0 where
-  pub between : (b j : ℕ) (entry : Entry) (cost behind : ℕ)
-      → Contains (entries_of tariff trip (begin_after trip i) b) entry → between_cost entry ≡ Some cost → b < j
-      → j ≤ count trip → closings b j ≡ Some behind → IsUpTo (cost + behind) (closing j)
-  pub last : (j : ℕ) (entry : Entry) (cost : ℕ) → Contains (entries_of tariff trip (begin_after trip i) j) entry
-      → back_cost entry ≡ Some cost → IsUpTo cost (closing j)
-  pub nested : (b j : ℕ) (cost behind : ℕ) → i < b → b < j → j ≤ count trip → whole b ≡ Some cost
-      → closings b j ≡ Some behind → IsUpTo (cost + behind) (closing j)
+-- what one unit costs by its first part, with what is then behind that until it comes home, where it may end at a point
+abbrev pub IsByFirst : Tariff → Itinerary → (ℕ → ℕ → Option ℕ) → (ℕ → ℕ → Option ℕ) → ℕ → ℕ → ℕ → Type 0
+IsByFirst tariff trip closing jaw i j cost =
+    (may_end_at tariff trip (begin_after trip i) j ≡ true)
+    × IsSum (IsPart tariff trip first_cost (begin_after trip i))
+    (λ b. homing_at trip closing jaw (begin_after trip i) b j) i j cost
 
--- numbers by the points where a unit ends as an open jaw are under what is behind a point until it does: the next part
--- is its last, or one whole unit comes before
-pub record AreJaws (tariff : Tariff) (trip : Itinerary) (i : ℕ) (jaws : ℕ → ℕ → Option ℕ)
-    (whole jaw : ℕ → Option ℕ) : Type 0 where
-  pub last : (j : ℕ) (entry : Entry) (cost : ℕ) → Contains (entries_of tariff trip (begin_after trip i) j) entry
-      → back_cost entry ≡ Some cost → IsUpTo cost (jaw j)
-  pub nested : (b j : ℕ) (cost behind : ℕ) → i < b → b < j → j ≤ count trip → whole b ≡ Some cost
-      → jaws b j ≡ Some behind → IsUpTo (cost + behind) (jaw j)
+-- what one unit costs that begins behind a point and ends at another: a part alone in it, or by its first part
+abbrev pub IsWhole : Tariff → Itinerary → (ℕ → ℕ → Option ℕ) → (ℕ → ℕ → Option ℕ) → ℕ → ℕ → ℕ → Type 0
+IsWhole tariff trip closing jaw i j cost =
+    IsPart tariff trip single_cost (begin_after trip i) j cost ⊎ IsByFirst tariff trip closing jaw i j cost
 
--- a number is under what is behind a point where no unit is open: one whole unit, and what is behind that
-abbrev pub IsOnward : Itinerary → ℕ → (ℕ → Option ℕ) → (ℕ → Option ℕ) → Option ℕ → Type 0
-IsOnward trip i rests whole least = (b cost behind : ℕ) → i < b → b ≤ count trip → whole b ≡ Some cost
-    → rests b ≡ Some behind → IsUpTo (cost + behind) least
+-- what comes next in an open unit costs: a part between its first and its last, or one whole unit
+abbrev pub IsNext : Tariff → Itinerary → (ℕ → Option ℕ) → ℕ → ℕ → ℕ → Type 0
+IsNext tariff trip whole i b cost =
+    IsPart tariff trip between_cost (begin_after trip i) b cost ⊎ IsAt whole b cost
 
--- the numbers of a point, by those of the points behind it
-pub record AreRowsAt (tariff : Tariff) (trip : Itinerary) (i : ℕ) (closings jaws : ℕ → ℕ → Option ℕ)
+-- what the parts behind a point cost until a unit closes at another: its last part, or what comes next before that, with
+-- what is then behind it
+abbrev pub IsClosing : Tariff → Itinerary → (ℕ → ℕ → Option ℕ) → (ℕ → Option ℕ) → ℕ → ℕ → ℕ → Type 0
+IsClosing tariff trip closing whole i j cost =
+    IsPart tariff trip back_cost (begin_after trip i) j cost
+    ⊎ IsSum (IsNext tariff trip whole i) (λ b. closing b j) i j cost
+
+-- what the parts behind a point cost until a unit ends at another as an open jaw: its last part, or one whole unit that
+-- comes before, with what is then behind that
+abbrev pub IsJaw : Tariff → Itinerary → (ℕ → ℕ → Option ℕ) → (ℕ → Option ℕ) → ℕ → ℕ → ℕ → Type 0
+IsJaw tariff trip jaw whole i j cost =
+    IsPart tariff trip back_cost (begin_after trip i) j cost ⊎ IsSum (IsAt whole) (λ b. jaw b j) i j cost
+
+-- what is behind a point where no unit is open: nothing at the trip's end, and else one whole unit with what is then
+-- behind that
+abbrev pub IsOnward : Itinerary → (ℕ → Option ℕ) → (ℕ → Option ℕ) → ℕ → ℕ → Type 0
+IsOnward trip rest whole i cost =
+    ((i ≡ count trip) × (cost ≡ 0)) ⊎ IsSum (IsAt whole) rest i (count trip + 1) cost
+
+-- the numbers of a point are the least that its next parts cost, by those of the points behind it
+pub record AreHomingsAt (tariff : Tariff) (trip : Itinerary) (i : ℕ) (closings jaws : ℕ → ℕ → Option ℕ)
     (rests closing jaw whole : ℕ → Option ℕ) (rest : Option ℕ) : Type 0 where
-  pub wholes : AreWholes tariff trip i closings jaws whole
-  pub closes : AreClosings tariff trip i closings whole closing
-  pub ends : AreJaws tariff trip i jaws whole jaw
-  pub onward : IsOnward trip i rests whole rest
+  pub wholes : (j : ℕ) → IsLeastOf (IsWhole tariff trip closings jaws i j) (whole j)
+  pub closes : (j : ℕ) → IsLeastOf (IsClosing tariff trip closings whole i j) (closing j)
+  pub ends : (j : ℕ) → IsLeastOf (IsJaw tariff trip jaws whole i j) (jaw j)
+  pub onward : IsLeastOf (IsOnward trip rests whole i) rest
+
+-- numbers are what the parts behind each point cost at least: `closing i j` until a unit closes at j, `jaw i j` until
+-- it ends there as an open jaw, `whole i j` where one unit begins behind i and ends at j, `rest i` up to the trip's end
+-- where no unit is open
+pub record AreHomings (tariff : Tariff) (trip : Itinerary) (closing jaw whole : ℕ → ℕ → Option ℕ)
+    (rest : ℕ → Option ℕ) : Type 0 where
+  pub at : (i : ℕ) → AreHomingsAt tariff trip i closing jaw rest (closing i) (jaw i) (whole i) (rest i)

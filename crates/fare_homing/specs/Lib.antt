@@ -1,6 +1,7 @@
 pub use Rattle.fare_component.specs.Table
 pub use Rattle.fare_bounds.specs.Covers
 pub mod Homing
-pub mod Rows
-pub mod Legs
+pub mod Least
 pub mod HomingRows
+pub mod Legs
+pub mod Rows

@@ -1,20 +1,22 @@
 //! Homing: what the parts behind a point of a trip cost at least until a unit comes home, at each later point.
 
-ghost use Rattle.std.specs.Prelude.{◌≡◌, ℕ, ◌+◌, ◌<◌, ◌≤◌, Some, true};
+ghost use Rattle.std.specs.Prelude.{◌≡◌, ℕ, ◌<◌, ◌≤◌};
 ghost use Rattle.fare_trip.specs.Itinerary.{count};
 ghost use Rattle.fare_rules.specs.Construction.{begin_after};
 ghost use Rattle.fare_bounds.specs.Covers.{rest_at};
-ghost use Rattle.fare_homing.specs.Homing.{IsUpTo, may_end_at, homing_at};
-ghost use Rattle.fare_homing.specs.HomingRows.{AreWholes, AreRowsAt};
+ghost use Rattle.fare_homing.specs.HomingRows.{AreHomingsAt, IsWhole};
+ghost use Rattle.fare_homing.specs.Least.{IsLeastOf};
 ghost use Rattle.fare_homing.specs.Legs.{AreLegsOf};
-ghost use Rattle.fare_homing.specs.Rows.{cell, AreHomingsOf};
+ghost use Rattle.fare_homing.specs.Rows.{cell, AreCountries, AreHomingsOf, EndWithin};
 
 use crate::legs::{LegRows, legs};
-use crate::nearness::are_near;
-use crate::reaching::{least_onward, reach, reached};
+use crate::nearness::countries_of;
+use crate::reaching::{least_onward, lesser_row, reach, reached};
 use fare_bounds::begin_after;
-use fare_component::{Table, entries_are_of_fares};
+use fare_codes::Country;
+use fare_component::Table;
 use fare_rules::MOST_POINTS;
+use fare_units::is_same_country;
 
 /// What is behind each point of a trip at least.
 #[derive(Drop)]
@@ -60,76 +62,83 @@ pub fn cell(rows: &[[Option<u64>; MOST_POINTS]; MOST_POINTS], i: usize, j: usize
     }
 }
 
-/// What one unit costs at least that begins at a point and ends at another, by its first part and what is behind that,
-/// and no more than where it is one part alone.
+/// What one unit costs at least that begins behind a point and ends at another: one part alone, or its first part with
+/// what is behind that.
 fn whole_to(
     table: &Table,
+    countries: &[Option<Country>; MOST_POINTS],
     homing: &Homing,
-    first: &[Option<u64>; MOST_POINTS],
-    alone: Option<u64>,
-    a: usize,
+    legs: &LegRows,
+    i: usize,
     j: usize,
 ) -> Option<u64>
-    requires start { a ≤ count table.now.trip }
-    requires home { j ≤ count table.now.trip }
-    ensures alone { (most : ℕ) → IsUpTo most alone → IsUpTo most result }
-    ensures first { may_end_at table.now.edition table.now.trip a j ≡ true → (b x y : ℕ) → b < j
-        → rest_at first.now b ≡ Some x
-        → homing_at table.now.trip (cell homing.now.closing) (cell homing.now.jaw) a b j ≡ Some y
-        → IsUpTo (x + y) result }
+    requires rises { i < j }
+    requires within { j ≤ count table.now.trip }
+    requires countries { AreCountries table.now.edition table.now.trip countries.now }
+    requires legs { AreLegsOf table.now.edition table.now.trip (begin_after table.now.trip i) legs.now }
+    ensures { IsLeastOf (IsWhole table.now.edition table.now.trip (cell homing.now.closing) (cell homing.now.jaw) i j)
+        result }
 {
     let trip = table.trip();
     let count = trip.count();
     prove!(j <= count);
-    let (start, home) = (trip.point(a), trip.point(j));
-    if !are_near(table.edition(), home, start) {
+    let start = begin_after(trip, i);
+    let alone = legs.alone[j];
+    if trip.point(j).is(trip.point(start)) {
+        return reach(&legs.first, &homing.closing, alone, i, j);
+    }
+    if !is_same_country(countries[j], countries[start]) {
         return alone;
     }
-    if home.is(start) {
-        reach(first, &homing.closing, alone, j)
-    } else {
-        reach(first, &homing.jaw, alone, j)
-    }
+    reach(&legs.first, &homing.jaw, alone, i, j)
 }
 
 /// What one unit costs at least that begins behind a point, by the points where it ends.
 fn wholes_at(
     table: &Table,
+    countries: &[Option<Country>; MOST_POINTS],
     homing: &Homing,
-    i: usize,
-    a: usize,
     legs: &LegRows,
+    i: usize,
 ) -> [Option<u64>; MOST_POINTS]
-    requires within { i < count table.now.trip }
-    requires start { a ≡ begin_after table.now.trip i }
-    requires legs { AreLegsOf table.now.edition table.now.trip a legs.now }
-    ensures { AreWholes table.now.edition table.now.trip i (cell homing.now.closing) (cell homing.now.jaw)
-        (rest_at result) }
+    requires start { i < count table.now.trip }
+    requires countries { AreCountries table.now.edition table.now.trip countries.now }
+    requires legs { AreLegsOf table.now.edition table.now.trip (begin_after table.now.trip i) legs.now }
+    requires closing { EndWithin table.now.trip homing.now.closing }
+    requires jaw { EndWithin table.now.trip homing.now.jaw }
+    ensures { (j : ℕ) → IsLeastOf (IsWhole table.now.edition table.now.trip (cell homing.now.closing)
+        (cell homing.now.jaw) i j) (rest_at result j) }
 {
-    let trip = table.trip();
-    let count = trip.count();
+    let count = table.trip().count();
     let mut row = legs.alone;
-    for j in 0..count + 1 {
-        row[j] = whole_to(table, homing, &legs.first, legs.alone[j], a, j);
+    for j in i + 1..count + 1 {
+        row[j] = whole_to(table, countries, homing, legs, i, j);
     }
     row
 }
 
 /// The numbers of a point, by those of the points behind it.
-fn row_at(table: &Table, homing: &Homing, i: usize) -> HomingRow
-    requires { i < count table.now.trip }
-    ensures { AreRowsAt table.now.edition table.now.trip i (cell homing.now.closing) (cell homing.now.jaw)
+fn row_at(
+    table: &Table,
+    countries: &[Option<Country>; MOST_POINTS],
+    homing: &Homing,
+    i: usize,
+) -> HomingRow
+    requires start { i < count table.now.trip }
+    requires countries { AreCountries table.now.edition table.now.trip countries.now }
+    requires closing { EndWithin table.now.trip homing.now.closing }
+    requires jaw { EndWithin table.now.trip homing.now.jaw }
+    ensures { AreHomingsAt table.now.edition table.now.trip i (cell homing.now.closing) (cell homing.now.jaw)
         (rest_at homing.now.rest) (rest_at result.closing) (rest_at result.jaw) (rest_at result.whole) result.rest }
 {
     let trip = table.trip();
-    let _count = trip.count();
-    let a = begin_after(trip, i);
-    let legs = legs(table, a);
-    let whole = wholes_at(table, homing, i, a, &legs);
-    let within = reached(&legs.between, &homing.closing, &legs.last);
-    let closing = reached(&whole, &homing.closing, &within);
-    let jaw = reached(&whole, &homing.jaw, &legs.last);
-    let rest = least_onward(&whole, &homing.rest);
+    let count = trip.count();
+    let legs = legs(table, begin_after(trip, i));
+    let whole = wholes_at(table, countries, homing, &legs, i);
+    let next = lesser_row(&legs.between, &whole);
+    let closing = reached(&next, &homing.closing, &legs.last, i);
+    let jaw = reached(&whole, &homing.jaw, &legs.last, i);
+    let rest = least_onward(&whole, &homing.rest, i, count + 1);
     HomingRow {
         closing,
         jaw,
@@ -142,7 +151,6 @@ fn row_at(table: &Table, homing: &Homing, i: usize) -> HomingRow
 pub fn homing_of(table: &Table) -> Homing
     ensures { AreHomingsOf table.now.edition table.now.trip result }
 {
-    entries_are_of_fares();
     let count = table.trip().count();
     let rows = [[None; MOST_POINTS]; MOST_POINTS];
     let mut rest = [None; MOST_POINTS];
@@ -153,8 +161,9 @@ pub fn homing_of(table: &Table) -> Homing
         whole: rows,
         rest,
     };
+    let countries = countries_of(table);
     for i in (0..count).rev() {
-        let row = row_at(table, &homing, i);
+        let row = row_at(table, &countries, &homing, i);
         let (closing, jaw, whole) = (row.closing, row.jaw, row.whole);
         homing.closing[i] = closing;
         homing.jaw[i] = jaw;

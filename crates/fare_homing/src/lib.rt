@@ -1,7 +1,7 @@
 //! Homing: what the parts behind each point of a trip cost at least until a pricing unit comes home there, since what
 //! begins must also end. No call takes memory.
 //!
-//! - `nearness`: which cities lie near each other;
+//! - `nearness`: which cities lie near each other, and the countries of a trip's points;
 //! - `reaching`: the least by which a point is reached, over steps to the points before it;
 //! - `legs`: what the parts from a point cost at least, by what a part is in its unit;
 //! - `homing`: the numbers of a trip.

@@ -21,7 +21,7 @@ pub use best::plain::{is_fruitless, plain_best};
 pub use best::quoter::{PlainQuoter, Quoter};
 pub use construction::{Construction, MOST_PARTS};
 pub use fare_rules::{Broken, Part, UnitKind, UnitSheet};
-pub use parts::countries::lie_together;
+pub use parts::countries::{country, is_same_country, lie_together};
 pub use parts::direction::{is_back, priced_back};
 pub use parts::places::{part_at, start_of};
 pub use prices::circle::circle_minimum;

@@ -8,7 +8,7 @@ use fare_codes::{City, Country};
 use fare_tariff::Edition;
 
 /// The country of a city.
-fn country(edition: &Edition, city: City) -> Option<Country>
+pub fn country(edition: &Edition, city: City) -> Option<Country>
     ensures { result ≡ country edition.now city }
 {
     match edition.city(city) {
@@ -18,7 +18,7 @@ fn country(edition: &Edition, city: City) -> Option<Country>
 }
 
 /// Whether two countries are there and the same.
-fn is_same_country(a: Option<Country>, b: Option<Country>) -> bool
+pub fn is_same_country(a: Option<Country>, b: Option<Country>) -> bool
     ensures { result ≡ is_same_country a b }
 {
     match (a, b) {

@@ -1,5 +1,6 @@
 use Rattle.std.proofs.Common.{ℕ, Option, subst}
 use Rattle.fare_bounds.specs.Covers.{rest_at}
+use Rattle.fare_homing.proofs.ReachLemmas.{added_up}
 use Rattle.fare_branch.specs.Stack.{IsUnderSum}
 use Rattle.fare_branch.proofs.StackRowLemmas.{until_next}
 use Rattle.fare_branch.proofs.stacking.until_home.Goals as goal
@@ -8,4 +9,4 @@ pub loop-home-preserved : goal.loop-home-preserved
 loop-home-preserved c =
     let P : Option ℕ → Type 0 = λ a. IsUnderSum a (rest_at c.args.homes.now c.loop-home.home) c.added-here.result in
     rw c.lesser-least.ensures
-    (until_next c.args.trip.now c.args.homing.now c.args.from c.args.start c.args.i c.args.homes.now c.loop-home.home c.loop-home.least c.added-here.result c.loop-home.invariant (subst P c.homing_at.ensures c.added-here.ensures))
+    (until_next c.args.trip.now c.args.homing.now c.args.from c.args.start c.args.i c.args.homes.now c.loop-home.home c.loop-home.least c.added-here.result c.loop-home.invariant (subst P c.homing_at.ensures (added_up c.homing_at.result (rest_at c.args.homes.now c.loop-home.home) c.added-here.result c.added-here.ensures)))

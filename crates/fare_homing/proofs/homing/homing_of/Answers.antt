@@ -1,8 +1,6 @@
-use Rattle.std.proofs.Common.{◌≡◌, refl, ◌+◌, ◌-◌, sym, subst, ◌∙◌, ap, arith, length-set, set, replicate}
-use Rattle.std.specs.Prelude.{ℕ, Option, Some, None}
+use Rattle.std.proofs.Common.{◌≡◌, ℕ, refl, ◌+◌, ◌-◌, sym, subst, ◌∙◌, ap, arith, length-set, set, replicate}
+use Rattle.std.specs.Prelude.{Option, Some, None}
 use Rattle.fare_trip.specs.Itinerary.{count}
-use Rattle.fare_bounds.specs.Covers.{rest_at}
-use Rattle.fare_homing.specs.Rows.{cell}
 use Rattle.fare_homing.proofs.HomingRowLemmas.{AreHomingsFrom, homings_whole, put_homings, homings_at_end}
 use Rattle.fare_homing.proofs.homing.homing_of.Goals as goal
 
@@ -11,14 +9,13 @@ loop-i-init c =
     let tariff = c.args.table.now.edition in
     let trip = c.args.table.now.trip in
     let last : c.count-count.result ≡ count trip = c.count-count.ensures.value ∙ ap count c.trip.ensures in
-    let none : ℕ → ℕ → Option ℕ = cell (replicate 17 (replicate 17 None)) in
-    let P : ℕ → Type 0 = λ n. AreHomingsFrom tariff trip n none none none (rest_at (set (replicate 17 None) n (Some 0))) in
+    let P : ℕ → Type 0 = λ n. AreHomingsFrom tariff trip n (replicate 17 (replicate 17 None)) (replicate 17 (replicate 17 None)) (replicate 17 (replicate 17 None)) (set (replicate 17 None) n (Some 0)) in
     record {
       long_closing = refl;
       long_jaw = refl;
       long_whole = refl;
       long_rest = length-set {A = Option ℕ} (replicate 17 None) c.count-count.result (Some 0);
-      known = subst P (sym last) (homings_at_end tariff trip none none none 17 (omega (arith, c.count-count.ensures.at_most)));
+      known = subst P (sym last) (homings_at_end tariff trip 17 (omega (arith, c.count-count.ensures.at_most)));
     }
 
 pub loop-i-preserved : goal.loop-i-preserved
@@ -31,21 +28,19 @@ loop-i-preserved c =
     let place = c.loop-i.i - 1 in
     let next : c.loop-i.i ≡ place + 1 = omega arith in
     let last : c.count-count.result ≡ count trip = c.count-count.ensures.value ∙ ap count c.trip.ensures in
-    let P : ℕ → Type 0 = λ first. AreHomingsFrom tariff trip first (cell homing.closing) (cell homing.jaw) (cell homing.whole) (rest_at homing.rest) in
+    let P : ℕ → Type 0 = λ first. AreHomingsFrom tariff trip first homing.closing homing.jaw homing.whole homing.rest in
     record {
       long_closing = length-set homing.closing place row.closing ∙ long.long_closing;
       long_jaw = length-set homing.jaw place row.jaw ∙ long.long_jaw;
       long_whole = length-set homing.whole place row.whole ∙ long.long_whole;
       long_rest = length-set homing.rest place row.rest ∙ long.long_rest;
-      known = put_homings tariff trip c.entries_are_of_fares.ensures place homing.closing homing.jaw homing.whole homing.rest row.closing row.jaw row.whole row.rest (omega arith)
+      known = put_homings tariff trip place homing.closing homing.jaw homing.whole homing.rest row.closing row.jaw row.whole row.rest
           (omega (arith, long.long_closing)) (omega (arith, long.long_jaw)) (omega (arith, long.long_whole)) (omega (arith, long.long_rest)) (subst P next long.known) c.row_at-row.ensures;
     }
 
 pub returns : goal.returns
 returns c =
-    let tariff = c.args.table.now.edition in
-    let trip = c.args.table.now.trip in
     let homing = c.loop-i.homing in
     let done : c.loop-i.i ≡ 0 = omega arith in
-    let P : ℕ → Type 0 = λ first. AreHomingsFrom tariff trip first (cell homing.closing) (cell homing.jaw) (cell homing.whole) (rest_at homing.rest) in
-    homings_whole tariff trip c.entries_are_of_fares.ensures (cell homing.closing) (cell homing.jaw) (cell homing.whole) (rest_at homing.rest) (subst P done c.loop-i.invariant.known)
+    let P : ℕ → Type 0 = λ first. AreHomingsFrom c.args.table.now.edition c.args.table.now.trip first homing.closing homing.jaw homing.whole homing.rest in
+    homings_whole c.args.table.now.edition c.args.table.now.trip homing.closing homing.jaw homing.whole homing.rest (subst P done c.loop-i.invariant.known)

@@ -1,7 +1,5 @@
 -- the numbers are known from this point on
 use Rattle.std.proofs.Common.{◌≡◌, length}
-use Rattle.fare_bounds.specs.Covers.{rest_at}
-use Rattle.fare_homing.specs.Rows.{cell}
 use Rattle.fare_homing.proofs.HomingRowLemmas.{AreHomingsFrom}
 use Rattle.fare_homing.proofs.homing.homing_of.Given as goal
 
@@ -11,5 +9,5 @@ invariant-loop-i l = record {
   long_jaw : length l.homing.jaw ≡ 17;
   long_whole : length l.homing.whole ≡ 17;
   long_rest : length l.homing.rest ≡ 17;
-  known : AreHomingsFrom l.table.edition l.table.trip l.i (cell l.homing.closing) (cell l.homing.jaw) (cell l.homing.whole) (rest_at l.homing.rest);
+  known : AreHomingsFrom l.table.edition l.table.trip l.i l.homing.closing l.homing.jaw l.homing.whole l.homing.rest;
 }

@@ -1,11 +1,11 @@
-use Rattle.std.proofs.Common.{◌≡◌, ◌≤◌, subst, ◌∙◌, ap, arith}
+use Rattle.std.proofs.Common.{◌≡◌, ◌+◌, ℕ, subst, ◌∙◌, ap}
 use Rattle.fare_trip.specs.Itinerary.{count}
 use Rattle.fare_rules.specs.Construction.{begin_after}
 use Rattle.fare_bounds.specs.Covers.{rest_at}
-use Rattle.fare_homing.specs.declared.legs.Role.TheVariants.{Between, Last}
-use Rattle.fare_homing.specs.Legs.{AreLegs}
+use Rattle.fare_homing.specs.Legs.{AreLegsOf}
+use Rattle.fare_homing.specs.Least.{IsAt, IsLeastOf, IsSum}
 use Rattle.fare_homing.specs.Rows.{cell}
-use Rattle.fare_homing.proofs.HomingRowLemmas.{rows_are}
+use Rattle.fare_homing.proofs.HomingRowLemmas.{onward_within, rows_are}
 use Rattle.fare_homing.proofs.homing.row_at.Goals as goal
 
 pub returns : goal.returns
@@ -14,11 +14,10 @@ returns c =
     let tariff = c.args.table.now.edition in
     let trip = c.args.table.now.trip in
     let last : c.count-count.result ≡ count trip = c.count-count.ensures.value ∙ ap count c.trip-trip.ensures in
-    let few : count trip ≤ 16 = omega (arith, c.count-count.ensures.at_most) in
-    let start : c.begin_after-a.result ≡ begin_after trip c.args.i = c.begin_after-a.ensures.value ∙ ap (λ t. begin_after t c.args.i) c.trip-trip.ensures in
-    rows_are tariff trip c.args.i few (cell homing.closing) (cell homing.jaw) (rest_at homing.rest) c.legs-legs.result.between c.legs-legs.result.last c.wholes_at-whole.result c.reached-within.result c.reached-closing.result c.reached-jaw.result c.least_onward-rest.result
-    (subst (λ a. AreLegs tariff trip a Between c.legs-legs.result.between) start c.legs-legs.ensures.between)
-    (subst (λ a. AreLegs tariff trip a Last c.legs-legs.result.last) start c.legs-legs.ensures.last)
-    c.wholes_at-whole.ensures
-    c.reached-within.ensures.last c.reached-within.ensures.steps c.reached-closing.ensures.last c.reached-closing.ensures.steps
-    c.reached-jaw.ensures.last c.reached-jaw.ensures.steps c.least_onward-rest.ensures
+    let start : c.begin_after.result ≡ begin_after trip c.args.i = c.begin_after.ensures.value ∙ ap (λ t. begin_after t c.args.i) c.trip-trip.ensures in
+    let legs : AreLegsOf tariff trip (begin_after trip c.args.i) c.legs-legs.result = subst (λ a. AreLegsOf tariff trip a c.legs-legs.result) start c.legs-legs.ensures in
+    let P : ℕ → Type 0 = λ past. IsLeastOf (IsSum (IsAt (rest_at c.wholes_at-whole.result)) (rest_at homing.rest) c.args.i past) c.least_onward-rest.result in
+    rows_are tariff trip c.args.i (cell homing.closing) (cell homing.jaw) (rest_at homing.rest) (rest_at c.reached-closing.result) (rest_at c.reached-jaw.result) (rest_at c.wholes_at-whole.result)
+    (rest_at c.legs-legs.result.between) (rest_at c.legs-legs.result.last) (rest_at c.lesser_row-next.result) c.least_onward-rest.result
+    legs.between legs.last c.wholes_at-whole.ensures c.lesser_row-next.ensures c.reached-closing.ensures c.reached-jaw.ensures
+    (onward_within tariff trip c.args.i (rest_at homing.rest) (rest_at c.wholes_at-whole.result) c.least_onward-rest.result c.requires.start (subst P (ap (λ n. n + 1) last) c.least_onward-rest.ensures))

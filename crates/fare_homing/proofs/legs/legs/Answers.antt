@@ -1,39 +1,57 @@
-use Rattle.std.proofs.Common.{◌≡◌, ℕ, ◌<◌, List, subst, ◌∙◌, ap, arith, length-set}
-use Rattle.std.specs.Prelude.{Option, Contains}
+use Rattle.std.proofs.Common.{◌≡◌, refl, ◌<◌, List, subst, ◌∙◌, ap, arith, length-set}
 use Rattle.fare_trip.specs.Itinerary.{count}
 use Rattle.fare_component.specs.declared.table.entry.Entry.{Entry}
+use Rattle.fare_homing.specs.Homing.{single_cost, first_cost, between_cost, back_cost}
+use Rattle.fare_homing.specs.Legs.{AreLeastOf}
+use Rattle.fare_homing.proofs.LegLemmas.{between_least, legs_all, legs_first, legs_more}
 use Rattle.fare_component.specs.Table.{entries_of}
-use Rattle.fare_homing.specs.declared.legs.Role.{Role}
-use Rattle.fare_homing.specs.declared.legs.Role.TheVariants.{Alone, First, Between, Last}
-use Rattle.fare_homing.specs.Legs.{AreUnderEach, IsUnderEach}
-use Rattle.fare_homing.proofs.ReachLemmas.{row_more}
 use Rattle.fare_homing.proofs.legs.legs.Goals as goal
+
+pub loop-b-init : goal.loop-b-init
+loop-b-init c =
+    let tariff = c.args.table.now.edition in
+    let trip = c.args.table.now.trip in
+    record {
+      long_alone = refl;
+      alone = legs_first tariff trip single_cost c.args.a 17;
+      long_first = refl;
+      first = legs_first tariff trip first_cost c.args.a 17;
+      long_between = refl;
+      between = legs_first tariff trip between_cost c.args.a 17;
+      long_last = refl;
+      last = legs_first tariff trip back_cost c.args.a 17;
+    }
 
 pub loop-b-preserved : goal.loop-b-preserved
 loop-b-preserved c =
-    let P : Role → ℕ → Option ℕ → Type 0 = λ role b least. IsUnderEach role (entries_of c.args.table.now.edition c.args.table.now.trip c.args.a b) least in
-    let Q : List Entry → Type 0 = λ entries. AreUnderEach entries c.cheapest-least.result in
-    let under : AreUnderEach (entries_of c.args.table.now.edition c.args.table.now.trip c.args.a c.loop-b.b) c.cheapest-least.result = subst Q c.entries.ensures.entries c.cheapest-least.ensures in
+    let tariff = c.args.table.now.edition in
+    let trip = c.args.table.now.trip in
+    let legs = c.loop-b.legs in
+    let known = c.loop-b.invariant in
+    let P : List Entry → Type 0 = λ entries. AreLeastOf entries c.cheapest-least.result in
+    let least : AreLeastOf (entries_of tariff trip c.args.a c.loop-b.b) c.cheapest-least.result = subst P c.entries.ensures.entries c.cheapest-least.ensures in
     record {
-      long_alone = length-set c.loop-b.legs.alone c.loop-b.b c.cheapest-least.result.alone ∙ c.loop-b.invariant.long_alone;
-      alone = row_more (P Alone) c.loop-b.legs.alone c.loop-b.b c.cheapest-least.result.alone (omega (arith, c.loop-b.invariant.long_alone)) c.loop-b.invariant.alone under.alone;
-      long_first = length-set c.loop-b.legs.first c.loop-b.b c.cheapest-least.result.first ∙ c.loop-b.invariant.long_first;
-      first = row_more (P First) c.loop-b.legs.first c.loop-b.b c.cheapest-least.result.first (omega (arith, c.loop-b.invariant.long_first)) c.loop-b.invariant.first under.first;
-      long_between = length-set c.loop-b.legs.between c.loop-b.b c.cheapest-least.result.between ∙ c.loop-b.invariant.long_between;
-      between = row_more (P Between) c.loop-b.legs.between c.loop-b.b c.cheapest-least.result.between (omega (arith, c.loop-b.invariant.long_between)) c.loop-b.invariant.between under.between;
-      long_last = length-set c.loop-b.legs.last c.loop-b.b c.cheapest-least.result.last ∙ c.loop-b.invariant.long_last;
-      last = row_more (P Last) c.loop-b.legs.last c.loop-b.b c.cheapest-least.result.last (omega (arith, c.loop-b.invariant.long_last)) c.loop-b.invariant.last under.last;
+      long_alone = length-set legs.alone c.loop-b.b c.cheapest-least.result.alone ∙ known.long_alone;
+      alone = legs_more tariff trip single_cost c.args.a c.loop-b.b legs.alone c.cheapest-least.result.alone (omega (arith, known.long_alone)) known.alone least.alone;
+      long_first = length-set legs.first c.loop-b.b c.cheapest-least.result.first ∙ known.long_first;
+      first = legs_more tariff trip first_cost c.args.a c.loop-b.b legs.first c.cheapest-least.result.first (omega (arith, known.long_first)) known.first least.first;
+      long_between = length-set legs.between c.loop-b.b c.lesser.result ∙ known.long_between;
+      between = legs_more tariff trip between_cost c.args.a c.loop-b.b legs.between c.lesser.result (omega (arith, known.long_between)) known.between
+          (rw c.lesser.ensures (between_least (entries_of tariff trip c.args.a c.loop-b.b) c.cheapest-least.result.first c.cheapest-least.result.last least.first least.last));
+      long_last = length-set legs.last c.loop-b.b c.cheapest-least.result.last ∙ known.long_last;
+      last = legs_more tariff trip back_cost c.args.a c.loop-b.b legs.last c.cheapest-least.result.last (omega (arith, known.long_last)) known.last least.last;
     }
 
 pub returns : goal.returns
 returns c =
-    let last : c.count-count.result ≡ count c.args.table.now.trip = c.count-count.ensures.value ∙ ap count c.trip.ensures in
-    let before : (b : ℕ) (entry : Entry) → Contains (entries_of c.args.table.now.edition c.args.table.now.trip c.args.a b) entry → b < c.loop-b.b = λ b entry there.
-    let is = c.entries_are_of_fares.ensures c.args.table.now.edition c.args.table.now.trip c.args.a b entry there in
-    omega (arith, is.within) in
+    let tariff = c.args.table.now.edition in
+    let trip = c.args.table.now.trip in
+    let legs = c.loop-b.legs in
+    let last : c.count-count.result ≡ count trip = c.count-count.ensures.value ∙ ap count c.trip.ensures in
+    let past : count trip < c.loop-b.b = omega arith in
     record {
-      alone = λ b entry cost there e. c.loop-b.invariant.alone b (before b entry there) entry cost there e;
-      first = λ b entry cost there e. c.loop-b.invariant.first b (before b entry there) entry cost there e;
-      between = λ b entry cost there e. c.loop-b.invariant.between b (before b entry there) entry cost there e;
-      last = λ b entry cost there e. c.loop-b.invariant.last b (before b entry there) entry cost there e;
+      alone = legs_all tariff trip single_cost c.args.a c.loop-b.b legs.alone past c.loop-b.invariant.alone;
+      first = legs_all tariff trip first_cost c.args.a c.loop-b.b legs.first past c.loop-b.invariant.first;
+      between = legs_all tariff trip between_cost c.args.a c.loop-b.b legs.between past c.loop-b.invariant.between;
+      last = legs_all tariff trip back_cost c.args.a c.loop-b.b legs.last past c.loop-b.invariant.last;
     }

@@ -1,19 +1,17 @@
 -- the numbers are known of the parts that end before this point
-use Rattle.std.proofs.Common.{◌≡◌, ℕ, ◌<◌, length}
-use Rattle.fare_component.specs.Table.{entries_of}
-use Rattle.fare_bounds.specs.Covers.{rest_at}
-use Rattle.fare_homing.specs.declared.legs.Role.TheVariants.{Alone, First, Between, Last}
-use Rattle.fare_homing.specs.Legs.{IsUnderEach}
+use Rattle.std.proofs.Common.{◌≡◌, length}
+use Rattle.fare_homing.specs.Homing.{single_cost, first_cost, between_cost, back_cost}
+use Rattle.fare_homing.proofs.LegLemmas.{AreLegsBefore}
 use Rattle.fare_homing.proofs.legs.legs.Given as goal
 
 abbrev pub invariant-loop-b : goal.invariant-loop-b
 invariant-loop-b l = record {
   long_alone : length l.legs.alone ≡ 17;
-  alone : (b : ℕ) → b < l.b → IsUnderEach Alone (entries_of l.table.edition l.table.trip l.a b) (rest_at l.legs.alone b);
+  alone : AreLegsBefore l.table.edition l.table.trip single_cost l.a l.b l.legs.alone;
   long_first : length l.legs.first ≡ 17;
-  first : (b : ℕ) → b < l.b → IsUnderEach First (entries_of l.table.edition l.table.trip l.a b) (rest_at l.legs.first b);
+  first : AreLegsBefore l.table.edition l.table.trip first_cost l.a l.b l.legs.first;
   long_between : length l.legs.between ≡ 17;
-  between : (b : ℕ) → b < l.b → IsUnderEach Between (entries_of l.table.edition l.table.trip l.a b) (rest_at l.legs.between b);
+  between : AreLegsBefore l.table.edition l.table.trip between_cost l.a l.b l.legs.between;
   long_last : length l.legs.last ≡ 17;
-  last : (b : ℕ) → b < l.b → IsUnderEach Last (entries_of l.table.edition l.table.trip l.a b) (rest_at l.legs.last b);
+  last : AreLegsBefore l.table.edition l.table.trip back_cost l.a l.b l.legs.last;
 }
