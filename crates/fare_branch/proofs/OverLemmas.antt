@@ -4,14 +4,16 @@ use Rattle.std.specs.Prelude.{Option, Some, Contains, sum_by, bytes_eq}
 use Rattle.std.specs.List.{range_with_len, list_any}
 use Rattle.std.proofs.Math.ListN.{length-append}
 use Rattle.std.proofs.lemmas.Bool.{cases_Bool, cases_lt, cases_eq, and_parts, leb-true, lt-leb, or_parts}
+use Rattle.std.proofs.lemmas.Slice.Eq.{bytes_eq-Decides}
 use Rattle.std.proofs.lemmas.List.Sums.{sum_by-cons}
 use Rattle.fare_trip.specs.Itinerary.{Itinerary, count, point}
 use Rattle.fare_tariff.specs.Tariff.{Tariff}
 use Rattle.fare_rules.specs.declared.part.Part.{Part}
 use Rattle.fare_rules.specs.Span.{is_surface, sectors}
-use Rattle.fare_rules.specs.Construction.{begin_after, start_of, end_of, places, own, unit_of, first_of, last_of, greatest_unit}
+use Rattle.fare_rules.specs.Construction.{begin_after, start_of, end_of, places, own, origin, unit_of, first_of, last_of, but_last, greatest_unit}
 use Rattle.fare_rules.specs.Lawful.{holds_gap}
-use Rattle.fare_rules.specs.Shape.{is_ow, holds_ow, is_jaw, comes_home, comes_home_early, ends_at_home, lie_together}
+use Rattle.fare_rules.specs.Shape.{is_ow, holds_ow, is_jaw, ends_in, comes_home, comes_home_early, ends_at_home, lie_together}
+use Rattle.fare_rules.proofs.MemberLemmas.{Member}
 use Rattle.fare_rules.specs.Best.{IsLawful}
 use Rattle.fare_rules.proofs.AmountLemmas.{fails_not}
 use Rattle.fare_rules.proofs.CoverLemmas.{begins_later, same_end}
@@ -30,7 +32,7 @@ use Rattle.fare_branch.specs.Stack.{goes_on, IsOver}
 use Rattle.fare_homing.proofs.ReachLemmas.{up_more}
 use Rattle.fare_homing.proofs.UnderLemmas.{alone_under, between_under, first_under, last_closes_under, last_jaw_under, nothing_left}
 use Rattle.fare_branch.proofs.StackLemmas.{true_cost, home_at, begins_at, over_more, over_same, over_down, over_up, Opens, opens, from_open, step_over}
-use Rattle.fare_branch.proofs.ShutLemmas.{any_at}
+use Rattle.fare_branch.proofs.ShutLemmas.{any_at, long_ends_at_home}
 use Rattle.fare_branch.proofs.SumLemmas.{greatest_fewer, unit_up_to}
 use Rattle.fare_branch.proofs.TrueCostLemmas.{entry, entry_there, alone_cost, first_costs, back_costs, between_costs}
 
@@ -73,7 +75,25 @@ two_or_more trip parts xs h =
     let most = and_parts (leb 2 (length xs) && comes_home trip parts xs) (not (comes_home_early trip parts xs)) h in
     leb-true 2 (length xs) (and_parts (leb 2 (length xs)) (comes_home trip parts xs) most.0).0
 
+-- each place of a unit but its last is an earlier one
+earlier_place : (k : ℕ) (xs : List ℕ) → Member k xs → k < last_of xs → Member k (but_last xs)
+earlier_place k [] m less = m
+earlier_place k (x ∷ []) (inl e) less = absurd (omega arith)
+earlier_place k (x ∷ []) (inr m) less = absurd m
+earlier_place k (x ∷ y ∷ ys) (inl e) less = inl e
+earlier_place k (x ∷ y ∷ ys) (inr m) less = inr (earlier_place k (y ∷ ys) m less)
+
 module _ (tariff : Tariff) (trip : Itinerary) (parts : List Part) (price : ℕ) (lawful : IsLawful tariff trip parts price) where
+  -- an earlier part of a unit of three parts or more ends elsewhere than where the unit comes home
+  ends_apart : (unit k : ℕ) → 1 ≤ unit → unit ≤ greatest_unit parts (places parts) → 3 ≤ length (own parts unit) → Member k (own parts unit) → k < last_of (own parts unit)
+      → is_same_city trip (begins_at trip parts unit) (home_at parts unit) ≡ true → is_same_city trip (home_at parts unit) (end_of parts k) ≡ false
+  ends_apart unit k low high long there less city =
+      let never : comes_home_early trip parts (own parts unit) ≡ false = long_ends_at_home tariff trip parts price unit lawful low high long in
+      let ends : ℕ → Bool = ends_in trip parts (origin trip parts (own parts unit)) in
+      let apart : ends k ≡ false = not_so (ends k) (λ t. true_false (sym (any_at ends k (but_last (own parts unit)) (earlier_place k (own parts unit) there less) t) ∙ never)) in
+      let same : point trip (home_at parts unit) ≡ point trip (begins_at trip parts unit) = (bytes_eq-Decides (point trip (home_at parts unit)) (point trip (begins_at trip parts unit))).0 city in
+      ap (bytes_eq (point trip (end_of parts k))) same ∙ apart
+
   -- the trip begins in the air
   flown : 1 ≤ length parts → is_surface trip 1 ≡ false
   flown some =
@@ -335,7 +355,7 @@ module _ (tariff : Tariff) (trip : Itinerary) (parts : List Part) (price : ℕ) 
             let cost = between_costs tariff trip parts price lawful (k + 1) (omega arith) high way in
             let low_cost : cost.0 ≤ true_cost tariff trip parts (k + 1) = cost.2 in
             let low_homing : closes.0 ≤ c.0 = closes.2 in
-            let up : IsUpTo (true_cost tariff trip parts (k + 1) + c.0) (closing (point_behind parts k) (home_at parts (unit_of parts (k + 1)))) = up_more (cost.0 + closes.0) (true_cost tariff trip parts (k + 1) + c.0) (closing (point_behind parts k) (home_at parts (unit_of parts (k + 1)))) (omega arith) (between_under are (point_behind parts k) (end_of parts (k + 1)) (home_at parts (unit_of parts (k + 1))) (entry tariff trip parts price lawful (k + 1)) cost.0 closes.0 contained cost.1 h.0 closes.1) in
+            let up : IsUpTo (true_cost tariff trip parts (k + 1) + c.0) (closing (point_behind parts k) (home_at parts (unit_of parts (k + 1)))) = up_more (cost.0 + closes.0) (true_cost tariff trip parts (k + 1) + c.0) (closing (point_behind parts k) (home_at parts (unit_of parts (k + 1)))) (omega arith) (between_under are (point_behind parts k) (end_of parts (k + 1)) (home_at parts (unit_of parts (k + 1))) (entry tariff trip parts price lawful (k + 1)) cost.0 closes.0 contained cost.1 h.0 (ends_apart (unit_of parts (k + 1)) (k + 1) mine_low mine_high long (own_has tariff trip parts price lawful (k + 1) (omega arith) high) less city) closes.1) in
             let here : goes_on parts k (unit_of parts (k + 1)) ≡ true = goes_on_from parts k (unit_of parts (k + 1)) (omega arith) (omega arith) in
             let o : Stands k (unit_of parts (k + 1)) (point_behind parts k) ((true_cost tariff trip parts (k + 1) + c.0) + c.1) = from_open trip closing jaw left parts k (unit_of parts (k + 1)) (point_behind parts k) (true_cost tariff trip parts (k + 1) + c.0) c.1 mine_low here (from_city (begins_at trip parts (unit_of parts (k + 1))) (point_behind parts k) (home_at parts (unit_of parts (k + 1))) (true_cost tariff trip parts (k + 1) + c.0) city up) (under_same (home_at parts (unit_of parts (k + 1))) c.1 c.4) in
             let m : Stands k (greatest_unit parts (places parts)) (point_behind parts k) ((true_cost tariff trip parts (k + 1) + c.0) + c.1) = over_up trip closing jaw left parts k (unit_of parts (k + 1)) (greatest_unit parts (places parts)) (point_behind parts k) ((true_cost tariff trip parts (k + 1) + c.0) + c.1) mine_high (λ v low most. above_not v low) o in

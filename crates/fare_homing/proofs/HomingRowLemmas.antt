@@ -13,12 +13,12 @@ use Rattle.fare_rules.specs.Shape.{is_same_country, lie_together}
 use Rattle.fare_rules.proofs.CoverLemmas.{begins_later}
 use Rattle.fare_component.specs.declared.table.entry.Entry.{Entry}
 use Rattle.fare_component.proofs.LawLemmas.{entry_is_of_fare}
-use Rattle.fare_bounds.specs.Covers.{lesser, rest_at}
+use Rattle.fare_bounds.specs.Covers.{rest_at}
 use Rattle.fare_homing.specs.Homing.{single_cost, first_cost, between_cost, back_cost, is_same_city, may_end_at, homing_at}
-use Rattle.fare_homing.specs.HomingRows.{AreHomings, AreHomingsAt, IsClosing, IsJaw, IsNext, IsOnward, IsPart, IsWhole}
+use Rattle.fare_homing.specs.HomingRows.{AreHomings, AreHomingsAt, behind_between, IsClosing, IsJaw, IsOnward, IsPart, IsWhole}
 use Rattle.fare_homing.specs.Least.{IsAt, IsLeastOf, IsReached, IsSum}
 use Rattle.fare_homing.specs.Rows.{cell, AreCountries, EndWithin}
-use Rattle.fare_homing.proofs.LeastLemmas.{least_both, least_none, least_one, least_same, reached_by, sum_same}
+use Rattle.fare_homing.proofs.LeastLemmas.{least_none, least_one, least_same, reached_by, sum_same}
 
 pub none_at : {A : Type 0} (n i : ℕ) → slice_index_or {A = Option A} (replicate n None) i None ≡ None
 none_at zero i = refl
@@ -44,6 +44,11 @@ homing_within trip closing jaw closes ends a b j number e =
       | inl t ↦ closes b j number (rw t at e)
       | inr f ↦ ends b j number (rw f at e)
     ]
+
+-- what is behind a part between is what is behind the point where it ends
+pub behind_part : (trip : Itinerary) (behind : ℕ → Option ℕ) (b j number : ℕ) → behind_between trip behind b j ≡ Some number → behind j ≡ Some number
+behind_part trip behind b j number e =
+    elim (cases_Bool (is_same_city trip j b)) [ inl t ↦ absurd (none-some number (rw t at e)) | inr f ↦ rw f at e ]
 
 -- whether two points of a trip lie in one country, by what is read among the countries of its points
 pub lie_at : (tariff : Tariff) (trip : Itinerary) (countries : List (Option Country)) (start home : ℕ) (there here : Option Country) → AreCountries tariff trip countries
@@ -83,17 +88,17 @@ module _ (tariff : Tariff) (trip : Itinerary) where
         (λ n h. elim h [ inl part ↦ part | inr s ↦ absurd (both_ways (may_end_at tariff trip (begin_after trip i) j) may s.0) ]) one
 
     -- the numbers of a point, each by the least of its parts and of the whole units that come first
-    pub rows_are : (closings jaws : ℕ → ℕ → Option ℕ) (rests closing jaw whole between last next : ℕ → Option ℕ) (rest : Option ℕ)
+    pub rows_are : (closings jaws : ℕ → ℕ → Option ℕ) (rests closing jaw whole between last within : ℕ → Option ℕ) (rest : Option ℕ)
         → ((j : ℕ) → IsLeastOf (IsPart tariff trip between_cost (begin_after trip i) j) (between j)) → ((j : ℕ) → IsLeastOf (IsPart tariff trip back_cost (begin_after trip i) j) (last j))
-        → ((j : ℕ) → IsLeastOf (IsWhole tariff trip closings jaws i j) (whole j)) → ((j : ℕ) → next j ≡ lesser (between j) (whole j))
-        → ((j : ℕ) → IsLeastOf (IsReached (last j) next (λ b. closings b j) i j) (closing j))
+        → ((j : ℕ) → IsLeastOf (IsWhole tariff trip closings jaws i j) (whole j))
+        → ((j : ℕ) → IsLeastOf (IsReached (last j) between (λ b. behind_between trip (closings b) b j) i j) (within j)) → ((j : ℕ) → IsLeastOf (IsReached (within j) whole (λ b. closings b j) i j) (closing j))
         → ((j : ℕ) → IsLeastOf (IsReached (last j) whole (λ b. jaws b j) i j) (jaw j)) → IsLeastOf (IsOnward trip rests whole i) rest
         → AreHomingsAt tariff trip i closings jaws rests closing jaw whole rest
-    rows_are closings jaws rests closing jaw whole between last next rest betweens lasts wholes nexts closes ends onward = record {
+    rows_are closings jaws rests closing jaw whole between last within rest betweens lasts wholes withins closes ends onward = record {
       wholes = wholes;
-      closes = λ j. reached_by (IsPart tariff trip back_cost (begin_after trip i) j) (IsNext tariff trip whole i) (last j) next (λ b. closings b j) i j (closing j) (lasts j)
-          (λ b. subst (IsLeastOf (IsNext tariff trip whole i b)) (sym (nexts b)) (least_both (IsPart tariff trip between_cost (begin_after trip i) b) (IsAt whole b) (between b) (whole b) (betweens b) (least_one (whole b))))
-          (closes j);
+      closes = λ j. reached_by (λ n. IsPart tariff trip back_cost (begin_after trip i) j n ⊎ IsSum (IsPart tariff trip between_cost (begin_after trip i)) (λ b. behind_between trip (closings b) b j) i j n) (IsAt whole) (within j) whole (λ b. closings b j) i j (closing j)
+          (reached_by (IsPart tariff trip back_cost (begin_after trip i) j) (IsPart tariff trip between_cost (begin_after trip i)) (last j) between (λ b. behind_between trip (closings b) b j) i j (within j) (lasts j) betweens (withins j))
+          (λ b. least_one (whole b)) (closes j);
       ends = λ j. reached_by (IsPart tariff trip back_cost (begin_after trip i) j) (IsAt whole) (last j) whole (λ b. jaws b j) i j (jaw j) (lasts j) (λ b. least_one (whole b)) (ends j);
       onward = onward;
     }
@@ -109,7 +114,7 @@ module _ (tariff : Tariff) (trip : Itinerary) where
         → ((j : ℕ) → IsLeastOf (IsClosing tariff trip closings whole i j) (closing j)) → (j n : ℕ) → closing j ≡ Some n → j ≤ count trip
     closes_within closings whole closing within known j n e =
         elim ((known j).reached n e) [
-          | inl last ↦ (part_after back_cost i j n last).1
+          | inl part ↦ elim part [ inl last ↦ (part_after back_cost i j n last).1 | inr s ↦ within s.end j s.rest (behind_part trip (closings s.end) s.end j s.rest s.later) ]
           | inr s ↦ within s.end j s.rest s.later
         ]
 
@@ -134,8 +139,8 @@ module _ (tariff : Tariff) (trip : Itinerary) where
           (λ n h. elim h [ inl part ↦ no_part past single_cost j n part | inr s ↦ no_part past first_cost s.1.end s.1.cost s.1.steps ]));
       closes = λ j. subst (IsLeastOf (IsClosing tariff trip closings whole i j)) (sym (no_closing j)) (least_none (IsClosing tariff trip closings whole i j)
           (λ n h. elim h [
-            | inl last ↦ no_part past back_cost j n last
-            | inr s ↦ elim s.steps [ inl part ↦ no_part past between_cost s.end s.cost part | inr unit ↦ none-some s.cost (sym (no_whole s.end) ∙ unit) ]
+            | inl part ↦ elim part [ inl last ↦ no_part past back_cost j n last | inr s ↦ no_part past between_cost s.end s.cost s.steps ]
+            | inr s ↦ no_unit (λ b. closings b j) j n s
           ]));
       ends = λ j. subst (IsLeastOf (IsJaw tariff trip jaws whole i j)) (sym (no_jaw j)) (least_none (IsJaw tariff trip jaws whole i j)
           (λ n h. elim h [ inl last ↦ no_part past back_cost j n last | inr s ↦ no_unit (λ b. jaws b j) j n s ]));
@@ -164,9 +169,12 @@ module _ (tariff : Tariff) (trip : Itinerary) where
 
       closing_on : (j n : ℕ) → IsClosing tariff trip closings whole i j n → IsClosing tariff trip new_closings new_whole i j n
       closing_on j n h = elim h [
-        | inl last ↦ inl last
-        | inr s ↦ inr (sum_same (IsNext tariff trip whole i) (IsNext tariff trip new_whole i) (λ b. closings b j) (λ b. new_closings b j) i j n
-            (λ b x next. elim next [ inl part ↦ inl part | inr unit ↦ inr (w b ∙ unit) ]) (λ b past. cs b j past) s)
+        | inl part ↦ elim part [
+          | inl last ↦ inl (inl last)
+          | inr s ↦ inl (inr (sum_same (IsPart tariff trip between_cost (begin_after trip i)) (IsPart tariff trip between_cost (begin_after trip i)) (λ b. behind_between trip (closings b) b j) (λ b. behind_between trip (new_closings b) b j) i j n (λ b x step. step)
+              (λ b past. rw (cs b j past) refl) s))
+        ]
+        | inr s ↦ inr (unit_on (λ b. closings b j) (λ b. new_closings b j) j n (λ b past. cs b j past) s)
       ]
 
       jaw_on : (j n : ℕ) → IsJaw tariff trip jaws whole i j n → IsJaw tariff trip new_jaws new_whole i j n

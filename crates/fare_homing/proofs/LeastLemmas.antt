@@ -205,9 +205,9 @@ module _ (last steps : List (Option ℕ)) (later : ℕ → ℕ → Option ℕ) (
         | inr not_less ↦ subst P (omega arith) (known j)
       ]
 
-  pub row_all : (past : ℕ) (row : List (Option ℕ)) → 17 ≤ past → ((k j n : ℕ) → later k j ≡ Some n → j < 17) → AreReached last steps later i past row
+  pub row_all : (past : ℕ) (row : List (Option ℕ)) → ((k j n : ℕ) → later k j ≡ Some n → j ≤ past) → AreReached last steps later i past row
       → (j : ℕ) → IsLeastOf (IsReached (rest_at last j) (rest_at steps) (λ b. later b j) i j) (rest_at row j)
-  row_all past row high within known j =
+  row_all past row within known j =
       least_same (IsReached (rest_at last j) (rest_at steps) (λ b. later b j) i (min past j)) (IsReached (rest_at last j) (rest_at steps) (λ b. later b j) i j) (rest_at row j)
       (λ n h. elim h [ inl e ↦ inl e | inr s ↦ inr (sum_to (IsAt (rest_at steps)) (λ b. later b j) i (min past j) j n s (omega (arith, s.within, within s.end j s.rest s.later))) ])
       (λ n h. elim h [ inl e ↦ inl e | inr s ↦ inr (sum_to (IsAt (rest_at steps)) (λ b. later b j) i j (min past j) n s (omega (arith, s.within, within s.end j s.rest s.later))) ])

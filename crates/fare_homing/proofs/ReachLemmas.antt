@@ -1,8 +1,7 @@
 -- The lesser and the sum of two amounts, and the numbers of a row.
 use Rattle.std.proofs.Common.{◌≡◌, refl, ℕ, ◌+◌, ◌<◌, ◌≤◌, ◌⊎◌, min, List, length, set, sym, subst, ◌∙◌, ap, inl, inr, arith, get_or}
 use Rattle.std.specs.Prelude.{Option, Some, None}
-use Rattle.std.proofs.lemmas.Bool.{cases_eq, cases_lt}
-use Rattle.std.proofs.Math.ListN.{get_or-eq_default}
+use Rattle.std.proofs.lemmas.Bool.{cases_eq}
 use Rattle.std.proofs.lemmas.Option.{none-some, same_Some}
 use Rattle.std.proofs.lemmas.List.{get_or-set_same, get_or-set_other}
 use Rattle.fare_bounds.specs.Covers.{lesser, rest_at}
@@ -75,39 +74,27 @@ row_put Before After row p number within before goes here j =
       | inr other ↦ subst (After j) (sym (get_or-set_other row p j number None other)) (goes j (rest_at row j) other (before j))
     ]
 
--- the numbers of a row from a point to before another are lowered to others
-pub record AreLowered (old : List (Option ℕ)) (new : ℕ → Option ℕ) (low past : ℕ) (row : List (Option ℕ)) : Type 0 where
-  pub lowered : (j : ℕ) → low ≤ j → j < past → rest_at row j ≡ lesser (rest_at old j) (new j)
-  pub others : (j : ℕ) → (j < low) ⊎ (past ≤ j) → rest_at row j ≡ rest_at old j
+-- the numbers of a row past a point, and before another, are lowered to a step with what is behind it
+pub record AreLowered (old : List (Option ℕ)) (step : ℕ) (behind : List (Option ℕ)) (b past : ℕ) (row : List (Option ℕ)) : Type 0 where
+  pub lowered : (j : ℕ) → b < j → j < past → rest_at row j ≡ lesser (rest_at old j) (added (Some step) (rest_at behind j))
+  pub others : (j : ℕ) → (j ≤ b) ⊎ (past ≤ j) → rest_at row j ≡ rest_at old j
 
-module _ (old : List (Option ℕ)) (new : ℕ → Option ℕ) (low : ℕ) where
-  pub lower_first : AreLowered old new low low old
-  lower_first = record { lowered = λ j from to. absurd (omega arith); others = λ j other. refl }
+module _ (old : List (Option ℕ)) (step : ℕ) (behind : List (Option ℕ)) (b : ℕ) where
+  pub lower_first : AreLowered old step behind b (b + 1) old
+  lower_first = record { lowered = λ j low high. absurd (omega arith); others = λ j other. refl }
 
-  pub lower_more : (p : ℕ) (row : List (Option ℕ)) (number : Option ℕ) → p < length row → low ≤ p → number ≡ lesser (rest_at row p) (new p)
-      → AreLowered old new low p row → AreLowered old new low (p + 1) (set row p number)
-  lower_more p row number within from is known = record {
-    lowered = λ j low_j high. elim (cases_eq j p) [
+  pub lower_more : (p : ℕ) (row : List (Option ℕ)) (number : Option ℕ) → p < length row → b < p → number ≡ lesser (rest_at row p) (added (Some step) (rest_at behind p))
+      → AreLowered old step behind b p row → AreLowered old step behind b (p + 1) (set row p number)
+  lower_more p row number within past is known = record {
+    lowered = λ j low high. elim (cases_eq j p) [
       | inl same ↦
-          let P : ℕ → Type 0 = λ k. rest_at (set row p number) k ≡ lesser (rest_at old k) (new k) in
-          subst P (sym same) (get_or-set_same row p number None within ∙ is ∙ ap (λ x. lesser x (new p)) (known.others p (inr (omega arith))))
-      | inr other ↦ get_or-set_other row p j number None other ∙ known.lowered j low_j (omega arith)
+          let P : ℕ → Type 0 = λ k. rest_at (set row p number) k ≡ lesser (rest_at old k) (added (Some step) (rest_at behind k)) in
+          subst P (sym same) (get_or-set_same row p number None within ∙ is ∙ ap (λ x. lesser x (added (Some step) (rest_at behind p))) (known.others p (inr (omega arith))))
+      | inr other ↦ get_or-set_other row p j number None other ∙ known.lowered j low (omega arith)
     ];
-    others = λ j other. get_or-set_other row p j number None (apart j other) ∙ known.others j (elim other [ inl below ↦ inl below | inr high ↦ inr (omega arith) ]);
+    others = λ j other. get_or-set_other row p j number None (apart j other) ∙ known.others j (elim other [ inl low ↦ inl low | inr high ↦ inr (omega arith) ]);
   }
     where
-      apart : (j : ℕ) → (j < low) ⊎ (p + 1 ≤ j) → j ≡ p → ⊥
-      apart j (inl below) same = omega arith
+      apart : (j : ℕ) → (j ≤ b) ⊎ (p + 1 ≤ j) → j ≡ p → ⊥
+      apart j (inl low) same = omega arith
       apart j (inr high) same = omega arith
-
--- the lesser of the numbers of two rows at each point, past their ends too
-pub lesser_at : (first second row : List (Option ℕ)) (n j : ℕ) → length first ≤ n → length second ≤ n → AreLowered first (rest_at second) 0 n row
-    → rest_at row j ≡ lesser (rest_at first j) (rest_at second j)
-lesser_at first second row n j few more known =
-    elim (cases_lt j n) [
-      | inl less ↦ known.lowered j (omega arith) less
-      | inr past ↦
-          let none : rest_at first j ≡ None = get_or-eq_default first None (omega arith) in
-          let nor : rest_at second j ≡ None = get_or-eq_default second None (omega arith) in
-          known.others j (inr past) ∙ none ∙ sym (rw (none, nor) refl)
-    ]

@@ -1,13 +1,13 @@
 -- The numbers of homing are no more than what each next part costs, with what is then behind it.
-use Rattle.std.proofs.Common.{◌≡◌, ℕ, ◌+◌, ◌<◌, ◌≤◌, true, refl, ap, ◌∙◌, inl, inr, arith}
+use Rattle.std.proofs.Common.{◌≡◌, ℕ, ◌+◌, ◌<◌, ◌≤◌, true, false, refl, ap, ◌∙◌, inl, inr, arith}
 use Rattle.std.specs.Prelude.{Option, Some, Contains}
 use Rattle.fare_trip.specs.Itinerary.{Itinerary, count}
 use Rattle.fare_tariff.specs.Tariff.{Tariff}
 use Rattle.fare_rules.specs.Construction.{begin_after}
 use Rattle.fare_component.specs.declared.table.entry.Entry.{Entry}
 use Rattle.fare_component.specs.Table.{entries_of}
-use Rattle.fare_homing.specs.Homing.{IsUpTo, first_cost, between_cost, back_cost, may_end_at, homing_at}
-use Rattle.fare_homing.specs.HomingRows.{AreHomings, IsNext, IsPart}
+use Rattle.fare_homing.specs.Homing.{IsUpTo, first_cost, between_cost, back_cost, may_end_at, is_same_city, homing_at}
+use Rattle.fare_homing.specs.HomingRows.{AreHomings, behind_between, IsPart}
 use Rattle.fare_homing.specs.Least.{IsSum, capped_sum}
 use Rattle.fare_homing.proofs.HomingRowLemmas.{part_after}
 use Rattle.fare_homing.proofs.ReachLemmas.{capped_low, up_more}
@@ -33,21 +33,21 @@ module _ {tariff : Tariff} {trip : Itinerary} {closing jaw whole : ℕ → ℕ �
       )))
 
   pub between_under : (i b j : ℕ) (entry : Entry) (cost behind : ℕ) → Contains (entries_of tariff trip (begin_after trip i) b) entry → between_cost entry ≡ Some cost → b < j
-      → closing b j ≡ Some behind → IsUpTo (cost + behind) (closing i j)
-  between_under i b j entry cost behind there e less later =
+      → is_same_city trip j b ≡ false → closing b j ≡ Some behind → IsUpTo (cost + behind) (closing i j)
+  between_under i b j entry cost behind there e less apart later =
       let part : IsPart tariff trip between_cost (begin_after trip i) b cost = record { entry = entry; there = there; costs = e } in
-      sum_under (closing i j) cost behind (((are.at i).closes j).lowest (capped_sum cost behind) (inr (
-      sum_of (IsNext tariff trip (whole i) i) (λ k. closing k j) i b j cost behind (part_after tariff trip between_cost i b cost part).0 less (inl part) later)))
+      sum_under (closing i j) cost behind (((are.at i).closes j).lowest (capped_sum cost behind) (inl (inr (
+      sum_of (IsPart tariff trip between_cost (begin_after trip i)) (λ k. behind_between trip (closing k) k j) i b j cost behind (part_after tariff trip between_cost i b cost part).0 less part (rw apart later)))))
 
   pub last_closes_under : (i j : ℕ) (entry : Entry) (cost : ℕ) → Contains (entries_of tariff trip (begin_after trip i) j) entry → back_cost entry ≡ Some cost → IsUpTo cost (closing i j)
-  last_closes_under i j entry cost there e = ((are.at i).closes j).lowest cost (inl (record { entry = entry; there = there; costs = e }))
+  last_closes_under i j entry cost there e = ((are.at i).closes j).lowest cost (inl (inl (record { entry = entry; there = there; costs = e })))
 
   pub last_jaw_under : (i j : ℕ) (entry : Entry) (cost : ℕ) → Contains (entries_of tariff trip (begin_after trip i) j) entry → back_cost entry ≡ Some cost → IsUpTo cost (jaw i j)
   last_jaw_under i j entry cost there e = ((are.at i).ends j).lowest cost (inl (record { entry = entry; there = there; costs = e }))
 
   pub nested_closes_under : (i b j cost behind : ℕ) → i < b → b < j → whole i b ≡ Some cost → closing b j ≡ Some behind → IsUpTo (cost + behind) (closing i j)
   nested_closes_under i b j cost behind low less e later =
-      sum_under (closing i j) cost behind (((are.at i).closes j).lowest (capped_sum cost behind) (inr (sum_of (IsNext tariff trip (whole i) i) (λ k. closing k j) i b j cost behind low less (inr e) later)))
+      sum_under (closing i j) cost behind (((are.at i).closes j).lowest (capped_sum cost behind) (inr (sum_of (λ k n. whole i k ≡ Some n) (λ k. closing k j) i b j cost behind low less e later)))
 
   pub nested_jaw_under : (i b j cost behind : ℕ) → i < b → b < j → whole i b ≡ Some cost → jaw b j ≡ Some behind → IsUpTo (cost + behind) (jaw i j)
   nested_jaw_under i b j cost behind low less e later =

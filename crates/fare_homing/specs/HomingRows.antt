@@ -1,11 +1,12 @@
 -- HomingRows: the numbers of homing at each point, by those of the points behind it.
-use Rattle.std.specs.Prelude.{◌≡◌, ℕ, ◌+◌, true, ◌⊎◌, Option}
+use Rattle.std.specs.Prelude.{◌≡◌, ℕ, ◌+◌, true, ◌⊎◌, Option, None, if◌then◌else◌}
 use Rattle.fare_trip.specs.Itinerary.{Itinerary, count}
 use Rattle.fare_tariff.specs.Tariff.{Tariff}
 use Rattle.fare_rules.specs.Construction.{begin_after}
 use Rattle.fare_component.specs.declared.table.entry.Entry.{Entry}
 use Rattle.fare_component.specs.Table.{entries_of}
-use Rattle.fare_homing.specs.Homing.{single_cost, first_cost, between_cost, back_cost, may_end_at, homing_at}
+use Rattle.fare_homing.specs.Homing.{single_cost, first_cost, between_cost, back_cost, may_end_at, is_same_city}
+use Rattle.fare_homing.specs.Homing.{homing_at}
 use Rattle.fare_homing.specs.Least.{IsAt, IsCost, IsLeastOf, IsSum}
 
 -- what a part from a point to another costs, by what it is in its unit
@@ -24,17 +25,18 @@ abbrev pub IsWhole : Tariff → Itinerary → (ℕ → ℕ → Option ℕ) → (
 IsWhole tariff trip closing jaw i j cost =
     IsPart tariff trip single_cost (begin_after trip i) j cost ⊎ IsByFirst tariff trip closing jaw i j cost
 
--- what comes next in an open unit costs: a part between its first and its last, or one whole unit
-abbrev pub IsNext : Tariff → Itinerary → (ℕ → Option ℕ) → ℕ → ℕ → ℕ → Type 0
-IsNext tariff trip whole i b cost =
-    IsPart tariff trip between_cost (begin_after trip i) b cost ⊎ IsAt whole b cost
+-- what is behind a part between until its unit closes at a point: nothing where the part ends in the very city where
+-- the unit closes, since no earlier part of a unit does
+abbrev pub behind_between : Itinerary → (ℕ → Option ℕ) → ℕ → ℕ → Option ℕ
+behind_between trip behind b j = if is_same_city trip j b then None else behind j
 
--- what the parts behind a point cost until a unit closes at another: its last part, or what comes next before that, with
--- what is then behind it
+-- what the parts behind a point cost until a unit closes at another: its last part, or one between or one whole unit
+-- that comes before, with what is then behind that
 abbrev pub IsClosing : Tariff → Itinerary → (ℕ → ℕ → Option ℕ) → (ℕ → Option ℕ) → ℕ → ℕ → ℕ → Type 0
 IsClosing tariff trip closing whole i j cost =
-    IsPart tariff trip back_cost (begin_after trip i) j cost
-    ⊎ IsSum (IsNext tariff trip whole i) (λ b. closing b j) i j cost
+    (IsPart tariff trip back_cost (begin_after trip i) j cost
+    ⊎ IsSum (IsPart tariff trip between_cost (begin_after trip i)) (λ b. behind_between trip (closing b) b j) i j cost)
+    ⊎ IsSum (IsAt whole) (λ b. closing b j) i j cost
 
 -- what the parts behind a point cost until a unit ends at another as an open jaw: its last part, or one whole unit that
 -- comes before, with what is then behind that

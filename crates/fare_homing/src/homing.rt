@@ -11,7 +11,7 @@ ghost use Rattle.fare_homing.specs.Rows.{cell, AreCountries, AreHomingsOf, EndWi
 
 use crate::legs::{LegRows, legs};
 use crate::nearness::countries_of;
-use crate::reaching::{least_onward, lesser_row, reach, reached};
+use crate::reaching::{least_onward, reach, reached, reached_between};
 use fare_bounds::begin_after;
 use fare_codes::Country;
 use fare_component::Table;
@@ -135,8 +135,8 @@ fn row_at(
     let count = trip.count();
     let legs = legs(table, begin_after(trip, i));
     let whole = wholes_at(table, countries, homing, &legs, i);
-    let next = lesser_row(&legs.between, &whole);
-    let closing = reached(&next, &homing.closing, &legs.last, i);
+    let within = reached_between(trip, &legs.between, &homing.closing, &legs.last, i);
+    let closing = reached(&whole, &homing.closing, &within, i);
     let jaw = reached(&whole, &homing.jaw, &legs.last, i);
     let rest = least_onward(&whole, &homing.rest, i, count + 1);
     HomingRow {

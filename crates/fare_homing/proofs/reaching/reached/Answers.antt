@@ -20,4 +20,4 @@ loop-b-preserved c =
     ]
 
 pub returns : goal.returns
-returns c = row_all c.args.last.now c.args.steps.now (cell c.args.later.now) c.args.i c.loop-b.b c.loop-b.row (omega arith) c.requires.within c.loop-b.invariant
+returns c = row_all c.args.last.now c.args.steps.now (cell c.args.later.now) c.args.i c.loop-b.b c.loop-b.row (λ k j n e. omega (arith, c.requires.within k j n e)) c.loop-b.invariant
