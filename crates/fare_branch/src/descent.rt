@@ -12,7 +12,7 @@ use crate::partial::Partial;
 use crate::pieces::Piece;
 use fare_component::Table;
 use fare_homing::Homing;
-use fare_units::lawful_price;
+use fare_units::lawful_price_by;
 
 /// How many lists of parts a dive goes on to.
 const MOST_LISTS: u32 = 200;
@@ -31,7 +31,7 @@ fn whole(table: &Table, piece: Piece, front: &Partial) -> Landing
     requires begins { BeginsIn table.now.edition table.now.trip piece front.now }
     ensures { IfSome result (IsLanded table.now piece) }
 {
-    match lawful_price(table.edition(), table.trip(), front.construction()) {
+    match lawful_price_by(table, front.construction()) {
         Err(_) => None,
         Ok(price) => Some((front.copy(), price)),
     }

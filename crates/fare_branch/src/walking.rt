@@ -21,7 +21,7 @@ use crate::stacking::stack_floor;
 use fare_component::{Entry, Table};
 use fare_homing::Homing;
 use fare_rules::Part;
-use fare_units::{Construction, earlier, lawful_price};
+use fare_units::{Construction, earlier, lawful_price_by};
 
 /// The best construction that was found, with its price.
 pub(crate) type Found = Option<(Construction, u64)>;
@@ -92,7 +92,7 @@ pub(crate) fn take<B: Bound>(table: &Table, front: &Partial, best: Found, bound:
     ensures walk { IsWalk table.now.edition table.now.trip (IsList front.now) (B.least bound.old) best
         (B.least bound.new) result }
 {
-    match lawful_price(table.edition(), table.trip(), front.construction()) {
+    match lawful_price_by(table, front.construction()) {
         Err(_) => best,
         Ok(price) => keep(table, front, price, best, bound),
     }

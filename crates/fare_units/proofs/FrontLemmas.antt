@@ -57,7 +57,7 @@ module _ (trip : Itinerary) (front : List Part) (part : Part) where
       let P : ℕ → Type 0 = λ n. end_of (front ++ part ∷ []) n ≡ part.end in
       subst P (sym longer_length) (ap (λ (p : Part). p.end) (next_part front part []))
 
-  longer_greatest : greatest_unit (front ++ part ∷ []) (places (front ++ part ∷ [])) ≡ max (greatest_unit front (places front)) part.unit
+  pub longer_greatest : greatest_unit (front ++ part ∷ []) (places (front ++ part ∷ [])) ≡ max (greatest_unit front (places front)) part.unit
   longer_greatest =
       let P : ℕ → Type 0 = λ n. greatest_unit (front ++ part ∷ []) (numbers 1 (n + 1)) ≡ max (greatest_unit front (places front)) part.unit in
       let same : greatest_unit (front ++ part ∷ []) (numbers 1 (length front + 1)) ≡ greatest_unit front (places front) = greatest_same (front ++ part ∷ []) front 1 (length front + 1 - 1) (λ k low high. front_unit front (part ∷ []) k low (omega arith)) in

@@ -12,5 +12,6 @@ pub mod PriceSteps
 pub mod UnitLemmas
 pub mod PricedLemmas
 pub mod ShutLemmas
+pub mod AmountLemmas
 pub mod FirstParts
 pub mod SingleLemmas

@@ -27,7 +27,9 @@ pub use parts::places::{part_at, start_of};
 pub use prices::circle::circle_minimum;
 pub use prices::onward::{is_homeward, is_shut_unit, is_stranded, must_go_on};
 pub use prices::price::MOST_UNIT_PRICE;
-pub use prices::priced::{first_parts_advance, lawful_price, price_is_of_unbroken};
+pub use prices::priced::{
+    first_parts_advance, lawful_price, lawful_price_by, price_is_of_unbroken,
+};
 pub use prices::sheet::{unit_count, unit_sheet};
 pub use prices::shut::{is_priceless, is_untimely, shut_price};
 pub use rules::combine::is_uncombined;

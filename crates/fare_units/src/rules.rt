@@ -6,8 +6,10 @@
 //! - `part_rules`: the rules that ask one test of each part;
 //! - `stays`, `combine`: the stay of a unit, and which fares may be combined;
 //! - `unit_rules`: the rules that ask one test of each unit;
+//! - `amounts`: which parts have an amount;
 //! - `lawful`: all of them, in their order.
 
+pub(crate) mod amounts;
 pub(crate) mod combine;
 pub(crate) mod cover;
 pub(crate) mod crossing;

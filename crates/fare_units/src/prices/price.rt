@@ -366,15 +366,16 @@ pub(crate) fn unit_price(
 
 /// The price of a construction whose units are numbered in order: the sum of the prices of its units.
 #[tactic(auto, using(fare_rules::proofs::NumberLemmas::sum_next, fare_rules::proofs::NumberLemmas::sum_done, crate::proofs::UnitLemmas::unit_has_parts), unfolding(fare_rules::specs::UnitPrice::price))]
-pub(crate) fn price(edition: &Edition, trip: &Trip, parts: &[Part]) -> u64
+pub(crate) fn price(edition: &Edition, trip: &Trip, known: Option<&Table>, parts: &[Part]) -> u64
     requires few { length parts.now ≤ MOST_PARTS }
     requires advances { Advances trip.now parts.now }
     requires numbered { misnumbered parts.now ≡ None }
+    requires known { IfSome known (λ table. IsOf edition.now trip.now table.now) }
     ensures { result ≡ price edition.now trip.now parts.now }
 {
     let mut total = 0;
     for unit in 1..greatest_unit(parts) + 1 {
-        total += unit_price(edition, trip, None, parts, unit);
+        total += unit_price(edition, trip, known, parts, unit);
     }
     total
 }

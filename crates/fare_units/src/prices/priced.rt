@@ -1,26 +1,50 @@
-//! Constructions with a price: the call that answers it, and what follows from one.
+//! Constructions with a price: the calls that answer it, and what follows from one.
 
-ghost use Rattle.std.specs.Prelude.{◌≡◌, ◌<◌, ◌≤◌, Ok, None, length, take};
+ghost use Rattle.std.specs.Prelude.{◌≡◌, ◌<◌, ◌≤◌, Ok, None, IfSome, length, take};
 ghost use Rattle.fare_rules.specs.Lawful.{first_broken, lawful_price};
 ghost use Rattle.fare_units.specs.Advance.{Advances, MeetsFirstThree};
+ghost use Rattle.fare_units.specs.Known.{IsOf};
 
 use crate::construction::{Construction, MOST_PARTS};
 use crate::prices::price::price;
 use crate::rules::lawful::first_broken;
+use fare_component::Table;
 use fare_rules::{Broken, PRICE_LIMIT, Part, edition_is_valid, price_is_bounded};
 use fare_tariff::Edition;
 use fare_trip::Trip;
 
-/// The price of a lawful construction, or the first rule that it breaks: the least number, at the least place.
+/// The price of a lawful construction, or the first rule that it breaks; the amounts are those of a table, where there
+/// is one.
 #[tactic(auto, using(crate::proofs::UnitLemmas::advances_of_unbroken, crate::proofs::UnitLemmas::numbered_of_unbroken), unfolding(fare_rules::specs::Lawful::lawful_price))]
+fn lawful_price_with(
+    edition: &Edition,
+    trip: &Trip,
+    known: Option<&Table>,
+    parts: &[Part],
+) -> Result<u64, Broken>
+    requires few { length parts.now ≤ MOST_PARTS }
+    requires known { IfSome known (λ table. IsOf edition.now trip.now table.now) }
+    ensures { result ≡ lawful_price edition.now trip.now parts.now }
+{
+    match first_broken(edition, trip, known, parts) {
+        Some(found) => Err(found),
+        None => Ok(price(edition, trip, known, parts)),
+    }
+}
+
+/// The price of a lawful construction, or the first rule that it breaks: the least number, at the least place.
 pub fn lawful_price(edition: &Edition, trip: &Trip, c: &Construction) -> Result<u64, Broken>
     ensures { result ≡ lawful_price edition.now trip.now c.now }
 {
-    let parts = c.parts();
-    match first_broken(edition, trip, parts) {
-        Some(found) => Err(found),
-        None => Ok(price(edition, trip, parts)),
-    }
+    lawful_price_with(edition, trip, None, c.parts())
+}
+
+/// The price of a lawful construction, or the first rule that it breaks, as `lawful_price` answers it: the amounts are
+/// those of a table.
+pub fn lawful_price_by(table: &Table, c: &Construction) -> Result<u64, Broken>
+    ensures { result ≡ lawful_price table.now.edition table.now.trip c.now }
+{
+    lawful_price_with(table.edition(), table.trip(), Some(table), c.parts())
 }
 
 /// A law: a construction that has a price breaks no rule, its parts go on from part to part within the trip, and the

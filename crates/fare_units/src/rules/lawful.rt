@@ -1,17 +1,21 @@
 //! The rules in their order: the first one that a list of parts breaks.
 
-ghost use Rattle.std.specs.Prelude.{◌≡◌, ◌≤◌, length};
+ghost use Rattle.std.specs.Prelude.{◌≡◌, ◌≤◌, length, find, true, None, IfSome};
+ghost use Rattle.fare_rules.specs.Construction.{places, unfiled};
 ghost use Rattle.fare_rules.specs.Numbers.{first_given};
 ghost use Rattle.fare_units.specs.Advance.{Advances};
-ghost use Rattle.fare_units.specs.Breaks.{breaks_from};
+ghost use Rattle.fare_units.specs.Breaks.{breaks_from, is_unpriced};
+ghost use Rattle.fare_units.specs.Known.{IsOf};
 ghost use Rattle.fare_rules.specs.Lawful.{broken_at, first_broken};
 
 use crate::construction::MOST_PARTS;
+use crate::rules::amounts::unpriced;
 use crate::rules::combine::clashed;
 use crate::rules::cover::{misnumbered, uncovered, unfiled};
 use crate::rules::crossing::crossed;
 use crate::rules::part_rules::{FareRule, PartRule, first_part, mispaired};
 use crate::rules::unit_rules::{UnitRule, first_unit};
+use fare_component::Table;
 use fare_rules::{Broken, Part};
 use fare_tariff::Edition;
 use fare_trip::Trip;
@@ -26,19 +30,13 @@ fn broken_at(rule: u8, place: u8) -> Broken
     }
 }
 
-/// The first broken one of the rules from Mileage on.
+/// The first broken one of the rules from Stay on.
 #[tactic(auto, unfolding(fare_rules::specs::Lawful::breaks, fare_rules::specs::UnitRules::mistimed, fare_rules::specs::UnitRules::misfitted))]
-fn first_from_mileage(edition: &Edition, trip: &Trip, parts: &[Part]) -> Option<Broken>
+fn first_from_stay(edition: &Edition, trip: &Trip, parts: &[Part]) -> Option<Broken>
     requires few { length parts.now ≤ MOST_PARTS }
     requires advances { Advances trip.now parts.now }
-    ensures { result ≡ first_given (breaks_from 16 edition.now trip.now parts.now) }
+    ensures { result ≡ first_given (breaks_from 18 edition.now trip.now parts.now) }
 {
-    if let Some(k) = first_part(edition, trip, parts, PartRule::Mileage) {
-        return Some(broken_at(16, k));
-    }
-    if let Some(k) = first_part(edition, trip, parts, PartRule::Fare(FareRule::Excess)) {
-        return Some(broken_at(17, k));
-    }
     if let Some(u) = first_unit(edition, trip, parts, UnitRule::Stay) {
         return Some(broken_at(18, u));
     }
@@ -55,6 +53,22 @@ fn first_from_mileage(edition: &Edition, trip: &Trip, parts: &[Part]) -> Option<
         return Some(broken_at(22, k));
     }
     None
+}
+
+/// The first broken one of the rules from Mileage on.
+#[tactic(auto, unfolding(fare_rules::specs::Lawful::breaks))]
+fn first_from_mileage(edition: &Edition, trip: &Trip, parts: &[Part]) -> Option<Broken>
+    requires few { length parts.now ≤ MOST_PARTS }
+    requires advances { Advances trip.now parts.now }
+    ensures { result ≡ first_given (breaks_from 16 edition.now trip.now parts.now) }
+{
+    if let Some(k) = first_part(edition, trip, parts, PartRule::Mileage) {
+        return Some(broken_at(16, k));
+    }
+    if let Some(k) = first_part(edition, trip, parts, PartRule::Fare(FareRule::Excess)) {
+        return Some(broken_at(17, k));
+    }
+    first_from_stay(edition, trip, parts)
 }
 
 /// The first broken one of the rules from Distinct on.
@@ -91,10 +105,52 @@ fn first_from_distinct(edition: &Edition, trip: &Trip, parts: &[Part]) -> Option
     first_from_mileage(edition, trip, parts)
 }
 
+/// Whether a table is known that has the amount of each part.
+fn has_all_amounts(edition: &Edition, trip: &Trip, known: Option<&Table>, parts: &[Part]) -> bool
+    requires few { length parts.now ≤ MOST_PARTS }
+    requires advances { Advances trip.now parts.now }
+    requires known { IfSome known (λ table. IsOf edition.now trip.now table.now) }
+    ensures { result ≡ true → find (is_unpriced edition.now trip.now parts.now) (places parts.now) ≡ None }
+{
+    let _edition = edition;
+    let _trip = trip;
+    match known {
+        None => false,
+        Some(table) => unpriced(table, parts).is_none(),
+    }
+}
+
+/// The first broken one of the rules from Distinct on, where each part's fare is filed. A fare that has an amount meets
+/// all that is asked of it alone.
+#[tactic(auto, using(crate::proofs::AmountLemmas::stay_is_next))]
+fn first_from_fares(
+    edition: &Edition,
+    trip: &Trip,
+    known: Option<&Table>,
+    parts: &[Part],
+) -> Option<Broken>
+    requires few { length parts.now ≤ MOST_PARTS }
+    requires advances { Advances trip.now parts.now }
+    requires filed { unfiled edition.now parts.now ≡ None }
+    requires known { IfSome known (λ table. IsOf edition.now trip.now table.now) }
+    ensures { result ≡ first_given (breaks_from 8 edition.now trip.now parts.now) }
+{
+    if has_all_amounts(edition, trip, known, parts) {
+        return first_from_stay(edition, trip, parts);
+    }
+    first_from_distinct(edition, trip, parts)
+}
+
 /// The first rule that a list of parts breaks, at its least place.
 #[tactic(auto, using(crate::proofs::UnitLemmas::advances_of_cover), unfolding(fare_rules::specs::Lawful::first_broken, fare_rules::specs::Lawful::breaks, fare_rules::specs::Shape::mixed, fare_rules::specs::Shape::unchained, fare_rules::specs::Shape::unclosed))]
-pub(crate) fn first_broken(edition: &Edition, trip: &Trip, parts: &[Part]) -> Option<Broken>
+pub(crate) fn first_broken(
+    edition: &Edition,
+    trip: &Trip,
+    known: Option<&Table>,
+    parts: &[Part],
+) -> Option<Broken>
     requires few { length parts.now ≤ MOST_PARTS }
+    requires known { IfSome known (λ table. IsOf edition.now trip.now table.now) }
     ensures { result ≡ first_broken edition.now trip.now parts.now }
 {
     if let Some(k) = uncovered(trip, parts) {
@@ -118,5 +174,5 @@ pub(crate) fn first_broken(edition: &Edition, trip: &Trip, parts: &[Part]) -> Op
     if let Some(u) = first_unit(edition, trip, parts, UnitRule::Close) {
         return Some(broken_at(7, u));
     }
-    first_from_distinct(edition, trip, parts)
+    first_from_fares(edition, trip, known, parts)
 }

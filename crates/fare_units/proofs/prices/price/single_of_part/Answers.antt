@@ -1,5 +1,4 @@
-use Rattle.std.proofs.Common.{◌≡◌, ℕ, true, Some, ap, sym, ◌∙◌}
-use Rattle.std.specs.Prelude.{Option}
+use Rattle.std.proofs.Common.{◌≡◌, true, Some, ap, sym, ◌∙◌}
 use Rattle.fare_rules.specs.Construction.{start_of, end_of, part_at}
 use Rattle.fare_rules.specs.Shape.{is_ow}
 use Rattle.fare_component.specs.Table.{single_price}

@@ -1,4 +1,4 @@
-use Rattle.std.proofs.Common.{◌≡◌, refl, ap, ◌∙◌}
+use Rattle.std.proofs.Common.{ap, ◌∙◌}
 use Rattle.fare_codes.specs.declared.city.City.{City}
 use Rattle.fare_rules.specs.Construction.{start_city, end_city}
 use Rattle.fare_rules.specs.Shape.{is_only_gap}
