@@ -1,13 +1,13 @@
 -- The first-part choices, as the entries of the spans from the first point that may begin.
-use Rattle.std.proofs.Common.{◌≡◌, ℕ, zero, suc, ◌+◌, ◌-◌, ◌<◌, ◌≤◌, Bool, true, false, List, [], ◌∷◌, ◌++◌, length, map, drop, get_or, Option, Some, refl, ap, subst, sym, ◌∙◌, inl, inr, arith}
-use Rattle.std.specs.Prelude.{is_some, filter, flat_map, slice_get, option_map}
+use Rattle.std.proofs.Common.{◌≡◌, ℕ, zero, suc, ◌+◌, ◌-◌, ◌<◌, ◌≤◌, Bool, true, false, List, [], ◌∷◌, ◌++◌, length, map, set, drop, get_or, Option, Some, refl, ap, subst, sym, ◌∙◌, inl, inr, arith}
+use Rattle.std.specs.Prelude.{is_some, filter, flat_map, slice_get, slice_index, option_map}
 use Rattle.std.specs.List.{filter_map}
 use Rattle.std.proofs.Math.Seq.{drop-cons}
 use Rattle.std.proofs.Math.Numerals.{add-one}
 use Rattle.std.proofs.Math.ListN.{length-append}
-use Rattle.std.proofs.lemmas.List.{length-map}
+use Rattle.std.proofs.lemmas.List.{length-map, get_or-set_same, get_or-set_other}
 use Rattle.std.proofs.lemmas.Option.{slice_get-map}
-use Rattle.std.proofs.lemmas.Bool.{cases_Bool, lt-ltb, le-leb}
+use Rattle.std.proofs.lemmas.Bool.{cases_Bool, cases_eq, lt-ltb, le-leb}
 use Rattle.fare_trip.specs.Itinerary.{Itinerary, count}
 use Rattle.fare_tariff.specs.Tariff.{Tariff}
 use Rattle.fare_rules.specs.Numbers.{numbers_down}
@@ -15,7 +15,7 @@ use Rattle.fare_rules.specs.ComponentAmount.{component_amount}
 use Rattle.fare_rules.specs.Completion.{Choice, choice, choices_to, first_part_choices, may_begin, record_numbers}
 use Rattle.fare_component.specs.declared.table.entry.Entry.{Entry}
 use Rattle.fare_component.specs.Table.{entries_of, entry_at, is_span}
-use Rattle.fare_branch.specs.Beginnings.{begins, outward, fare_of_entry}
+use Rattle.fare_branch.specs.Beginnings.{AreCounts, begins, outward, fare_of_entry}
 
 -- the fares of entries that may begin
 abbrev pub fares : List Entry → List ℕ
@@ -135,3 +135,18 @@ module _ (tariff : Tariff) (trip : Itinerary) where
       let split : length (choices_to tariff trip end ++ flat_map (choices_to tariff trip) (numbers_down (end - 1))) ≡ length (choices_to tariff trip end) + length (flat_map (choices_to tariff trip) (numbers_down (end - 1))) = length-append (choices_to tariff trip end) (flat_map (choices_to tariff trip) (numbers_down (end - 1))) in
       let whole : length (flat_map (choices_to tariff trip) (numbers_down end)) ≡ length (choices_to tariff trip end ++ flat_map (choices_to tariff trip) (numbers_down (end - 1))) = ap (λ ns. length (flat_map (choices_to tariff trip) ns)) (down_front end low) in
       rw e (omega arith)
+
+  pub counted_at : (counts : List ℕ) (end : ℕ) (entries : List Entry) → AreCounts tariff trip counts → 1 ≤ end → end ≤ count trip → entries ≡ entries_of tariff trip 0 end → slice_index counts end ≡ length (outward entries)
+  counted_at counts end entries are low high same = are end low high ∙ ap (λ es. length (outward es)) (sym same)
+
+  -- the count of a point is put behind those of the points before it
+  pub counts_put : (counts : List ℕ) (past : ℕ) (entries : List Entry) (n : ℕ) → past < length counts → entries ≡ entries_of tariff trip 0 past → n ≡ length (outward entries)
+      → ((end : ℕ) → 1 ≤ end → end < past → slice_index counts end ≡ length (outward (entries_of tariff trip 0 end)))
+      → (end : ℕ) → 1 ≤ end → end < past + 1 → slice_index (set counts past n) end ≡ length (outward (entries_of tariff trip 0 end))
+  counts_put counts past entries n within same here known end low high =
+      elim (cases_eq end past) [
+        | inl e ↦
+            let P : ℕ → Type 0 = λ m. slice_index (set counts past n) m ≡ length (outward (entries_of tariff trip 0 m)) in
+            subst P (sym e) (get_or-set_same counts past n 0 within ∙ here ∙ ap (λ es. length (outward es)) same)
+        | inr other ↦ get_or-set_other counts past end n 0 other ∙ known end low (omega arith)
+      ]

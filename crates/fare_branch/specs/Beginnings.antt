@@ -1,6 +1,9 @@
 -- The entries of a table whose fares may begin a construction.
-use Rattle.std.specs.Prelude.{ℕ, Bool, List, filter, is_some}
+use Rattle.std.specs.Prelude.{◌≡◌, ℕ, ◌≤◌, Bool, List, length, filter, is_some, slice_index}
+use Rattle.fare_trip.specs.Itinerary.{Itinerary, count}
+use Rattle.fare_tariff.specs.Tariff.{Tariff}
 use Rattle.fare_component.specs.declared.table.entry.Entry.{Entry}
+use Rattle.fare_component.specs.Table.{entries_of}
 
 -- a fare may begin: it has an amount priced out
 abbrev pub begins : Entry → Bool
@@ -13,3 +16,8 @@ outward entries = filter begins entries
 -- the record number of an entry's fare
 abbrev pub fare_of_entry : Entry → ℕ
 fare_of_entry entry = entry.fare
+
+-- counts are of the entries that may begin, by the points where they end
+abbrev pub AreCounts : Tariff → Itinerary → List ℕ → Type 0
+AreCounts tariff trip counts =
+    (end : ℕ) → 1 ≤ end → end ≤ count trip → slice_index counts end ≡ length (outward (entries_of tariff trip 0 end))

@@ -6,6 +6,7 @@ ghost use Rattle.fare_trip.specs.Itinerary.{count};
 ghost use Rattle.fare_component.specs.Table.{IsInBounds};
 ghost use Rattle.fare_units.specs.Walk.{next_start};
 ghost use Rattle.fare_branch.specs.Ahead.{AreAhead};
+ghost use Rattle.fare_branch.specs.Beginnings.{AreCounts};
 ghost use Rattle.fare_homing.specs.Rows.{AreHomingsOf};
 ghost use Rattle.fare_branch.specs.Floors.{IsMadeWith};
 ghost use Rattle.fare_branch.specs.Dive.{GoesFrom, StartsIn};
@@ -13,7 +14,7 @@ ghost use Rattle.fare_branch.specs.Dive.{GoesFrom, StartsIn};
 use crate::ahead::{Ahead, ahead_of, floor_ahead, floor_with};
 use crate::barred::is_barred;
 use crate::partial::Partial;
-use crate::pieces::{Piece, choice, choices};
+use crate::pieces::{Counts, Piece, choice, choices, counts_of};
 use crate::stacking::stack_floor;
 use fare_component::{Entry, Table};
 use fare_homing::Homing;
@@ -144,9 +145,12 @@ pub(crate) fn first_step(table: &Table, homing: &Homing, piece: Piece, from: u64
 {
     let none = Partial::new();
     let ahead = ahead_of(table, homing, &none);
+    let counts = counts_of(table);
     let mut found = None;
     for number in piece.first..piece.past.min(choices(table)) {
-        found = lesser_start(table, homing, &none, &ahead, piece, number, from, found);
+        found = lesser_start(
+            table, homing, &none, &ahead, &counts, piece, number, from, found,
+        );
     }
     found
 }
@@ -157,6 +161,7 @@ fn lesser_start(
     homing: &Homing,
     none: &Partial,
     ahead: &Ahead,
+    counts: &Counts,
     piece: Piece,
     number: u32,
     from: u64,
@@ -165,12 +170,13 @@ fn lesser_start(
     requires homing { AreHomingsOf table.now.edition table.now.trip homing.now }
     requires none { none.now ≡ [] }
     requires ahead { AreAhead table.now none.now ahead.now }
+    requires counts { AreCounts table.now.edition table.now.trip counts.now }
     requires low { piece.first ≤ number }
     requires high { number < piece.past }
     requires found { IfSome found (StartsIn table.now piece) }
     ensures { IfSome result (StartsIn table.now piece) }
 {
-    let Some((end, fare)) = choice(table, number) else {
+    let Some((end, fare)) = choice(table, counts, number) else {
         return found;
     };
     let _sectors = table.trip().count();

@@ -4,9 +4,13 @@
 ghost use Rattle.std.specs.Prelude.{◌≡◌, ◌≤◌, ◌<◌, ◌*◌, length, filter, map, slice_get, IfSome};
 ghost use Rattle.fare_trip.specs.Itinerary.{count};
 ghost use Rattle.fare_rules.specs.Completion.{first_part_choices, choices_to};
-ghost use Rattle.fare_branch.specs.Beginnings.{begins, outward, fare_of_entry};
+ghost use Rattle.fare_branch.specs.Beginnings.{AreCounts, begins, outward, fare_of_entry};
 
 use fare_component::{Entry, Table};
+use fare_rules::MOST_POINTS;
+
+/// How many first-part choices end at each point.
+pub(crate) type Counts = [usize; MOST_POINTS];
 
 /// A range of the first-part choices: from the number `first` on, and below the number `past`.
 #[derive(Clone, Copy, Debug)]
@@ -60,15 +64,27 @@ pub fn choices(table: &Table) -> u32
     total
 }
 
+/// How many first-part choices end at each point, so that one is found by its number without going over those before.
+pub(crate) fn counts_of(table: &Table) -> Counts
+    ensures { AreCounts table.now.edition table.now.trip result }
+{
+    let mut counts = [0; MOST_POINTS];
+    for end in 1..table.trip().count() + 1 {
+        counts[end] = count_of(table.entries(0, end));
+    }
+    counts
+}
+
 /// The end and the fare of the first-part choice of a number.
-pub(crate) fn choice(table: &Table, number: u32) -> Option<(usize, u32)>
+pub(crate) fn choice(table: &Table, counts: &Counts, number: u32) -> Option<(usize, u32)>
+    requires counts { AreCounts table.now.edition table.now.trip counts.now }
     ensures choice { result ≡ slice_get (first_part_choices table.now.edition table.now.trip) number }
     ensures within { IfSome result (λ choice. (1 ≤ choice.0) × (choice.0 ≤ count table.now.trip)) }
 {
     let mut left = number as usize;
     for end in (1..table.trip().count() + 1).rev() {
         let entries = table.entries(0, end);
-        let here = count_of(entries);
+        let here = counts[end];
         if left < here {
             return match nth_of(entries, left) {
                 None => None,

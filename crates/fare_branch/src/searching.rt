@@ -3,6 +3,7 @@
 ghost use Rattle.std.specs.Prelude.{◌≡◌, []};
 ghost use Rattle.fare_bounds.specs.Covers.{AreRests};
 ghost use Rattle.fare_branch.specs.Ahead.{AreAhead};
+ghost use Rattle.fare_branch.specs.Beginnings.{AreCounts};
 ghost use Rattle.fare_homing.specs.Rows.{AreHomingsOf};
 ghost use Rattle.fare_branch.specs.Search.{IsLeastPrice, BeginsIn, BeginsBy, IsSearched, kept_at};
 ghost use Rattle.fare_branch.specs.Dive.{IsDived};
@@ -12,7 +13,7 @@ use crate::ahead::{Ahead, ahead_of, floor_ahead};
 use crate::bound::Bound;
 use crate::descent::dive;
 use crate::partial::Partial;
-use crate::pieces::{Piece, choice, choices};
+use crate::pieces::{Counts, Piece, choice, choices, counts_of};
 use crate::walking::{Found, follow, keep};
 use fare_bounds::Rest;
 use fare_component::Table;
@@ -79,9 +80,10 @@ fn walk_piece<B: Bound>(
 {
     let none = Partial::new();
     let ahead = ahead_of(table, homing, &none);
+    let counts = counts_of(table);
     let mut best = best;
     for number in piece.first..piece.past.min(choices(table)) {
-        best = walk_choice(table, homing, &none, &ahead, number, best, bound);
+        best = walk_choice(table, homing, &none, &ahead, &counts, number, best, bound);
     }
     best
 }
@@ -92,6 +94,7 @@ fn walk_choice<B: Bound>(
     homing: &Homing,
     none: &Partial,
     ahead: &Ahead,
+    counts: &Counts,
     number: u32,
     best: Found,
     bound: &mut B,
@@ -99,13 +102,14 @@ fn walk_choice<B: Bound>(
     requires homing { AreHomingsOf table.now.edition table.now.trip homing.now }
     requires none { none.now ≡ [] }
     requires ahead { AreAhead table.now none.now ahead.now }
+    requires counts { AreCounts table.now.edition table.now.trip counts.now }
     requires under { IsUnderAll table.now.edition table.now.trip (B.fixed bound.old) }
     ensures fixed { B.fixed bound.new ≡ B.fixed bound.old }
     ensures walk { IsWalk table.now.edition table.now.trip (BeginsBy table.now.edition table.now.trip number)
         (B.least bound.old) best (B.least bound.new) result }
 {
     let _sectors = table.trip().count();
-    let Some((end, fare)) = choice(table, number) else {
+    let Some((end, fare)) = choice(table, counts, number) else {
         return best;
     };
     let part = Part {
