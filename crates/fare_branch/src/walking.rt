@@ -198,8 +198,8 @@ fn walk_units<B: Bound>(
     requires bounds { IsInBounds entry.now }
     requires under { IsUnderAll table.now.edition table.now.trip (B.fixed bound.old) }
     ensures fixed { B.fixed bound.new ≡ B.fixed bound.old }
-    ensures walk { IsWalk table.now.edition table.now.trip (GoesOn front.now (HasFare end entry.now.fare)) (B.least bound.old)
-        best (B.least bound.new) result }
+    ensures walk { IsWalk table.now.edition table.now.trip (GoesOn front.now (HasFare end entry.now.fare))
+        (B.least bound.old) best (B.least bound.new) result }
 {
     let sectors = table.trip().count();
     prove!(end <= sectors);

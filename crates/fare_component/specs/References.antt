@@ -81,8 +81,8 @@ pub record IsReach (tariff : Tariff) (trip : Itinerary) (form : Form) (reach : R
   pub value : reach.high ≡ greatest_inner tariff trip form reach.from reach.past
   pub bound : reach.high < FARE_LIMIT
 
--- what is known is right: of two points of the trip nothing yet, or their reference; the columns that are kept; how far the form has
--- come; and the terms of its rule
+-- what is known is right: of two points of the trip nothing yet, or their reference; the columns that are kept; how far
+-- the form has come; and the terms of its rule
 pub record AreReferences (tariff : Tariff) (trip : Itinerary) (known : References) : Type 0 where
   pub found : (i j : ℕ) → i < j → j ≤ count trip → IfSome (known_at known i j) (IsReference tariff trip known.form i j)
   pub columns : (j : ℕ) → j ≤ count trip → IfSome (kept_at known j) (IsColumn tariff trip known.form j)
