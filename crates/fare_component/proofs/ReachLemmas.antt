@@ -1,22 +1,23 @@
 -- The greatest of the references that a component compares, by the pairs that end before its end and by those that end
 -- there.
 use Rattle.std.proofs.Common.{◌≡◌, refl, ℕ, zero, suc, ◌+◌, ◌-◌, ◌<◌, ◌≤◌, eqb, Bool, true, false, cond, not, ◌&&◌, ◌||◌, List, [], ◌∷◌, ◌++◌, max, ap, sym, ◌∙◌, arith}
-use Rattle.std.specs.Prelude.{Option, None, option_map, filter_map, flat_map}
+use Rattle.std.specs.Prelude.{Option, Some, None, filter, option_map, filter_map, flat_map, unwrap_or}
 use Rattle.std.specs.List.{cons_option, range_with_len}
 use Rattle.std.proofs.lemmas.Bool.{eq-eqb, ne_eqb}
 use Rattle.std.proofs.lemmas.Grind.{flat_map-append}
-use Rattle.std.proofs.lemmas.List.Elements.{filter_map-append}
+use Rattle.std.proofs.lemmas.List.Elements.{filter-append, filter_map-append}
 use Rattle.fare_codes.specs.declared.day.Day.{Day}
 use Rattle.fare_trip.specs.Itinerary.{Itinerary}
 use Rattle.fare_tariff.specs.Tariff.{Tariff}
-use Rattle.fare_rules.specs.Numbers.{numbers}
+use Rattle.fare_codes.specs.Amounts.{greater}
+use Rattle.fare_rules.specs.Numbers.{greatest_of, numbers}
 use Rattle.fare_rules.specs.Span.{first_day, is_stopover}
 use Rattle.fare_rules.specs.Base.{Compared, compared_pair, compared_pairs, greatest_amount, is_compared, is_end_or_stopover, reference_between, with_amount}
 use Rattle.fare_rules.specs.UnitPrice.{at_least}
 use Rattle.fare_rules.proofs.NumberLemmas.{numbers_next, numbers_none, numbers_more}
 use Rattle.fare_component.specs.declared.table.references.Form.{Form}
 use Rattle.fare_component.specs.declared.table.references.Reach.{Reach}
-use Rattle.fare_component.specs.References.{IsReach, greatest_inner, greatest_to, inner_from, inner_pair, reference_of, stop_to}
+use Rattle.fare_component.specs.References.{IsReach, greatest_from, greatest_inner, greatest_to, inner_from, inner_pair, reference_of, stop_to, to_stop}
 use Rattle.fare_component.proofs.GreatestLemmas.{apart, at_least_apart, both, one_taken, put_first}
 
 module _ (p : ℕ → ℕ → Option Compared) where
@@ -79,6 +80,32 @@ rows_same p q past first (suc n) h =
     let here = row_same (p first) (q first) (first + 1) (past - (first + 1)) (λ j low high. h first j (omega arith) (omega arith) (omega arith)) in
     ap (λ l. l ++ flat_map (row p past) (range_with_len (first + 1) n)) here
     ∙ ap (λ l. row q past first ++ l) rest
+
+-- the greatest of what is found for some points and one behind them
+greatest_behind : (f : ℕ → Option ℕ) (points : List ℕ) (j : ℕ) (stop : Bool)
+    → unwrap_or (greatest_of f (points ++ cond stop (j ∷ []) [])) 0
+    ≡ at_least (unwrap_or (greatest_of f points) 0) (cond stop (f j) None)
+greatest_behind f [] j true = one_greatest (f j)
+  where
+    one_greatest : (found : Option ℕ) → unwrap_or (greater found None) 0 ≡ at_least 0 found
+    one_greatest None = refl
+    one_greatest (Some high) = omega arith
+greatest_behind f [] j false = refl
+greatest_behind f (i ∷ points) j stop =
+    let rest = greatest_behind f points j stop in
+    let whole = greater_or_0 (f i) (greatest_of f (points ++ cond stop (j ∷ []) [])) in
+    let front = greater_or_0 (f i) (greatest_of f points) in
+    let last = at_least_greater (unwrap_or (f i) 0) (unwrap_or (greatest_of f points) 0) (cond stop (f j) None) in
+    whole ∙ ap (max (unwrap_or (f i) 0)) rest ∙ last ∙ ap (λ n. at_least n (cond stop (f j) None)) (sym front)
+  where
+    greater_or_0 : (a b : Option ℕ) → unwrap_or (greater a b) 0 ≡ max (unwrap_or a 0) (unwrap_or b 0)
+    greater_or_0 None b = omega arith
+    greater_or_0 (Some a) None = omega arith
+    greater_or_0 (Some a) (Some b) = refl
+
+    at_least_greater : (a b : ℕ) (found : Option ℕ) → max a (at_least b found) ≡ at_least (max a b) found
+    at_least_greater a b None = refl
+    at_least_greater a b (Some high) = omega arith
 
 -- nothing is found for pairs that end at no stopover
 stopping : (stop : Bool) (test : ℕ → Bool) (found : ℕ → Option ℕ) (j : ℕ) (points : List ℕ)
@@ -149,17 +176,30 @@ module _ (tariff : Tariff) (trip : Itinerary) (form : Form) (a : ℕ) where
   pub further : (j : ℕ) → a < j → is_stopover trip j ≡ true
       → greatest_inner tariff trip form a (j + 1)
       ≡ max (greatest_inner tariff trip form a j)
-      (at_least (greatest_to tariff trip form (a + 1) j j) (reference_of tariff trip form a j))
+      (at_least (greatest_to tariff trip form (a + 1) j j) (to_stop tariff trip form a j))
   further j h stop =
       more j (omega arith)
       ∙ ap (λ t. max (greatest_inner tariff trip form a j) (cond t (greatest_amount 0 (filter_map (pair_to a j) (numbers a j))) 0)) stop
-      ∙ ap (max (greatest_inner tariff trip form a j)) (first_pairs j h)
+      ∙ ap (max (greatest_inner tariff trip form a j))
+      (first_pairs j h
+      ∙ ap (λ t. at_least (greatest_to tariff trip form (a + 1) j j) (cond t (reference_of tariff trip form a j) None)) (sym stop))
 
   pub no_further : (j : ℕ) → a < j → is_stopover trip j ≡ false
       → greatest_inner tariff trip form a (j + 1) ≡ greatest_inner tariff trip form a j
   no_further j h stop =
       let e = more j (omega arith) ∙ ap (λ t. max (greatest_inner tariff trip form a j) (cond t (greatest_amount 0 (filter_map (pair_to a j) (numbers a j))) 0)) stop in
       omega (arith, e)
+
+  -- one point further there is what the form has from the start to that point, where it is a stopover
+  pub first_further : (j : ℕ) → a < j
+      → greatest_from tariff trip form a (j + 1)
+      ≡ at_least (greatest_from tariff trip form a j) (to_stop tariff trip form a j)
+  unfolding greatest_from
+  first_further j h =
+      let f = reference_of tariff trip form a in
+      ap (λ l. unwrap_or (greatest_of f (filter (is_stopover trip) l)) 0) (numbers_more (a + 1) j (omega arith))
+      ∙ ap (λ l. unwrap_or (greatest_of f l) 0) (filter-append (is_stopover trip) (numbers (a + 1) j) (j ∷ []))
+      ∙ greatest_behind f (filter (is_stopover trip) (numbers (a + 1) j)) j (is_stopover trip j)
 
   -- at first there are none
   none_inner : greatest_inner tariff trip form a (a + 1) ≡ 0
@@ -168,15 +208,26 @@ module _ (tariff : Tariff) (trip : Itinerary) (form : Form) (a : ℕ) where
       last_row (inner_pair tariff trip form a) a a (omega arith)
       ∙ ap (λ l. greatest_amount 0 (flat_map (row (inner_pair tariff trip form a) (a + 1)) l)) (numbers_none a a (omega arith))
 
-  pub begun : (reach : Reach) → reach.from ≡ a → reach.past ≡ a + 1 → reach.high ≡ 0 → IsReach tariff trip form reach
-  begun reach from past high =
+  none_first : greatest_from tariff trip form a (a + 1) ≡ 0
+  unfolding greatest_from
+  none_first =
+      ap (λ l. unwrap_or (greatest_of (reference_of tariff trip form a) (filter (is_stopover trip) l)) 0) (numbers_none (a + 1) (a + 1) (omega arith))
+
+  pub begun : (reach : Reach) → reach.from ≡ a → reach.past ≡ a + 1 → reach.high ≡ 0 → reach.first ≡ 0
+      → IsReach tariff trip form reach
+  begun reach from past high none =
       let value : 0 ≡ greatest_inner tariff trip form reach.from reach.past =
       sym none_inner ∙ ap (greatest_inner tariff trip form a) (sym past)
       ∙ ap (λ first. greatest_inner tariff trip form first reach.past) (sym from) in
+      let first : 0 ≡ greatest_from tariff trip form reach.from reach.past =
+      sym none_first ∙ ap (greatest_from tariff trip form a) (sym past)
+      ∙ ap (λ n. greatest_from tariff trip form n reach.past) (sym from) in
       record {
         rises = omega arith;
         value = high ∙ value;
         bound = omega arith;
+        first = none ∙ first;
+        first_bound = omega arith;
       }
 
   module _ (b : ℕ) (day : form.on ≡ first_day trip a) where

@@ -1,21 +1,23 @@
 -- The references of a form serve each fare of it.
-use Rattle.std.proofs.Common.{◌≡◌, refl, ℕ, ◌+◌, ◌*◌, ◌<◌, ◌≤◌, Bool, List, length, set, replicate, get_or, ap, sym, subst, ◌∙◌, arith, inl, inr}
-use Rattle.std.specs.Prelude.{Option, Some, None, IfSome}
-use Rattle.std.proofs.lemmas.Bool.{cases_eq, cases_lt}
+use Rattle.std.proofs.Common.{◌≡◌, refl, ℕ, ◌+◌, ◌-◌, ◌*◌, ◌<◌, ◌≤◌, Bool, false, cond, List, length, set, replicate, get_or, ap, sym, subst, ◌∙◌, arith, inl, inr}
+use Rattle.std.specs.Prelude.{Option, Some, None, IfSome, option_and_then, unwrap_or}
+use Rattle.std.proofs.lemmas.Bool.{cases_eq, cases_lt, le-ltb}
 use Rattle.std.proofs.lemmas.Grind.{get_or-set_at}
 use Rattle.std.proofs.lemmas.List.{get_or-replicate, get_or-set_other, get_or_past, length-replicate, length-set}
 use Rattle.fare_trip.specs.Itinerary.{Itinerary, count}
 use Rattle.fare_tariff.specs.Record.{FareRecord}
 use Rattle.fare_tariff.specs.Lookup.{terms}
 use Rattle.fare_tariff.specs.Tariff.{Tariff}
-use Rattle.fare_rules.specs.Backhaul.{greatest_reference}
+use Rattle.fare_rules.specs.Backhaul.{backhaul, greatest_reference, minimum_above}
 use Rattle.fare_rules.specs.Base.{base, compared_pairs, greatest_amount}
+use Rattle.fare_rules.specs.Numbers.{greatest_of}
 use Rattle.fare_rules.specs.Reference.{reference}
+use Rattle.fare_rules.specs.Span.{first_day, stopovers}
 use Rattle.fare_rules.specs.Terms.{terms_of_fare}
 use Rattle.fare_component.specs.declared.table.references.Column.{Column}
 use Rattle.fare_component.specs.declared.table.references.Form.{Form}
 use Rattle.fare_component.specs.declared.table.references.References.{References}
-use Rattle.fare_component.specs.References.{AreReferences, IsColumn, IsOfForm, IsReach, IsReference, kept_at}
+use Rattle.fare_component.specs.References.{AreReferences, IsColumn, IsOfForm, IsReach, IsReference, greatest_from, kept_at, reference_of}
 
 -- at each place of a list of one value stands that value, and behind it too where that is what stands behind
 pub same_at : {A : Type 0} (x : A) (n place : ℕ) → get_or (replicate n x) place x ≡ x
@@ -104,11 +106,6 @@ moulded_pairs : (tariff : Tariff) (trip : Itinerary) (a b : ℕ) (fare other : F
 unfolding compared_pairs reference
 moulded_pairs tariff trip a b fare other back = refl
 
-moulded_greatest : (tariff : Tariff) (trip : Itinerary) (a b : ℕ) (fare other : FareRecord)
-    → greatest_reference tariff trip a b (moulded fare other) ≡ greatest_reference tariff trip a b fare
-unfolding greatest_reference reference
-moulded_greatest tariff trip a b fare other = refl
-
 -- the base of a fare by the references of its form
 pub base_of_form : (tariff : Tariff) (trip : Itinerary) (a b : ℕ) (fare : FareRecord) (back : Bool) (form : Form)
     → IsOfForm fare back form
@@ -120,13 +117,21 @@ base_of_form tariff trip a b fare back form of_form =
     ∙ moulded_pairs tariff trip a b fare form.fare form.back
     ∙ ap (compared_pairs tariff trip a b fare) of_form.direction)
 
--- the greatest reference of a fare by those of its form
-pub greatest_of_form : (tariff : Tariff) (trip : Itinerary) (a b : ℕ) (fare : FareRecord) (back : Bool)
-    (form : Form) → IsOfForm fare back form
-    → greatest_reference tariff trip a b form.fare ≡ greatest_reference tariff trip a b fare
-greatest_of_form tariff trip a b fare back form of_form =
-    ap (greatest_reference tariff trip a b) (is_moulded fare back form of_form)
-    ∙ moulded_greatest tariff trip a b fare form.fare
+-- nothing is a minimum above no amount
+minimum_of : (low : ℕ) (high : Option ℕ)
+    → minimum_above low (unwrap_or high 0) ≡ option_and_then (minimum_above low) high
+minimum_of low None = ap (λ t. cond t (Some (0 + (0 - low))) None) (le-ltb low 0 (omega arith))
+minimum_of low (Some high) = refl
+
+-- the backhaul minimum of a fare by the references of its form
+pub backhaul_of_form : (tariff : Tariff) (trip : Itinerary) (a b : ℕ) (fare : FareRecord) (form : Form)
+    → IsOfForm fare false form → form.on ≡ first_day trip a
+    → minimum_above fare.amount (greatest_from tariff trip form a b) ≡ backhaul tariff trip a b fare
+unfolding greatest_from backhaul greatest_reference reference
+backhaul_of_form tariff trip a b fare form of_form day =
+    ap (λ (f : Form). minimum_above fare.amount (unwrap_or (greatest_of (reference_of tariff trip f a) (stopovers trip a b)) 0))
+    (λ i. record { fare = is_moulded fare false form of_form i; back = of_form.direction i; on = day i })
+    ∙ minimum_of fare.amount (greatest_reference tariff trip a b fare)
 
 -- the terms of a fare are those of its form
 pub terms_of_form : (tariff : Tariff) (fare : FareRecord) (back : Bool) (form : Form) → IsOfForm fare back form

@@ -1,12 +1,12 @@
 -- References between the points of a trip that a table has looked up, each once for all fares that share it.
 use Rattle.std.specs.Prelude.{◌≡◌, ℕ, ◌+◌, ◌*◌, ◌<◌, ◌≤◌, Bool, ◌&&◌, List, Option, None, IfSome, All, slice_index_or}
-use Rattle.std.specs.Prelude.{option_map, filter_map, flat_map, if◌then◌else◌}
+use Rattle.std.specs.Prelude.{option_map, filter, filter_map, flat_map, unwrap_or, if◌then◌else◌}
 use Rattle.fare_codes.specs.declared.nuc.Nuc.{Nuc}
 use Rattle.fare_codes.specs.declared.nuc.TheConstants.{FARE_LIMIT}
 use Rattle.fare_trip.specs.Itinerary.{Itinerary, count}
 use Rattle.fare_tariff.specs.Record.{FareRecord}
 use Rattle.fare_tariff.specs.Tariff.{Tariff}
-use Rattle.fare_rules.specs.Numbers.{numbers}
+use Rattle.fare_rules.specs.Numbers.{greatest_of, numbers}
 use Rattle.fare_rules.specs.Base.{Compared, with_amount, is_end_or_stopover, reference_between, greatest_amount}
 use Rattle.fare_rules.specs.Span.{first_day, is_stopover}
 use Rattle.fare_rules.specs.Terms.{terms_of_fare}
@@ -74,12 +74,23 @@ unfoldable pub greatest_inner : Tariff → Itinerary → Form → ℕ → ℕ �
 greatest_inner tariff trip form a past =
     greatest_amount 0 (flat_map (inner_from tariff trip form a past) (numbers a past))
 
--- a form has come from a point to a later one: it knows the greatest of what it has for the pairs that end before,
--- which is below every fare's limit
+-- what a form has from a point to a stopover
+abbrev pub to_stop : Tariff → Itinerary → Form → ℕ → ℕ → Option Nuc
+to_stop tariff trip form a j = if is_stopover trip j then reference_of tariff trip form a j else None
+
+-- the greatest of what a form has from a point to the stopovers behind it and before another; 0 where it has nothing
+unfoldable pub greatest_from : Tariff → Itinerary → Form → ℕ → ℕ → Nuc
+greatest_from tariff trip form a past =
+    unwrap_or (greatest_of (reference_of tariff trip form a) (filter (is_stopover trip) (numbers (a + 1) past))) 0
+
+-- a form has come from a point to a later one: it knows the greatest of what it has for the pairs that end before, and
+-- for those that begin at that point, which are below every fare's limit
 pub record IsReach (tariff : Tariff) (trip : Itinerary) (form : Form) (reach : Reach) : Type 0 where
   pub rises : reach.from < reach.past
   pub value : reach.high ≡ greatest_inner tariff trip form reach.from reach.past
   pub bound : reach.high < FARE_LIMIT
+  pub first : reach.first ≡ greatest_from tariff trip form reach.from reach.past
+  pub first_bound : reach.first < FARE_LIMIT
 
 -- what is known is right: of two points of the trip nothing yet, or their reference; the columns that are kept; how far
 -- the form has come; and the terms of its rule

@@ -1,21 +1,56 @@
 //! How far the references of a form were gone through, point by point: what is greatest of them is kept for the longer
 //! components from the same point.
 
-ghost use Rattle.std.specs.Prelude.{◌≡◌, ◌+◌, ◌<◌, ◌≤◌};
+ghost use Rattle.std.specs.Prelude.{◌≡◌, ◌+◌, ◌<◌, ◌≤◌, IfSome};
 ghost use Rattle.fare_trip.specs.Itinerary.{count};
+ghost use Rattle.fare_rules.specs.UnitPrice.{at_least};
 ghost use Rattle.fare_component.specs.Shared.{AreIndicators};
-ghost use Rattle.fare_component.specs.References.{AreReferences, greatest_inner};
+ghost use Rattle.fare_component.specs.References.{AreReferences, greatest_inner, to_stop};
 
 use crate::table::columns::greatest_to;
-use crate::table::entry::at_least;
 use crate::table::indicators::Indicators;
 use crate::table::references::{Reach, References};
-use fare_codes::FARE_LIMIT;
+use fare_codes::{FARE_LIMIT, Nuc};
 use fare_tariff::Edition;
 use fare_trip::Trip;
 
+/// The reference from the start of a component to a point, where that is a stopover.
+fn reference_to_stopover(
+    edition: &Edition,
+    trip: &Trip,
+    indicators: &Indicators,
+    a: usize,
+    known: &mut References,
+    j: usize,
+) -> Option<Nuc>
+    requires indicators { AreIndicators edition.now trip.now indicators.now.rows }
+    requires known { AreReferences edition.now trip.now known.old }
+    requires rises { a < j }
+    requires within { j ≤ count trip.now }
+    ensures value { result ≡ to_stop edition.now trip.now known.old.form a j }
+    ensures bound { IfSome result (λ amount. amount < FARE_LIMIT) }
+    ensures form { known.new.form ≡ known.old.form }
+    ensures known { AreReferences edition.now trip.now known.new }
+{
+    if trip.sector(j).stop {
+        known.between(edition, trip, indicators, a, j)
+    } else {
+        None
+    }
+}
+
+/// The greater of an amount of hundredths and a reference, where there is one.
+fn or_more(high: u64, found: &Option<Nuc>) -> u64
+    ensures { result ≡ at_least high found.now }
+{
+    match found {
+        None => high,
+        Some(found) => high.max(found.hundredths()),
+    }
+}
+
 /// The greatest reference, in hundredths, of the pairs that each component from a point to one behind another compares,
-/// where it is known for those that end before that other point.
+/// where it is known for those that end before that other point, and so is the reference to it.
 #[tactic(auto, using(crate::proofs::ReachLemmas::further, crate::proofs::ReachLemmas::no_further))]
 fn high_to(
     edition: &Edition,
@@ -25,6 +60,7 @@ fn high_to(
     known: &mut References,
     j: usize,
     high: u64,
+    first: &Option<Nuc>,
 ) -> u64
     requires indicators { AreIndicators edition.now trip.now indicators.now.rows }
     requires known { AreReferences edition.now trip.now known.old }
@@ -32,22 +68,23 @@ fn high_to(
     requires within { j ≤ count trip.now }
     requires high { high ≡ greatest_inner edition.now trip.now known.old.form a j }
     requires low { high < FARE_LIMIT }
+    requires first { first.now ≡ to_stop edition.now trip.now known.old.form a j }
+    requires first_low { IfSome first.now (λ amount. amount < FARE_LIMIT) }
     ensures value { result ≡ greatest_inner edition.now trip.now known.old.form a (j + 1) }
     ensures bound { result < FARE_LIMIT }
     ensures form { known.new.form ≡ known.old.form }
-    ensures reach { known.new.reach ≡ known.old.reach }
     ensures known { AreReferences edition.now trip.now known.new }
 {
     if trip.sector(j).stop {
         let later = greatest_to(edition, trip, indicators, known, a + 1, j);
-        let first = known.between(edition, trip, indicators, a, j);
-        high.max(at_least(later, first).hundredths())
+        high.max(or_more(later.hundredths(), first))
     } else {
         high
     }
 }
 
 /// Goes one point further.
+#[tactic(auto, using(crate::proofs::ReachLemmas::first_further))]
 fn go_on(edition: &Edition, trip: &Trip, indicators: &Indicators, known: &mut References)
     requires indicators { AreIndicators edition.now trip.now indicators.now.rows }
     requires known { AreReferences edition.now trip.now known.old }
@@ -61,19 +98,15 @@ fn go_on(edition: &Edition, trip: &Trip, indicators: &Indicators, known: &mut Re
     let from = known.reach.from;
     let past = known.reach.past;
     prove!(past <= count);
-    let high = high_to(
-        edition,
-        trip,
-        indicators,
-        from,
-        known,
-        past,
-        known.reach.high,
-    );
+    let high = known.reach.high;
+    let first = known.reach.first;
+    let found = reference_to_stopover(edition, trip, indicators, from, known, past);
+    let high = high_to(edition, trip, indicators, from, known, past, high, &found);
     known.reach = Reach {
         from,
         past: past + 1,
         high,
+        first: or_more(first, &found),
     };
 }
 

@@ -30,12 +30,14 @@ pub(crate) struct Form {
 }
 
 /// How far the references of one form were gone through, for the components from a point on: the greatest of those
-/// that each of them compares and that end before another point, in hundredths.
+/// that each of them compares and that end before another point, and of those that begin at the first point and end at
+/// a stopover before the other, in hundredths.
 #[derive(Clone, Copy)]
 pub(crate) struct Reach {
     pub(crate) from: usize,
     pub(crate) past: usize,
     pub(crate) high: u64,
+    pub(crate) first: u64,
 }
 
 /// The greatest reference of one form, in hundredths, from the stopovers from a point on to a later point.
@@ -135,6 +137,7 @@ impl Reach {
             from: a,
             past: a + 1,
             high: 0,
+            first: 0,
         }
     }
 }
