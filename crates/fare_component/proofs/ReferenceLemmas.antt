@@ -28,18 +28,18 @@ same_at x n place =
     ]
 
 -- what stands at a place once one is written
-at_put : {A : Type 0} (slots : List A) (place at : ℕ) (one d : A) (P : A → Type 0) → (at ≡ place → P one)
-    → P (get_or slots at d) → P (get_or (set slots place one) at d)
-at_put slots place at one d P here there =
+at_put : (slots : List (Option (Option ℕ))) (place at : ℕ) (found : Option ℕ) (P : Option ℕ → Type 0)
+    → (at ≡ place → P found) → IfSome (get_or slots at None) P
+    → IfSome (get_or (set slots place (Some found)) at None) P
+at_put slots place at found P here there =
     elim (cases_eq at place) [
-      | inr other ↦ subst P (sym (get_or-set_other slots place at one d other)) there
+      | inr other ↦ subst (λ (o : Option (Option ℕ)). IfSome o P) (sym (get_or-set_other slots place at (Some found) None other)) there
       | inl same ↦
           elim (cases_lt place (length slots)) [
-            | inl within ↦ subst P (sym (get_or-set_at slots place at one d same within)) (here same)
+            | inl within ↦ subst (λ (o : Option (Option ℕ)). IfSome o P) (sym (get_or-set_at slots place at (Some found) None same within)) (here same)
             | inr past ↦
-                let before = get_or_past slots at d (omega arith) in
-                let after = get_or_past (set slots place one) at d (omega (arith, length-set slots place one)) in
-                subst P (before ∙ sym after) there
+                subst (λ (o : Option (Option ℕ)). IfSome o P)
+                (sym (get_or_past (set slots place (Some found)) at None (omega (arith, length-set slots place (Some found), past, same)))) tt
           ]
     ]
 
@@ -50,7 +50,7 @@ pub references_put : (tariff : Tariff) (trip : Itinerary) (known : References) (
     → AreReferences tariff trip (record known { found = set known.found (i * 17 + j) (Some found) })
 references_put tariff trip known i j found short rises within right one =
     record {
-      found = λ p q up last. at_put known.found (i * 17 + j) (p * 17 + q) (Some found) None (λ o. IfSome o (IsReference tariff trip known.form p q))
+      found = λ p q up last. at_put known.found (i * 17 + j) (p * 17 + q) found (IsReference tariff trip known.form p q)
           (λ same.
           let first : i ≡ p = omega arith in
           let second : j ≡ q = omega arith in
@@ -58,20 +58,6 @@ references_put tariff trip known i j found short rises within right one =
           (subst (λ (n : ℕ). IsReference tariff trip known.form i n found) second one))
           (right.found p q up last);
       columns = right.columns;
-      reach = right.reach;
-      asked = right.asked;
-    }
-
--- and once one column is
-pub column_kept : (tariff : Tariff) (trip : Itinerary) (known : References) (j : ℕ) (column : Column)
-    → AreReferences tariff trip known → IsColumn tariff trip known.form j column
-    → AreReferences tariff trip (record known { columns = set known.columns j (Some column) })
-column_kept tariff trip known j column right one =
-    record {
-      found = right.found;
-      columns = λ q within. at_put known.columns j q (Some column) None (λ o. IfSome o (IsColumn tariff trip known.form q))
-          (λ same. subst (λ (n : ℕ). IsColumn tariff trip known.form n column) (sym same) one)
-          (right.columns q within);
       reach = right.reach;
       asked = right.asked;
     }
@@ -117,7 +103,7 @@ base_of_form tariff trip a b fare back form of_form =
     ∙ moulded_pairs tariff trip a b fare form.fare form.back
     ∙ ap (compared_pairs tariff trip a b fare) of_form.direction)
 
--- nothing is a minimum above no amount
+-- the minimum above what there may be, where nothing counts as 0
 minimum_of : (low : ℕ) (high : Option ℕ)
     → minimum_above low (unwrap_or high 0) ≡ option_and_then (minimum_above low) high
 minimum_of low None = ap (λ t. cond t (Some (0 + (0 - low))) None) (le-ltb low 0 (omega arith))
