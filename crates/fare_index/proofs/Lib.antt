@@ -1,4 +1,5 @@
 pub mod SharedSlots
+pub mod Halved
 pub mod Passed
 pub mod Walked
 pub mod SamePairs

@@ -5,13 +5,14 @@ use Rattle.std.proofs.lemmas.Bool.{cases_eq, cases_lt, eqb-true, eq-eqb}
 use Rattle.std.proofs.lemmas.List.{at_drop_more, at_drop_all, drop-set, length-set, get_or_default}
 use Rattle.fare_index.specs.declared.key.Key.{Key}
 use Rattle.fare_index.specs.declared.places.Places.{Places}
-use Rattle.fare_index.specs.Slots.{slot_of, has_slot, share_slot}
-use Rattle.fare_index.specs.Places.{AreChained, AreHeads, ArePlaces, LeadsOn, next_places}
+use Rattle.fare_index.specs.declared.slots.Slots.{Slots}
+use Rattle.fare_index.specs.Slots.{slot_count, slot_of, has_slot, share_slot}
+use Rattle.fare_index.specs.Places.{AreHeads, ArePlaces, LeadsOn, next_places}
 use Rattle.fare_index.proofs.SharedSlots.{shares_own, share_alike}
 
 -- the first places of the slots, the next places of the keys from a place on, and those that are the first of theirs
-pub record IsPassed (slots : ℕ) (keys : List Key) (place : ℕ) (heads links : List (Option ℕ)) (leads : List Bool) : Type 0 where
-  pub many_heads : length heads ≡ slots
+pub record IsPassed (slots : Slots) (keys : List Key) (place : ℕ) (heads links : List (Option ℕ)) (leads : List Bool) : Type 0 where
+  pub many_heads : length heads ≡ slot_count slots
   pub are_heads : AreHeads slots place (drop place keys) heads
   pub many_links : length links ≡ length keys
   pub are_links : drop place links ≡ next_places slots place (drop place keys)
@@ -23,7 +24,7 @@ here_or_further : (place q : ℕ) → place ≤ q → (q ≡ place) ⊎ (place +
 here_or_further place q low = ⊎_elim (λ lt. inl (omega (arith, lt, low))) (λ ge. inr ge) (cases_lt q (place + 1))
 
 -- the first of its slot after a key, where it isn't the later one of that key's slot, is its first with it too
-leads_on : (slots place q : ℕ) (key other : Key) (rest : List Key) (later : Option ℕ) → later ≡ position_from (share_slot slots key) (place + 1) rest → (later ≡ Some q → ⊥) → position_from (share_slot slots other) (place + 1) rest ≡ Some q → position_from (share_slot slots other) place (key ∷ rest) ≡ Some q
+leads_on : (slots : Slots) (place q : ℕ) (key other : Key) (rest : List Key) (later : Option ℕ) → later ≡ position_from (share_slot slots key) (place + 1) rest → (later ≡ Some q → ⊥) → position_from (share_slot slots other) (place + 1) rest ≡ Some q → position_from (share_slot slots other) place (key ∷ rest) ≡ Some q
 leads_on slots place q key other rest later is another first = go (share_slot slots other key) refl
   where
     go : (t : Bool) → share_slot slots other key ≡ t → cond t (Some place) (position_from (share_slot slots other) (place + 1) rest) ≡ Some q
@@ -43,10 +44,10 @@ not_true true never = absurd (never refl)
 not_true false never = refl
 
 -- before the pass
-pub passed_none : (slots : ℕ) (keys : List Key) (heads links : List (Option ℕ)) (leads : List Bool) → heads ≡ replicate slots None → length heads ≡ slots → length links ≡ length keys → length leads ≡ length keys → IsPassed slots keys (length keys) heads links leads
+pub passed_none : (slots : Slots) (keys : List Key) (heads links : List (Option ℕ)) (leads : List Bool) → heads ≡ replicate (slot_count slots) None → length heads ≡ slot_count slots → length links ≡ length keys → length leads ≡ length keys → IsPassed slots keys (length keys) heads links leads
 passed_none slots keys heads links leads empty many_heads many_links many_leads = record {
   many_heads = many_heads;
-  are_heads = λ slot h. ap (λ l. get_or l slot None) empty ∙ none_at slots slot None ∙ sym (at_drop_all (position_from (has_slot slots slot) (length keys)) keys (length keys) (omega arith));
+  are_heads = λ slot h. ap (λ l. get_or l slot None) empty ∙ none_at (slot_count slots) slot None ∙ sym (at_drop_all (position_from (has_slot slots slot) (length keys)) keys (length keys) (omega arith));
   many_links = many_links;
   are_links = at_drop_all (λ l. l) links (length keys) (omega (arith, many_links)) ∙ sym (at_drop_all (next_places slots (length keys)) keys (length keys) (omega arith));
   many_leads = many_leads;
@@ -54,7 +55,7 @@ passed_none slots keys heads links leads empty many_heads many_links many_leads 
 }
 
 -- one key more, before those that have been passed
-pub passed_more : (slots : ℕ) (keys : List Key) (till place slot : ℕ) (key : Key) (heads links : List (Option ℕ)) (leads still : List Bool) (head later : Option ℕ) → till ≡ place + 1 → place < length keys → key ≡ get_or keys place key → slot ≡ slot_of slots key → slot < slots → head ≡ Some place → later ≡ get_or heads slot later → length still ≡ length leads → ((q : ℕ) → get_or still q false ≡ true → LeadsOn leads later q) → IsPassed slots keys till heads links leads → IsPassed slots keys place (set heads slot head) (set links place later) still
+pub passed_more : (slots : Slots) (keys : List Key) (till place slot : ℕ) (key : Key) (heads links : List (Option ℕ)) (leads still : List Bool) (head later : Option ℕ) → till ≡ place + 1 → place < length keys → key ≡ get_or keys place key → slot ≡ slot_of slots key → slot < slot_count slots → head ≡ Some place → later ≡ get_or heads slot later → length still ≡ length leads → ((q : ℕ) → get_or still q false ≡ true → LeadsOn leads later q) → IsPassed slots keys till heads links leads → IsPassed slots keys place (set heads slot head) (set links place later) still
 passed_more slots keys till place slot key heads links leads still head later one within at slot_is slot_within head_is was as_many leading till_there =
     let passed = subst (λ n. IsPassed slots keys n heads links leads) one till_there in
     let rest = drop (place + 1) keys in
@@ -86,7 +87,7 @@ passed_more slots keys till place slot key heads links leads still head later on
           (here_or_further place q low);
     })
   where
-    more_heads : (s : ℕ) → s < slots → get_or heads s None ≡ position_from (has_slot slots s) (place + 1) (drop (place + 1) keys) → slot ≡ slot_of slots key → slot < length heads → get_or (set heads slot (Some place)) s None ≡ position_from (has_slot slots s) place (key ∷ drop (place + 1) keys)
+    more_heads : (s : ℕ) → s < slot_count slots → get_or heads s None ≡ position_from (has_slot slots s) (place + 1) (drop (place + 1) keys) → slot ≡ slot_of slots key → slot < length heads → get_or (set heads slot (Some place)) s None ≡ position_from (has_slot slots s) place (key ∷ drop (place + 1) keys)
     more_heads s h there own in_heads = ⊎_elim
         (λ (same : s ≡ slot).
         ap (λ i. get_or (set heads slot (Some place)) i None) same
@@ -99,11 +100,11 @@ passed_more slots keys till place slot key heads links leads still head later on
         (cases_eq s slot)
 
 -- after the pass
-pub passed_all : (slots : ℕ) (keys : List Key) (place : ℕ) (places : Places) → place ≤ 0 → 0 < slots → IsPassed slots keys place places.heads.items places.links.items places.leads.items → ArePlaces keys places
-passed_all slots keys place places none some till_there =
+pub passed_all : (keys : List Key) (place : ℕ) (places : Places) → place ≤ 0 → 0 < slot_count places.slots → IsPassed places.slots keys place places.heads.items places.links.items places.leads.items → ArePlaces keys places
+passed_all keys place places none some till_there =
     let start : place ≡ 0 = omega arith in
-    let passed = subst (λ n. IsPassed slots keys n places.heads.items places.links.items places.leads.items) start till_there in
-    subst (λ n. AreChained n keys places) (sym passed.many_heads) (record {
+    let passed = subst (λ n. IsPassed places.slots keys n places.heads.items places.links.items places.leads.items) start till_there in
+    record {
       some_slot = some;
       many_heads = passed.many_heads;
       heads = passed.are_heads;
@@ -111,10 +112,10 @@ passed_all slots keys place places none some till_there =
       links = passed.are_links;
       many_leads = passed.many_leads;
       lead = λ q d high led. passed.lead q d (omega arith) high led;
-    })
+    }
 
 -- the next place of the slot of the key at a place is sought from the place after it
-next_at : (slots : ℕ) (keys : List Key) (from place : ℕ) (d : Key) (o : Option ℕ) → place < length keys → get_or (next_places slots from keys) place o ≡ position_from (share_slot slots (get_or keys place d)) (from + (place + 1)) (drop (place + 1) keys)
+next_at : (slots : Slots) (keys : List Key) (from place : ℕ) (d : Key) (o : Option ℕ) → place < length keys → get_or (next_places slots from keys) place o ≡ position_from (share_slot slots (get_or keys place d)) (from + (place + 1)) (drop (place + 1) keys)
 next_at slots [] from place d o h = absurd (omega arith)
 next_at slots (x ∷ xs) from zero d o h = refl
 next_at slots (x ∷ xs) from (suc k) d o h =
@@ -124,7 +125,7 @@ next_at slots (x ∷ xs) from (suc k) d o h =
     ∙ ap (λ n. position_from (share_slot slots (get_or xs k d)) n (drop (k + 1) xs)) shifted
     ∙ ap (λ n. position_from (share_slot slots (get_or xs k d)) (from + (suc k + 1)) (drop n (x ∷ xs))) (sym further)
 
-pub linked_at : (slots : ℕ) (keys : List Key) (links : List (Option ℕ)) (place : ℕ) (d : Key) (o : Option ℕ) → links ≡ next_places slots 0 keys → place < length keys → get_or links place o ≡ position_from (share_slot slots (get_or keys place d)) (place + 1) (drop (place + 1) keys)
+pub linked_at : (slots : Slots) (keys : List Key) (links : List (Option ℕ)) (place : ℕ) (d : Key) (o : Option ℕ) → links ≡ next_places slots 0 keys → place < length keys → get_or links place o ≡ position_from (share_slot slots (get_or keys place d)) (place + 1) (drop (place + 1) keys)
 linked_at slots keys links place d o are within =
     let start : 0 + (place + 1) ≡ place + 1 = omega arith in
     ap (λ l. get_or l place o) are

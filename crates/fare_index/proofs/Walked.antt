@@ -5,6 +5,7 @@ use Rattle.std.proofs.lemmas.List.{at_drop_more, get_or-drop, length-drop}
 use Rattle.fare_index.specs.declared.key.Key.{Key}
 use Rattle.fare_index.specs.Key.{same_key}
 use Rattle.fare_index.specs.SameKeys.{same_key-refl}
+use Rattle.fare_index.specs.declared.slots.Slots.{Slots}
 use Rattle.fare_index.specs.Slots.{share_slot}
 use Rattle.fare_index.proofs.SharedSlots.{same_shares, share_alike}
 
@@ -74,17 +75,17 @@ drop_twice (suc k) n (x ∷ xs) =
     drop_twice k n xs ∙ ap (λ m. drop m (x ∷ xs)) one
 
 -- the walk at a place of the list: the key isn't before it, from where the walk began on
-pub record IsWalked (slots : ℕ) (keys : List Key) (key : Key) (from : ℕ) (at : Option ℕ) : Type 0 where
+pub record IsWalked (slots : Slots) (keys : List Key) (key : Key) (from : ℕ) (at : Option ℕ) : Type 0 where
   pub start : ℕ
   pub start_within : start ≤ length keys
   pub first : at ≡ position_from (share_slot slots key) start (drop start keys)
   pub rest : position_from (same_key key) from (drop from keys) ≡ position_from (same_key key) start (drop start keys)
 
-pub walk_begins : (slots : ℕ) (keys : List Key) (key : Key) (from : ℕ) (at : Option ℕ) → from ≤ length keys → at ≡ position_from (share_slot slots key) from (drop from keys) → IsWalked slots keys key from at
+pub walk_begins : (slots : Slots) (keys : List Key) (key : Key) (from : ℕ) (at : Option ℕ) → from ≤ length keys → at ≡ position_from (share_slot slots key) from (drop from keys) → IsWalked slots keys key from at
 walk_begins slots keys key from at within is = record { start = from; start_within = within; first = is; rest = refl }
 
 -- the walk is over
-pub walk_ends : (slots : ℕ) (keys : List Key) (key : Key) (from : ℕ) (at : Option ℕ) → at ≡ None → IsWalked slots keys key from at → None ≡ position_from (same_key key) from (drop from keys)
+pub walk_ends : (slots : Slots) (keys : List Key) (key : Key) (from : ℕ) (at : Option ℕ) → at ≡ None → IsWalked slots keys key from at → None ≡ position_from (same_key key) from (drop from keys)
 walk_ends slots keys key from at over walked =
     sym (walked.rest ∙ none_passes (same_key key) (share_slot slots key) (same_shares slots key) walked.start (drop walked.start keys) (sym walked.first ∙ over))
 
@@ -94,12 +95,12 @@ left_from keys None = 0
 left_from keys (Some place) = length keys - place
 
 -- what is known at a place of the slot
-pub record IsAt (slots : ℕ) (keys : List Key) (key : Key) (from place : ℕ) : Type 0 where
+pub record IsAt (slots : Slots) (keys : List Key) (key : Key) (from place : ℕ) : Type 0 where
   pub within : place < length keys
   pub shares : (d : Key) → share_slot slots key (get_or keys place d) ≡ true
   pub rest : position_from (same_key key) from (drop from keys) ≡ position_from (same_key key) place (drop place keys)
 
-pub walk_at : (slots : ℕ) (keys : List Key) (key : Key) (from : ℕ) (at : Option ℕ) (place : ℕ) → at ≡ Some place → IsWalked slots keys key from at → IsAt slots keys key from place
+pub walk_at : (slots : Slots) (keys : List Key) (key : Key) (from : ℕ) (at : Option ℕ) (place : ℕ) → at ≡ Some place → IsWalked slots keys key from at → IsAt slots keys key from place
 walk_at slots keys key from at place is walked =
     let k = walked.start in
     let there = reached (same_key key) (share_slot slots key) (same_shares slots key) walked.start (drop walked.start keys) place (sym walked.first ∙ is) in
@@ -111,18 +112,18 @@ walk_at slots keys key from at place is walked =
     }
 
 -- what is left from a place on begins with what stands there
-left_at : (slots : ℕ) (keys : List Key) (key : Key) (from place : ℕ) (one : Key) → one ≡ get_or keys place one → IsAt slots keys key from place → position_from (same_key key) from (drop from keys) ≡ cond (same_key key one) (Some place) (position_from (same_key key) (place + 1) (drop (place + 1) keys))
+left_at : (slots : Slots) (keys : List Key) (key : Key) (from place : ℕ) (one : Key) → one ≡ get_or keys place one → IsAt slots keys key from place → position_from (same_key key) from (drop from keys) ≡ cond (same_key key one) (Some place) (position_from (same_key key) (place + 1) (drop (place + 1) keys))
 left_at slots keys key from place one read here =
     here.rest ∙ ap (position_from (same_key key) place) (at_drop_more (λ l. l) keys place one here.within ∙ ap (λ o. o ∷ drop (place + 1) keys) (sym read))
 
 -- the key stands there
-pub walk_found : (slots : ℕ) (keys : List Key) (key : Key) (from : ℕ) (at : Option ℕ) (place : ℕ) (one : Key) → at ≡ Some place → one ≡ get_or keys place one → true ≡ same_key key one → IsWalked slots keys key from at → Some place ≡ position_from (same_key key) from (drop from keys)
+pub walk_found : (slots : Slots) (keys : List Key) (key : Key) (from : ℕ) (at : Option ℕ) (place : ℕ) (one : Key) → at ≡ Some place → one ≡ get_or keys place one → true ≡ same_key key one → IsWalked slots keys key from at → Some place ≡ position_from (same_key key) from (drop from keys)
 walk_found slots keys key from at place one is read same walked =
     sym (left_at slots keys key from place one read (walk_at slots keys key from at place is walked)
     ∙ ap (λ t. cond t (Some place) (position_from (same_key key) (place + 1) (drop (place + 1) keys))) (sym same))
 
 -- another key of the slot stands there
-pub walk_on : (slots : ℕ) (keys : List Key) (key : Key) (from : ℕ) (at next : Option ℕ) (place : ℕ) (one : Key) → at ≡ Some place → one ≡ get_or keys place one → false ≡ same_key key one → next ≡ position_from (share_slot slots (get_or keys place one)) (place + 1) (drop (place + 1) keys) → IsWalked slots keys key from at → IsWalked slots keys key from next × (left_from keys next < left_from keys at)
+pub walk_on : (slots : Slots) (keys : List Key) (key : Key) (from : ℕ) (at next : Option ℕ) (place : ℕ) (one : Key) → at ≡ Some place → one ≡ get_or keys place one → false ≡ same_key key one → next ≡ position_from (share_slot slots (get_or keys place one)) (place + 1) (drop (place + 1) keys) → IsWalked slots keys key from at → IsWalked slots keys key from next × (left_from keys next < left_from keys at)
 walk_on slots keys key from at next place one is read differs found walked =
     let here = walk_at slots keys key from at place is walked in
     let on : next ≡ position_from (share_slot slots key) (place + 1) (drop (place + 1) keys) =
@@ -143,7 +144,7 @@ walk_on slots keys key from at next place one is read differs found walked =
         omega (arith, there.behind, there.within, length-drop (place + 1) keys, (walk_at slots keys key from at place is walked).within)
 
 -- a place that is the first of its slot is the first of its key
-pub leads_key : (slots : ℕ) (keys : List Key) (place : ℕ) (d : Key) → place < length keys → position_from (share_slot slots (get_or keys place d)) 0 keys ≡ Some place → Some place ≡ position_from (same_key (get_or keys place d)) 0 keys
+pub leads_key : (slots : Slots) (keys : List Key) (place : ℕ) (d : Key) → place < length keys → position_from (share_slot slots (get_or keys place d)) 0 keys ≡ Some place → Some place ≡ position_from (same_key (get_or keys place d)) 0 keys
 leads_key slots keys place d within first =
     walk_found slots keys (get_or keys place d) 0 (Some place) place (get_or keys place d) refl (at_own keys place d d within) (sym (same_key-refl (get_or keys place d)))
     (walk_begins slots keys (get_or keys place d) 0 (Some place) (omega arith) (sym first))

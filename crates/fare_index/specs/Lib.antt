@@ -2,6 +2,8 @@ pub mod Key
 pub mod SameKeys
 pub mod Pairs
 pub mod Hashed
+pub mod Mark
+pub mod Order
 pub mod Slots
 pub mod Link
 pub mod Places

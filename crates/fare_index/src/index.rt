@@ -5,7 +5,6 @@ ghost use Rattle.fare_index.specs.Key.{same_key};
 
 use crate::key::Key;
 use crate::places::{Places, places_of, seek};
-use crate::slots::slot_of;
 use fare_outside::NoMemory;
 use std::alloc::Global;
 use std::marker::Model;
@@ -42,7 +41,7 @@ impl Index {
     pub fn first(&self, key: &Key) -> Option<usize>
         ensures { result ≡ position_from (same_key key.now) 0 self.now }
     {
-        let slot = slot_of(key, self.places.heads.len());
+        let slot = self.places.slots.of(key);
         seek(
             self.keys.as_slice(),
             &self.places,

@@ -3,7 +3,9 @@
 //!
 //! - `key`: the key of a filed record, in which a pair of cities is unordered where the record's is;
 //! - `pairs`: the keys of unordered pairs;
-//! - `slots`: the slot of a key, by its hash;
+//! - `mark`: a number for each kind of key and indicator;
+//! - `order`: the order of keys, and the place of a key among keys in that order;
+//! - `slots`: the slot of a key, by its hash, or by its place among keys where too many would share one;
 //! - `link`: a place, or nothing, in four bytes;
 //! - `places`: the places of the keys of a slot, linked in one pass over a list of keys from its back;
 //! - `index`: the index of a list of keys.
@@ -12,6 +14,8 @@
 mod index;
 mod key;
 mod link;
+mod mark;
+mod order;
 mod pairs;
 mod places;
 mod slots;

@@ -1,21 +1,29 @@
 //! The places of the keys of a list: the first place of each slot, and after each place the next one of its slot. They
-//! are made in one pass from the back in which no two keys are compared; only a look-up compares keys.
+//! are made in one pass from the back, by hash, in which no two keys are compared; only a look-up compares keys. Where
+//! a slot gets so many places that look-ups would be slow, they are made by the order of the keys instead.
 
-ghost use Rattle.std.specs.Prelude.{ℕ, ◌≡◌, ◌≤◌, true, false, IfOk, length, drop, slice_index_or};
+ghost use Rattle.std.specs.Prelude.{ℕ, ◌≡◌, ◌<◌, ◌≤◌, true, false, IfOk, length, drop, slice_index_or};
 ghost use Rattle.std.specs.List.{position_from};
 ghost use Rattle.fare_index.specs.Key.{same_key};
-ghost use Rattle.fare_index.specs.Slots.{share_slot};
+ghost use Rattle.fare_index.specs.Slots.{share_slot, slot_count};
 ghost use Rattle.fare_index.specs.Places.{ArePlaces, LeadsOn};
 
 use crate::key::Key;
 use crate::link::Link;
-use crate::slots::slot_of;
+use crate::slots::Slots;
 use fare_outside::NoMemory;
 use std::alloc::Global;
 
-/// The first place of each slot, and for each place the next of its slot and whether it is the first one.
+/// With more places than these in one slot a list is linked by the order of its keys. An edition has at most 64 records
+/// of one key, so three keys may share a slot by chance.
+const MOST_IN_SLOT: u8 = 192;
+
+/// The slots of keys, the first place of each slot, and for each place the next of its slot and whether it leads. A place
+/// that leads is the first of its slot, and so of its key; that each first one leads isn't said, since of another place
+/// the first one of its key is looked up.
 #[derive(Drop)]
 pub(crate) struct Places {
+    pub(crate) slots: Slots,
     pub(crate) heads: Vec<Link>,
     pub(crate) links: Vec<Link>,
     pub(crate) leads: Vec<bool>,
@@ -36,6 +44,47 @@ fn follow(leads: &mut Vec<bool>, later: Link)
     }
 }
 
+/// The places of a list of keys, by their slots.
+fn places_by(alloc: Global, keys: &[Key], slots: Slots) -> Result<Places, NoMemory>
+    requires in_links { length keys.now ≤ u32.MAX }
+    requires some_slot { 0 < slot_count slots }
+    ensures { IfOk result (ArePlaces keys.now) }
+{
+    let mut heads = vec![in alloc; Link::none(); slots.count()]?;
+    let mut links = vec![in alloc; Link::none(); keys.len()]?;
+    let mut leads = vec![in alloc; true; keys.len()]?;
+    for place in (0..keys.len()).rev() {
+        let slot = slots.of(&keys[place]);
+        let later = heads[slot];
+        follow(&mut leads, later);
+        links[place] = later;
+        heads[slot] = Link::to(place as u32);
+    }
+    Ok(Places {
+        slots,
+        heads,
+        links,
+        leads,
+    })
+}
+
+/// Whether some slot has too many places. Nothing is known of the answer: it decides how fast look-ups are, and not
+/// what they answer.
+fn is_crowded(alloc: Global, links: &[Link]) -> Result<bool, NoMemory> {
+    let mut counts = vec![in alloc; 0u8; links.len()]?;
+    for place in (0..links.len()).rev() {
+        let behind = match links[place].place() {
+            None => 0,
+            Some(next) => counts.get(next as usize).copied().unwrap_or(0),
+        };
+        if behind >= MOST_IN_SLOT {
+            return Ok(true);
+        }
+        counts[place] = behind + 1;
+    }
+    Ok(false)
+}
+
 /// The places of a list of keys. A list whose length doesn't fit 32 bits is answered as want of memory.
 pub(crate) fn places_of(alloc: Global, keys: &[Key]) -> Result<Places, NoMemory>
     ensures { IfOk result (ArePlaces keys.now) }
@@ -43,22 +92,11 @@ pub(crate) fn places_of(alloc: Global, keys: &[Key]) -> Result<Places, NoMemory>
     if keys.len() > u32::MAX as usize {
         return Err(NoMemory);
     }
-    let slots = keys.len().max(1).next_power_of_two();
-    let mut heads = vec![in alloc; Link::none(); slots]?;
-    let mut links = vec![in alloc; Link::none(); keys.len()]?;
-    let mut leads = vec![in alloc; true; keys.len()]?;
-    for place in (0..keys.len()).rev() {
-        let slot = slot_of(&keys[place], slots);
-        let later = heads[slot];
-        follow(&mut leads, later);
-        links[place] = later;
-        heads[slot] = Link::to(place as u32);
+    let places = places_by(alloc, keys, Slots::hashed(keys.len()))?;
+    if is_crowded(alloc, places.links.as_slice())? {
+        return places_by(alloc, keys, Slots::ordered(alloc, keys)?);
     }
-    Ok(Places {
-        heads,
-        links,
-        leads,
-    })
+    Ok(places)
 }
 
 /// The first place of a key from a place on, by the first place of its slot from there on.
@@ -72,7 +110,7 @@ pub(crate) fn seek(
     requires places { ArePlaces keys.now places.now }
     requires within { from ≤ length keys.now }
     requires first { first
-        ≡ position_from (share_slot (length places.now.heads.items) key.now) from (drop from keys.now) }
+        ≡ position_from (share_slot places.now.slots key.now) from (drop from keys.now) }
     ensures { result ≡ position_from (same_key key.now) from (drop from keys.now) }
 {
     let mut at = first;

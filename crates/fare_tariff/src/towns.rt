@@ -38,7 +38,8 @@ impl Towns {
         Ok(Towns { places })
     }
 
-    /// Where the record of a city may stand.
+    /// Where the record of a city may stand. Nothing is known of the answer: it is a guess, which is looked up, and a
+    /// wrong one costs a look-up by key. Cities that share a slot cost no more than that.
     pub(crate) fn place(&self, city: City) -> usize {
         self.places
             .get(slot_of(city, self.places.len()))

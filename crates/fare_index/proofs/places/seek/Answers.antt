@@ -19,14 +19,14 @@ index-at-requires c =
 pub loop-place-smaller : goal.loop-place-smaller
 loop-place-smaller c =
     let within : c.in-Some.place < length c.args.keys.now = (walk_at _ c.args.keys.now c.args.key.now c.args.from c.loop-place.at c.in-Some.place (sym c.in-Some.ensures) c.loop-place.invariant).within in
-    (walk_on (length c.args.places.now.heads.items) c.args.keys.now c.args.key.now c.args.from c.loop-place.at c.index-at.result.now c.in-Some.place c.index-keys-place.result (sym c.in-Some.ensures) c.index-keys-place.is c.if-eq.ensures
-    (c.index-at.ensures ∙ linked_at (length c.args.places.now.heads.items) c.args.keys.now c.args.places.now.links.items c.in-Some.place c.index-keys-place.result c.index-at.result.now c.requires.places.links within) c.loop-place.invariant).1
+    (walk_on c.args.places.now.slots c.args.keys.now c.args.key.now c.args.from c.loop-place.at c.index-at.result.now c.in-Some.place c.index-keys-place.result (sym c.in-Some.ensures) c.index-keys-place.is c.if-eq.ensures
+    (c.index-at.ensures ∙ linked_at c.args.places.now.slots c.args.keys.now c.args.places.now.links.items c.in-Some.place c.index-keys-place.result c.index-at.result.now c.requires.places.links within) c.loop-place.invariant).1
 
 pub loop-place-preserved : goal.loop-place-preserved
 loop-place-preserved c =
     let within : c.in-Some.place < length c.args.keys.now = (walk_at _ c.args.keys.now c.args.key.now c.args.from c.loop-place.at c.in-Some.place (sym c.in-Some.ensures) c.loop-place.invariant).within in
-    (walk_on (length c.args.places.now.heads.items) c.args.keys.now c.args.key.now c.args.from c.loop-place.at c.index-at.result.now c.in-Some.place c.index-keys-place.result (sym c.in-Some.ensures) c.index-keys-place.is c.if-eq.ensures
-    (c.index-at.ensures ∙ linked_at (length c.args.places.now.heads.items) c.args.keys.now c.args.places.now.links.items c.in-Some.place c.index-keys-place.result c.index-at.result.now c.requires.places.links within) c.loop-place.invariant).0
+    (walk_on c.args.places.now.slots c.args.keys.now c.args.key.now c.args.from c.loop-place.at c.index-at.result.now c.in-Some.place c.index-keys-place.result (sym c.in-Some.ensures) c.index-keys-place.is c.if-eq.ensures
+    (c.index-at.ensures ∙ linked_at c.args.places.now.slots c.args.keys.now c.args.places.now.links.items c.in-Some.place c.index-keys-place.result c.index-at.result.now c.requires.places.links within) c.loop-place.invariant).0
 
 pub returns : goal.returns
 returns c = walk_ends _ c.args.keys.now c.args.key.now c.args.from c.loop-place.at (sym c.in_default.ensures) c.loop-place.invariant

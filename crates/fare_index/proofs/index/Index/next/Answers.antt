@@ -7,7 +7,7 @@ use Rattle.fare_index.proofs.index.Index.next.Goals as goal
 
 pub seek-requires-clause-first : goal.seek-requires-clause-first
 seek-requires-clause-first c =
-    let slots = length c.self.inside.places.heads.items in
+    let slots = c.self.inside.places.slots in
     let keys = c.self.inside.keys.items in
     let within : c.args.place < length c.self.inside.keys.items = omega (arith, c.requires, ap length c.self.view_is) in
     c.index-2.ensures
