@@ -1,9 +1,9 @@
 pub mod Key
 pub mod SameKeys
 pub mod Pairs
-pub mod Hashed
 pub mod Mark
-pub mod Order
+pub mod Hashed
+pub mod Rank
 pub mod Slots
 pub mod Link
 pub mod Places

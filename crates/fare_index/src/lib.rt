@@ -4,20 +4,22 @@
 //! - `key`: the key of a filed record, in which a pair of cities is unordered where the record's is;
 //! - `pairs`: the keys of unordered pairs;
 //! - `mark`: a number for each kind of key and indicator;
-//! - `order`: the order of keys, and the place of a key among keys in that order;
-//! - `slots`: the slot of a key, by its hash, or by its place among keys where too many would share one;
+//! - `hashed`: the hash of a key;
+//! - `rank`: hashes in their order, and the place of one among them;
+//! - `slots`: the slot of a key, by the last bits of its hash, or by the place of its hash where too many would share one;
 //! - `link`: a place, or nothing, in four bytes;
 //! - `places`: the places of the keys of a slot, linked in one pass over a list of keys from its back;
 //! - `index`: the index of a list of keys.
 #![tactic(auto)]
 
+mod hashed;
 mod index;
 mod key;
 mod link;
 mod mark;
-mod order;
 mod pairs;
 mod places;
+mod rank;
 mod slots;
 
 pub use index::Index;

@@ -1,6 +1,6 @@
 //! The places of the keys of a list: the first place of each slot, and after each place the next one of its slot. They
-//! are made in one pass from the back, by hash, in which no two keys are compared; only a look-up compares keys. Where
-//! a slot gets so many places that look-ups would be slow, they are made by the order of the keys instead.
+//! are made in one pass from the back, in which no two keys are compared; only a look-up compares keys. Where a slot
+//! gets so many places that look-ups would be slow, they are made once more by other slots.
 
 ghost use Rattle.std.specs.Prelude.{ℕ, ◌≡◌, ◌<◌, ◌≤◌, true, false, IfOk, length, drop, slice_index_or};
 ghost use Rattle.std.specs.List.{position_from};
@@ -14,8 +14,8 @@ use crate::slots::Slots;
 use fare_outside::NoMemory;
 use std::alloc::Global;
 
-/// With more places than these in one slot a list is linked by the order of its keys. An edition has at most 64 records
-/// of one key, so three keys may share a slot by chance.
+/// With more places than these in one slot a list is linked by the order of its hashes. An edition has at most 64
+/// records of one key, so three keys may share a slot by chance.
 const MOST_IN_SLOT: u8 = 192;
 
 /// The slots of keys, the first place of each slot, and for each place the next of its slot and whether it leads. A place
@@ -94,7 +94,7 @@ pub(crate) fn places_of(alloc: Global, keys: &[Key]) -> Result<Places, NoMemory>
     }
     let places = places_by(alloc, keys, Slots::hashed(keys.len()))?;
     if is_crowded(alloc, places.links.as_slice())? {
-        return places_by(alloc, keys, Slots::ordered(alloc, keys)?);
+        return places_by(alloc, keys, Slots::ranked(alloc, keys)?);
     }
     Ok(places)
 }

@@ -77,7 +77,7 @@ fn goes_by_order_where_many_share_a_slot(rt: HostRuntime) -> Result<(), Fail> {
     let by_hash = places_of(rt.alloc(), &few)?;
     let by_order = places_of(rt.alloc(), many.as_slice())?;
     assert!(rt; matches!(by_hash.slots, Slots::Hashed(_)));
-    assert!(rt; matches!(by_order.slots, Slots::Ordered(_)));
+    assert!(rt; matches!(by_order.slots, Slots::Ranked(_)));
     Ok(())
 }
 
