@@ -18,6 +18,10 @@ use std::alloc::Global;
 /// records of one key, so three keys may share a slot by chance.
 const MOST_IN_SLOT: u8 = 192;
 
+/// With more places than these, in the mean of all keys, behind a place in its slot it is too. Where each key has 64
+/// records there are 32.
+const MOST_BEHIND: usize = 40;
+
 /// The slots of keys, the first place of each slot, and for each place the next of its slot and whether it leads. A place
 /// that leads is the first of its slot, and so of its key; that each first one leads isn't said, since of another place
 /// the first one of its key is looked up.
@@ -68,10 +72,11 @@ fn places_by(alloc: Global, keys: &[Key], slots: Slots) -> Result<Places, NoMemo
     })
 }
 
-/// Whether some slot has too many places. Nothing is known of the answer: it decides how fast look-ups are, and not
-/// what they answer.
+/// Whether some slot has too many places, or all slots together. Nothing is known of the answer: it decides how fast
+/// look-ups are, and not what they answer.
 fn is_crowded(alloc: Global, links: &[Link]) -> Result<bool, NoMemory> {
     let mut counts = vec![in alloc; 0u8; links.len()]?;
+    let mut sum = 0usize;
     for place in (0..links.len()).rev() {
         let behind = match links[place].place() {
             None => 0,
@@ -81,8 +86,9 @@ fn is_crowded(alloc: Global, links: &[Link]) -> Result<bool, NoMemory> {
             return Ok(true);
         }
         counts[place] = behind + 1;
+        sum = sum.saturating_add(behind as usize);
     }
-    Ok(false)
+    Ok(sum > links.len().saturating_mul(MOST_BEHIND))
 }
 
 /// The places of a list of keys. A list whose length doesn't fit 32 bits is answered as want of memory.
