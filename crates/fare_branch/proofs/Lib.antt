@@ -12,6 +12,8 @@ pub mod WholeLemmas
 pub mod SameLemmas
 pub mod ShutLemmas
 pub mod OnwardLemmas
+pub mod EndingLemmas
+pub mod ChainLemmas
 pub mod RefusalLemmas
 pub mod BarredLemmas
 pub mod DiveLemmas

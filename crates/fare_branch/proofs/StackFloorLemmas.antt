@@ -18,13 +18,14 @@ use Rattle.fare_rules.proofs.CoverLemmas.{same_end}
 use Rattle.fare_rules.proofs.LawfulLemmas.{kept}
 use Rattle.fare_rules.proofs.MemberLemmas.{Member}
 use Rattle.fare_component.specs.Table.{Pricing}
-use Rattle.fare_units.specs.Onward.{must_go_on, is_shut_unit}
+use Rattle.fare_units.specs.Onward.{is_shut_unit}
 use Rattle.fare_units.proofs.NextLemmas.{front_start, front_unit, greatest_same}
 use Rattle.fare_bounds.specs.Covers.{rest_at}
 use Rattle.fare_homing.specs.declared.homing.Homing.{Homing}
 use Rattle.fare_branch.specs.declared.stacking.Open.{Open}
 use Rattle.fare_branch.specs.Costs.{part_least, units_floor}
 use Rattle.fare_homing.specs.Homing.{IsUpTo, homing_at}
+use Rattle.fare_branch.specs.Ending.{needs_more}
 use Rattle.fare_branch.specs.Floors.{IsFloorAnswer}
 use Rattle.fare_homing.specs.Rows.{cell, AreHomingsOf}
 use Rattle.fare_branch.specs.Stack.{goes_on, AreOver, may_come_to, is_blocked, IsUnderSum, IsOverOpen, AreOverOpen, IsOpenUnit}
@@ -215,15 +216,15 @@ module _ (table : Pricing) (homing : Homing) (front : List Part) (u : ℕ) (high
   over_blocked : is_blocked front (suc u) ≡ true → AreOver table homing front (suc u) behind
   over_blocked blocked = stays_by (λ rest price lawful x xs e k more some. not_blocked table.edition table.trip front rest price lawful (suc u) (omega arith) high x xs e k more some blocked)
 
-  -- some part comes to the unit, which must go on
-  goes_by : (rest : List Part) (price : ℕ) (lawful : IsLawful table.edition table.trip (front ++ rest) price) (x : ℕ) (xs : List ℕ) → own front (suc u) ≡ x ∷ xs → must_go_on table.edition table.trip front (own front (suc u)) ≡ true
+  -- some part comes to the unit, which must have more
+  goes_by : (rest : List Part) (price : ℕ) (lawful : IsLawful table.edition table.trip (front ++ rest) price) (x : ℕ) (xs : List ℕ) → own front (suc u) ≡ x ∷ xs → needs_more table.edition table.trip front (own front (suc u)) ≡ true
       → (k : ℕ) × (more : List ℕ) × (own_behind table.edition table.trip front rest (suc u) ≡ k ∷ more)
   goes_by rest price lawful x xs e must =
-      let P : List ℕ → Type 0 = λ ys. must_go_on table.edition table.trip front ys ≡ true in
+      let P : List ℕ → Type 0 = λ ys. needs_more table.edition table.trip front ys ≡ true in
       goes_behind table.edition table.trip front rest price lawful (suc u) (omega arith) (in_all table.edition table.trip front rest price lawful (suc u) (omega arith) high) x xs (own_behind table.edition table.trip front rest (suc u))
       (firsts table.edition table.trip front rest price lawful (suc u) (omega arith) high x xs e) (in_two table.edition table.trip front rest price lawful (suc u) (omega arith) high x xs e) (subst P e must)
 
-  over_none : (row : List (Option ℕ)) → is_blocked front (suc u) ≡ true → must_go_on table.edition table.trip front (own front (suc u)) ≡ true → AreOver table homing front (suc u) row
+  over_none : (row : List (Option ℕ)) → is_blocked front (suc u) ≡ true → needs_more table.edition table.trip front (own front (suc u)) ≡ true → AreOver table homing front (suc u) row
   over_none row blocked must rest price i cost lawful low most over =
       let unit_has = has_first_in table.edition table.trip front rest price lawful (suc u) (omega arith) high (own front (suc u)) refl in
       let goes_on_by = goes_by rest price lawful unit_has.0 unit_has.1 unit_has.2 must in
@@ -318,7 +319,7 @@ module _ (table : Pricing) (homing : Homing) (front : List Part) (unit : ℕ) (l
   over_no_unit row opened is blocked must =
       let P : ℕ → Type 0 = λ v. AreOver table homing front v row in
       let Q : ℕ → Type 0 = λ v. is_blocked front v ≡ true in
-      let R : ℕ → Type 0 = λ v. must_go_on table.edition table.trip front (own front v) ≡ true in
+      let R : ℕ → Type 0 = λ v. needs_more table.edition table.trip front (own front v) ≡ true in
       subst P next_unit (over_none table homing front (unit - 1) (omega arith) behind known row (subst Q (sym next_unit) blocked) (subst R (sym next_unit) (sym is.must ∙ must)))
 
   pub over_open_unit : (opened : Open) → IsOpenUnit table front unit opened → (row : List (Option ℕ)) → AreOverOpen table homing (end_of front (length front)) opened behind row → AreOver table homing front unit row

@@ -4,6 +4,7 @@
 //! - `bound`: what a search asks for the least price known, and tells what it finds;
 //! - `own_bound`: a bound that knows no more than it was told;
 //! - `pieces`: the first-part choices by their numbers, and ranges of them;
+//! - `ending`: whether a unit of first parts may end as it stands;
 //! - `refusals`: why some first parts are not gone on from;
 //! - `partial`: first parts of constructions, part by part;
 //! - `costs`: what parts cost at least;
@@ -26,6 +27,7 @@ mod bound;
 mod costs;
 mod descent;
 mod diving;
+mod ending;
 mod floors;
 mod own_bound;
 mod partial;

@@ -13,13 +13,14 @@ ghost use Rattle.fare_branch.specs.Stack.{AreOver, AreHomes, AreOverOpen, IsUnti
 ghost use Rattle.fare_branch.specs.Stack.{IsOpenUnit, is_blocked, may_come_to};
 
 use crate::costs::units_floor;
+use crate::ending::needs_more;
 use crate::partial::Partial;
 use fare_bounds::lesser;
 use fare_component::Table;
 use fare_homing::{Homing, added, are_near, cell};
 use fare_rules::{MOST_POINTS, Part};
 use fare_trip::Trip;
-use fare_units::{MOST_PARTS, is_shut_unit, must_go_on, part_at, start_of};
+use fare_units::{MOST_PARTS, is_shut_unit, part_at, start_of};
 
 /// A unit of first parts that is open: parts may come to it.
 #[derive(Clone, Copy)]
@@ -28,7 +29,7 @@ pub(crate) struct Open {
     pub start: usize,
     /// Whether it must close, since it has two parts or more.
     pub closes: bool,
-    /// Whether it must go on.
+    /// Whether it must have more parts.
     pub must: bool,
 }
 
@@ -187,7 +188,7 @@ fn open_unit(table: &Table, parts: &[Part], unit: usize) -> Open
     Open {
         start: start_of(trip, parts, first_place(parts, unit)),
         closes: part_count(parts, unit) > 1,
-        must: must_go_on(table.edition(), trip, parts, unit),
+        must: needs_more(table, parts, unit),
     }
 }
 
