@@ -15,6 +15,7 @@ pub mod OnwardLemmas
 pub mod EndingLemmas
 pub mod ChainLemmas
 pub mod RefusalLemmas
+pub mod JoiningLemmas
 pub mod BarredLemmas
 pub mod DiveLemmas
 pub mod UnitLemmas

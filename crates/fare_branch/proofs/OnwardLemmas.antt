@@ -87,7 +87,7 @@ ends_home trip parts xs h =
     (and_parts (leb 2 (length xs)) (comes_home trip parts xs) most.0).1
 
 module _ (trip : Itinerary) (parts : List Part) (all : IsCover trip parts) where
-  starts_behind : (k : ℕ) → 1 ≤ k → end_of parts k ≤ start_of trip parts (k + 1)
+  pub starts_behind : (k : ℕ) → 1 ≤ k → end_of parts k ≤ start_of trip parts (k + 1)
   starts_behind k low =
       let n : k + 1 - 1 ≡ k = omega arith in
       rw (lt-leb (k + 1) 1 (omega arith), n) (begins_later trip (end_of parts k))
@@ -183,7 +183,7 @@ module _ (tariff : Tariff) (trip : Itinerary) (front rest : List Part) (price : 
   goes_behind x xs (k ∷ more) first e must = (k, more, refl)
 
   -- with a part behind it is one of half round trips
-  no_one_way : (x : ℕ) (xs : List ℕ) (k : ℕ) (more : List ℕ) → own (front ++ rest) unit ≡ (x ∷ xs) ++ k ∷ more → holds_ow tariff (front ++ rest) ((x ∷ xs) ++ k ∷ more) ≡ false
+  pub no_one_way : (x : ℕ) (xs : List ℕ) (k : ℕ) (more : List ℕ) → own (front ++ rest) unit ≡ (x ∷ xs) ++ k ∷ more → holds_ow tariff (front ++ rest) ((x ∷ xs) ++ k ∷ more) ≡ false
   no_one_way x xs k more e =
       let n : length ((x ∷ xs) ++ k ∷ more) ≡ length (x ∷ xs) + suc (length more) = length-append (x ∷ xs) (k ∷ more) in
       let P : List ℕ → Type 0 = λ ys. (holds_ow tariff (front ++ rest) ys && ltb 1 (length ys)) ≡ false in
@@ -199,7 +199,7 @@ module _ (tariff : Tariff) (trip : Itinerary) (front rest : List Part) (price : 
       (omega arith, omega arith)
 
   -- what ends there ends behind the first parts
-  point_behind : (j : ℕ) → 1 ≤ length front → length front < j → j ≤ length (front ++ rest) → Member (end_of (front ++ rest) j) (points_behind trip front)
+  pub point_behind : (j : ℕ) → 1 ≤ length front → length front < j → j ≤ length (front ++ rest) → Member (end_of (front ++ rest) j) (points_behind trip front)
   point_behind j some behind within =
       let all = cover trip (front ++ rest) (kept tariff trip (front ++ rest) price lawful).cover in
       let n : length (front ++ rest) ≡ length front + length rest = length-append front rest in

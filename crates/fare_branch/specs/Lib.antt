@@ -6,6 +6,7 @@ pub use Rattle.fare_homing.specs.Homing
 pub mod Floors
 pub mod Ending
 pub mod Refusals
+pub mod Joining
 pub mod Beginnings
 pub mod Costs
 pub mod Stack

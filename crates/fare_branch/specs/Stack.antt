@@ -5,7 +5,7 @@ use Rattle.fare_trip.specs.Itinerary.{Itinerary, count}
 use Rattle.fare_tariff.specs.Tariff.{Tariff}
 use Rattle.fare_rules.specs.declared.part.Part.{Part}
 use Rattle.fare_rules.specs.Best.{IsLawful}
-use Rattle.fare_rules.specs.Construction.{own, first_of, last_of, start_of, end_of, unit_of}
+use Rattle.fare_rules.specs.Construction.{own, first_of, last_of, start_of, end_of}
 use Rattle.fare_component.specs.Table.{Pricing}
 use Rattle.fare_bounds.specs.Covers.{rest_at}
 use Rattle.fare_homing.specs.declared.homing.Homing.{Homing}
@@ -38,10 +38,6 @@ AreOver table homing first unit numbers =
     → end_of first (length first) ≤ i → i ≤ count table.trip
     → IsOver table.trip (cell homing.closing) (cell homing.jaw) (rest_at homing.rest) (first ++ rest) (length first)
     unit i cost → IsUpTo cost (rest_at numbers i)
-
--- a unit is blocked: it began behind the unit of the last of some parts, which it would cross if it went on
-abbrev pub is_blocked : List Part → ℕ → Bool
-is_blocked parts unit = nat_lt (unit_of parts (length parts)) unit
 
 -- a unit that begins at a point may come home at another: in the same city, or, where it has one part so far, in its
 -- country

@@ -16,10 +16,9 @@ ghost use Rattle.fare_homing.specs.Rows.{cell, AreHomingsOf};
 ghost use Rattle.fare_branch.specs.Stack.{AreOver};
 
 use crate::costs::{entry_least, units_floor};
+use crate::joining::{first_place, is_stuck};
 use crate::partial::Partial;
-use crate::stacking::{
-    Open, first_place, homes_of, is_blocked, may_come_to, over_point, over_unit,
-};
+use crate::stacking::{Open, homes_of, may_come_to, over_point, over_unit};
 use fare_component::{Entry, Table};
 use fare_homing::{Homing, added, number_at};
 use fare_rules::{MOST_POINTS, Part};
@@ -97,7 +96,7 @@ fn begun_row(
 {
     let trip = table.trip();
     let parts = front.parts();
-    if is_blocked(parts, unit) {
+    if is_stuck(table, front, unit) {
         return [None; MOST_POINTS];
     }
     if is_shut_unit(table.edition(), trip, parts, unit) {

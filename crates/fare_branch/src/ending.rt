@@ -38,7 +38,7 @@ pub(crate) fn has_amount(table: &Table, a: usize, b: usize, fare: u32, back: boo
 
 /// The last of the places of a unit; 0 where there is none.
 #[tactic(auto, using(crate::proofs::EndingLemmas::last_of_all, crate::proofs::EndingLemmas::last_here, crate::proofs::EndingLemmas::last_over, crate::proofs::EndingLemmas::last_done), unfolding(fare_rules::specs::Construction::own))]
-fn last_place(parts: &[Part], unit: usize) -> usize
+pub(crate) fn last_place(parts: &[Part], unit: usize) -> usize
     ensures value { result ≡ last_of (own parts.now unit) }
     ensures within { result ≤ length parts.now }
 {

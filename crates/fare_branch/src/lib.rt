@@ -7,6 +7,7 @@
 //! - `ending`: whether a unit of first parts may end as it stands;
 //! - `refusals`: why some first parts are not gone on from;
 //! - `partial`: first parts of constructions, part by part;
+//! - `joining`: whether a part may come to a unit of first parts again;
 //! - `costs`: what parts cost at least;
 //! - `floors`: what first parts cost at least, with all that may follow;
 //! - `stacking`: what first parts cost at least, with all that may follow, since what begins must end;
@@ -29,6 +30,7 @@ mod descent;
 mod diving;
 mod ending;
 mod floors;
+mod joining;
 mod own_bound;
 mod partial;
 mod pieces;
