@@ -29,7 +29,7 @@ const MOST_UNITS: usize = 18;
 
 /// What some first parts cost at least, and what is behind the part that comes next.
 #[derive(Drop)]
-pub(crate) struct Ahead {
+pub struct Ahead {
     /// What the first parts cost at least.
     pub spent: u64,
     /// What is behind a one way fare, by the point where it ends.
@@ -123,7 +123,7 @@ fn new_row(
 }
 
 /// What is ahead of some first parts.
-pub(crate) fn ahead_of(table: &Table, homing: &Homing, front: &Partial) -> Ahead
+pub fn ahead_of(table: &Table, homing: &Homing, front: &Partial) -> Ahead
     requires homing { AreHomingsOf table.now.edition table.now.trip homing.now }
     requires made { IsMadeWith table.now front.now }
     ensures { AreAhead table.now front.now result }
@@ -157,7 +157,7 @@ fn behind_of(ahead: &Ahead, entry: &Entry, part: Part) -> Option<u64>
 }
 
 /// What some first parts cost at least with a part of an entry and what is behind that.
-pub(crate) fn floor_with(ahead: &Ahead, entry: &Entry, part: Part) -> Option<u64>
+pub fn floor_with(ahead: &Ahead, entry: &Entry, part: Part) -> Option<u64>
     requires { IsInBounds entry.now }
     ensures { (behind : ℕ) → (if is_some entry.now.single then rest_at ahead.now.alone part.end
         else cell ahead.now.half part.unit part.end) ≡ Some behind

@@ -40,10 +40,13 @@ mod searching;
 mod stacking;
 mod walking;
 
+pub use ahead::{Ahead, ahead_of, floor_with};
+pub use barred::is_barred;
 pub use bound::{Bound, NO_PRICE};
 pub use floors::floor_of;
 pub use own_bound::OwnBound;
 pub use partial::Partial;
 pub use pieces::{Piece, choices};
-pub use quoter::BranchQuoter;
+pub use quoter::{BranchQuoter, best_of};
 pub use searching::search;
+pub use stacking::stack_floor;

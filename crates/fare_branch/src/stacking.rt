@@ -201,7 +201,7 @@ fn over_units(table: &Table, homing: &Homing, partial: &Partial) -> [Option<u64>
 /// A number that is at most the price of every completion of some first parts; nothing only where there is none. It
 /// knows that what begins must end: each open unit comes home, one inside the other, and so does each that begins
 /// behind.
-pub(crate) fn stack_floor(table: &Table, homing: &Homing, partial: &Partial) -> Option<u64>
+pub fn stack_floor(table: &Table, homing: &Homing, partial: &Partial) -> Option<u64>
     requires homing { AreHomingsOf table.now.edition table.now.trip homing.now }
     requires made { IsMadeWith table.now partial.now }
     ensures { IsFloorAnswer table.now.edition table.now.trip partial.now result }
