@@ -1,10 +1,9 @@
 -- Lists whose members stand in an order: one more member, and the first few.
-use Rattle.std.proofs.Common.{◌≡◌, ℕ, zero, suc, ◌+◌, ◌-◌, ◌<◌, ◌≤◌, ◌⊎◌, Bool, true, false, not, List, [], ◌∷◌, ◌++◌, length, take, drop, get_or, Option, Some, None, refl, ap, sym, subst, ◌∙◌, inl, inr, arith}
+use Rattle.std.proofs.Common.{◌≡◌, ℕ, zero, suc, ◌+◌, ◌<◌, ◌≤◌, ◌⊎◌, Bool, true, false, List, [], ◌∷◌, length, take, drop, get_or, Option, Some, None, refl, ap, sym, subst, ◌∙◌, inl, inr, arith}
 use Rattle.std.specs.Prelude.{slice_get, Contains, insert}
-use Rattle.std.specs.List.{AllByRecursion, AllPairs, All}
+use Rattle.std.specs.List.{AllByRecursion, AllPairs}
 use Rattle.std.proofs.Math.Numerals.{add-one}
 use Rattle.std.proofs.Math.Seq.{drop-cons, drop-length}
-use Rattle.std.proofs.lemmas.List.{length-take-le}
 use Rattle.std.proofs.lemmas.List.Elements.{All-from_recursion, recursion_from_All}
 use Rattle.std.proofs.lemmas.List.Kept.{AllPairs-cons}
 use Rattle.std.proofs.lemmas.Bool.{cases_Bool}
@@ -224,3 +223,13 @@ module _ {A : Type 0} (before : A → A → Bool) where
     costs_no_more (x ∷ xs) (suc j) last (a, r) few e =
         let rest = costs_no_more xs j last r (omega arith) e in
         (ap suc rest.0, (dearer x last (every_get (λ y. before x y ≡ true) xs j last a e), rest.1))
+
+  -- what holds of the last and of all that is before it holds of each
+  pub all_up_to : (P : A → Type 0) (xs : List A) (j : ℕ) (last : A) → Rising xs → length xs ≤ suc j → slice_get xs j ≡ Some last → P last
+      → ((x : A) → before x last ≡ true → P x) → (length xs ≡ suc j) × AllByRecursion P xs
+  all_up_to P [] j last r few e p each = absurd (none_same last e)
+  all_up_to P (x ∷ []) zero last r few e p each = (refl, (subst P (sym (some_same x last e)) p, tt))
+  all_up_to P (x ∷ y ∷ xs) zero last r few e p each = absurd (omega arith)
+  all_up_to P (x ∷ xs) (suc j) last (a, r) few e p each =
+      let rest = all_up_to P xs j last r (omega arith) e p each in
+      (ap suc rest.0, (each x (every_get (λ y. before x y ≡ true) xs j last a e), rest.1))

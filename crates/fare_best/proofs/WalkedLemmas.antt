@@ -1,25 +1,27 @@
 -- Walks that keep the first k constructions: how they are put together, and what they come to.
-use Rattle.std.proofs.Common.{◌≡◌, ℕ, suc, ◌-◌, ◌<◌, ◌≤◌, ◌⊎◌, min, true, false, List, [], ◌∷◌, length, take, Option, Some, None, Result, Ok, Err, refl, sym, subst, ◌∙◌, inl, inr, arith}
-use Rattle.std.specs.Prelude.{slice_get, All}
+use Rattle.std.proofs.Common.{◌≡◌, ℕ, suc, ◌-◌, ◌<◌, ◌≤◌, ◌⊎◌, min, true, false, List, [], ◌∷◌, ◌++◌, length, Option, Some, None, Result, Ok, Err, refl, sym, subst, ◌∙◌, inl, inr, arith}
+use Rattle.std.specs.Prelude.{slice_get}
 use Rattle.std.specs.List.{AllByRecursion}
 use Rattle.std.proofs.lemmas.List.{length-take, length-take-le}
 use Rattle.std.proofs.lemmas.List.Elements.{All-from_recursion, recursion_from_All, All-take}
-use Rattle.std.proofs.lemmas.Bool.{ltb-true}
+use Rattle.std.proofs.lemmas.Bool.{cases_lt, leb-true, ltb-true, lt-ltb}
 use Rattle.fare_trip.specs.Itinerary.{Itinerary}
 use Rattle.fare_tariff.specs.Tariff.{Tariff}
 use Rattle.fare_rules.specs.declared.part.Part.{Part}
 use Rattle.fare_rules.specs.declared.broken.Broken.{Broken}
-use Rattle.fare_rules.specs.Best.{IsLawful}
+use Rattle.fare_rules.specs.Best.{IsLawful, NoneIsLawful}
+use Rattle.fare_rules.specs.Order.{is_before}
 use Rattle.fare_rules.specs.FirstK.{Priced, IsPriced, IsBefore, IsFirstK}
 use Rattle.fare_rules.specs.Lawful.{lawful_price}
 use Rattle.fare_rules.proofs.BestLemmas.{transitive, total}
 use Rattle.fare_rules.proofs.LawfulLemmas.{kept}
 use Rattle.fare_rules.proofs.MemberLemmas.{Member, contains}
-use Rattle.fare_rules.proofs.OrderLemmas.{Before, before_tells, before_says}
+use Rattle.fare_rules.proofs.OrderLemmas.{before_tells, before_says}
 use Rattle.fare_units.specs.Walk.{Completes, IsList}
-use Rattle.fare_best.specs.Ranking.{comes_before, costs_below, first_with, is_beyond, ranked_with}
+use Rattle.fare_branch.proofs.WalkedLemmas.{before_longer}
+use Rattle.fare_best.specs.Ranking.{comes_before, comes_first, costs_below, costs_up_to, first_with, is_behind, is_beyond, is_within, ranked_with}
 use Rattle.fare_best.specs.Walked.{IsRanked, IsPlaced, IsWalk}
-use Rattle.fare_best.proofs.RankingLemmas.{contained, rising, all_pairs, take_rising, take_placed, with_every, with_kept, with_has, with_long, with_rising, full_before, costs_no_more}
+use Rattle.fare_best.proofs.RankingLemmas.{contained, rising, all_pairs, all_up_to, take_rising, take_placed, with_every, with_kept, with_has, with_long, with_rising, full_before, costs_no_more}
 
 true_false : true ≡ false → ⊥
 true_false e = cc
@@ -44,38 +46,47 @@ beyond_last : (floor : ℕ) (one : Option Priced) → costs_below floor one ≡ 
 beyond_last floor None h = absurd (true_false (sym h))
 beyond_last floor (Some last) h = (last, refl, ltb-true last.1 floor h)
 
-module _ (tariff : Tariff) (trip : Itinerary) (k : ℕ) where
+-- it costs no more than a limit
+within_last : (limit : ℕ) (one : Option Priced) → costs_up_to limit one ≡ true
+    → (last : Priced) × (one ≡ Some last) × (last.1 ≤ limit)
+within_last limit None h = absurd (true_false (sym h))
+within_last limit (Some last) h = (last, refl, leb-true last.1 limit h)
+
+beyond_by : (floor : ℕ) (one : Option Priced) (last : Priced) → one ≡ Some last → last.1 < floor → costs_below floor one ≡ true
+beyond_by floor one last e less = rw e (lt-ltb last.1 floor less)
+
+module _ (tariff : Tariff) (trip : Itinerary) (k limit : ℕ) where
   -- lists that are left out, since each lawful one has its place
   pub walk_left_out : (D : List Part → Type 0) (found : List Priced)
-      → (IsRanked tariff trip k found → (parts : List Part) (price : ℕ) → IsLawful tariff trip parts price → D parts → IsPlaced k found parts price)
-      → IsWalk tariff trip k D found found
+      → (IsRanked tariff trip k found → (parts : List Part) (price : ℕ) → IsLawful tariff trip parts price → price ≤ limit → D parts → IsPlaced k found parts price)
+      → IsWalk tariff trip k limit D found found
   walk_left_out D found placed = record { ranked = λ r. r; kept = λ r parts price p. p; walked = placed }
 
   -- a walk over lists of which none is lawful
   pub walk_nothing : (D : List Part → Type 0) (found : List Priced)
-      → ((parts : List Part) (price : ℕ) → IsLawful tariff trip parts price → D parts → ⊥) → IsWalk tariff trip k D found found
-  walk_nothing D found none = walk_left_out D found (λ r parts price l d. absurd (none parts price l d))
+      → ((parts : List Part) (price : ℕ) → IsLawful tariff trip parts price → D parts → ⊥) → IsWalk tariff trip k limit D found found
+  walk_nothing D found none = walk_left_out D found (λ r parts price l low d. absurd (none parts price l d))
 
   -- one walk after another
-  pub walk_then : (D E F : List Part → Type 0) (a b c : List Priced) → IsWalk tariff trip k D a b → IsWalk tariff trip k E b c
-      → ((parts : List Part) → F parts → D parts ⊎ E parts) → IsWalk tariff trip k F a c
+  pub walk_then : (D E F : List Part → Type 0) (a b c : List Priced) → IsWalk tariff trip k limit D a b → IsWalk tariff trip k limit E b c
+      → ((parts : List Part) → F parts → D parts ⊎ E parts) → IsWalk tariff trip k limit F a c
   walk_then D E F a b c first second each = record {
     ranked = λ r. second.ranked (first.ranked r);
     kept = λ r parts price p. second.kept (first.ranked r) parts price (first.kept r parts price p);
-    walked = λ r parts price l f. elim (each parts f) [
-      | inl h ↦ second.kept (first.ranked r) parts price (first.walked r parts price l h)
-      | inr h ↦ second.walked (first.ranked r) parts price l h
+    walked = λ r parts price l low f. elim (each parts f) [
+      | inl h ↦ second.kept (first.ranked r) parts price (first.walked r parts price l low h)
+      | inr h ↦ second.walked (first.ranked r) parts price l low h
     ];
   }
 
   -- a walk over lists among which are all lawful ones of those asked for
-  pub walk_within : (D E : List Part → Type 0) (before after : List Priced) → IsWalk tariff trip k E before after
+  pub walk_within : (D E : List Part → Type 0) (before after : List Priced) → IsWalk tariff trip k limit E before after
       → ((parts : List Part) (price : ℕ) → IsLawful tariff trip parts price → D parts → E parts)
-      → IsWalk tariff trip k D before after
+      → IsWalk tariff trip k limit D before after
   walk_within D E before after walk each = record {
     ranked = walk.ranked;
     kept = walk.kept;
-    walked = λ r parts price l d. walk.walked r parts price l (each parts price l d);
+    walked = λ r parts price l low d. walk.walked r parts price l low (each parts price l d);
   }
 
   -- two lawful constructions, of which neither is before the other, are one
@@ -128,11 +139,11 @@ module _ (tariff : Tariff) (trip : Itinerary) (k : ℕ) where
 
   -- a lawful list is taken
   pub walk_taken : (parts : List Part) (price : ℕ) (found : List Priced) → IsLawful tariff trip parts price
-      → IsWalk tariff trip k (IsList parts) found (first_with k (parts, price) found)
+      → IsWalk tariff trip k limit (IsList parts) found (first_with k (parts, price) found)
   walk_taken parts price found lawful = record {
     ranked = λ r. taken_ranked (parts, price) lawful found r;
     kept = λ r others cost p. taken_kept (parts, price) lawful found r (others, cost) p;
-    walked = λ r others cost l d.
+    walked = λ r others cost l low d.
         let P : List Part → Type 0 = λ xs. IsLawful tariff trip xs cost in
         let same : cost ≡ price = ok_same cost price (sym (subst P d l) ∙ lawful) in
         let Q : List Part → Type 0 = λ xs. IsPlaced k (first_with k (parts, price) found) xs cost in
@@ -142,7 +153,7 @@ module _ (tariff : Tariff) (trip : Itinerary) (k : ℕ) where
 
   -- a list that is not lawful is left out
   pub walk_unlawful : (parts : List Part) (broken : Broken) (found : List Priced) → lawful_price tariff trip parts ≡ Err broken
-      → IsWalk tariff trip k (IsList parts) found found
+      → IsWalk tariff trip k limit (IsList parts) found found
   walk_unlawful parts broken found e =
       walk_nothing (IsList parts) found
       (λ others price l d.
@@ -154,6 +165,24 @@ module _ (tariff : Tariff) (trip : Itinerary) (k : ℕ) where
   all_cheaper parts price low (x ∷ xs) h (up, a) =
       (before_says x.0 parts x.1 price (inl (omega arith)), all_cheaper parts price low xs h a)
 
+  -- what each of those that were found is before has its place, where these are all that are wanted
+  behind_of : (found : List Priced) (front rest parts : List Part) (floor price : ℕ) (last : Priced) → slice_get found (k - 1) ≡ Some last → 1 ≤ k → IsRanked tariff trip k found → is_before last.0 last.1 front floor ≡ true → floor ≤ price → parts ≡ front ++ rest → IsPlaced k found parts price
+  behind_of found front rest parts floor price last there some r h up whole =
+      let at_most : length found ≤ k = r.at_most in
+      let here : comes_before last (front ++ rest, price) ≡ true = before_says last.0 (front ++ rest) last.1 price (before_longer last.0 front rest last.1 floor price up (before_tells last.0 front last.1 floor h)) in
+      let P : List Part → Type 0 = λ ys. comes_before last (ys, price) ≡ true in
+      let first : comes_before last (parts, price) ≡ true = subst P (sym whole) here in
+      let full : (length found ≡ suc (k - 1)) × AllByRecursion (λ x. IsBefore x (parts, price)) found =
+      all_up_to comes_before (λ x. IsBefore x (parts, price)) found (k - 1) last (rising comes_before found r.rising) (omega arith) there first (λ x before. through x last (parts, price) before first) in
+      inr (omega arith, All-from_recursion (λ x. IsBefore x (parts, price)) found full.1)
+
+  pub behind_is_placed : (found : List Priced) (front rest parts : List Part) (floor price : ℕ) → 1 ≤ k → IsRanked tariff trip k found → is_behind k found front floor ≡ true → floor ≤ price → parts ≡ front ++ rest → IsPlaced k found parts price
+  behind_is_placed found front rest parts floor price some r h up whole = by_last (slice_get found (k - 1)) refl h
+    where
+      by_last : (one : Option Priced) → slice_get found (k - 1) ≡ one → comes_first one front floor ≡ true → IsPlaced k found parts price
+      by_last None e f = absurd (true_false (sym f))
+      by_last (Some last) e f = behind_of found front rest parts floor price last e some r f up whole
+
   -- what costs more than the last one wanted has its place
   pub beyond_is_placed : (found : List Priced) (floor price : ℕ) (parts : List Part) → 1 ≤ k → IsRanked tariff trip k found → is_beyond k found floor ≡ true → floor ≤ price → IsPlaced k found parts price
   beyond_is_placed found floor price parts some r h up =
@@ -164,16 +193,37 @@ module _ (tariff : Tariff) (trip : Itinerary) (k : ℕ) where
       costs_no_more comes_before (λ (x : Priced). x.1) costs_no_more_than found (k - 1) last.0 (rising comes_before found r.rising) (omega arith) last.1 in
       inr (omega arith, All-from_recursion (λ x. IsBefore x (parts, price)) found (all_cheaper parts price last.0.1 found (omega arith) full.1))
 
-  none_ranked : IsRanked tariff trip k []
+  pub none_ranked : IsRanked tariff trip k []
   none_ranked = record { at_most = omega arith; lawful = λ n d h. absurd (omega arith); rising = λ i j d up h. absurd (omega arith) }
 
-  -- a walk over all lists, before which nothing was found, comes to the first k
-  pub walk_is_first : (found : List Priced) → IsWalk tariff trip k (Completes []) [] found → IsFirstK tariff trip k found
-  walk_is_first found walk =
-      let r : IsRanked tariff trip k found = walk.ranked none_ranked in
-      record {
-        at_most = r.at_most;
-        lawful = r.lawful;
-        rising = r.rising;
-        others = λ other l. walk.walked none_ranked other.0 other.1 l (record { rest = other.0; whole = refl });
-      }
+  -- what was found is the first k where each lawful list has its place
+  pub is_first : (found : List Priced) → IsRanked tariff trip k found → ((parts : List Part) (price : ℕ) → IsLawful tariff trip parts price → IsPlaced k found parts price) → IsFirstK tariff trip k found
+  is_first found r placed = record {
+    at_most = r.at_most;
+    lawful = r.lawful;
+    rising = r.rising;
+    others = λ other l. placed other.0 other.1 l;
+  }
+
+  all_walked : (before after : List Priced) → IsRanked tariff trip k before → IsWalk tariff trip k limit (Completes []) before after → (parts : List Part) (price : ℕ) → IsLawful tariff trip parts price → price ≤ limit → IsPlaced k after parts price
+  all_walked before after r walk parts price l low = walk.walked r parts price l low (record { rest = parts; whole = refl })
+
+  -- so a walk over all lists comes to the first k where the last one wanted costs no more than the limit
+  pub first_within : (before after : List Priced) → 1 ≤ k → IsRanked tariff trip k before → IsWalk tariff trip k limit (Completes []) before after → is_within k after limit ≡ true → IsFirstK tariff trip k after
+  first_within before after some r walk within =
+      let ranked : IsRanked tariff trip k after = walk.ranked r in
+      let last = within_last limit (slice_get after (k - 1)) within in
+      let most : last.0.1 ≤ limit = last.2 in
+      is_first after ranked
+      (λ parts price l. elim (cases_lt limit price) [
+        | inl more ↦ beyond_is_placed after price price parts some ranked (beyond_by price (slice_get after (k - 1)) last.0 last.1 (omega arith)) (omega arith)
+        | inr up ↦ all_walked before after r walk parts price l up
+      ])
+
+  -- or where no lawful list costs more than the limit
+  pub first_of_all : (before after : List Priced) → IsRanked tariff trip k before → IsWalk tariff trip k limit (Completes []) before after → ((parts : List Part) (price : ℕ) → IsLawful tariff trip parts price → price ≤ limit) → IsFirstK tariff trip k after
+  first_of_all before after r walk low = is_first after (walk.ranked r) (λ parts price l. all_walked before after r walk parts price l (low parts price l))
+
+  -- and nothing is the first k where nothing is lawful
+  pub first_of_none : NoneIsLawful tariff trip → IsFirstK tariff trip k []
+  first_of_none none = is_first [] none_ranked (λ parts price l. absurd (none parts price l))

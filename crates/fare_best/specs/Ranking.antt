@@ -1,6 +1,7 @@
 -- Lists whose members stand in an order, and the first constructions that a walk has found.
-use Rattle.std.specs.Prelude.{ℕ, suc, ◌-◌, Bool, true, false, not, List, [], ◌∷◌, take, Option, Some, None, nat_lt}
-use Rattle.std.specs.Prelude.{slice_get, if◌then◌else◌}
+use Rattle.std.specs.Prelude.{ℕ, suc, ◌-◌, Bool, false, not, List, [], ◌∷◌, take, Option, Some, None, nat_lt}
+use Rattle.std.specs.Prelude.{slice_get, nat_le, ◌||◌, if◌then◌else◌}
+use Rattle.fare_rules.specs.declared.part.Part.{Part}
 use Rattle.fare_rules.specs.FirstK.{Priced}
 use Rattle.fare_rules.specs.Order.{is_before}
 
@@ -38,3 +39,25 @@ costs_below floor (Some one) = nat_lt one.1 floor
 -- the k-th that was found costs less than a floor
 abbrev pub is_beyond : ℕ → List Priced → ℕ → Bool
 is_beyond k found floor = costs_below floor (slice_get found (k - 1))
+
+-- what costs no less than a floor is not wanted: it costs more than a limit, or than the k-th that was found
+abbrev pub is_dear : ℕ → ℕ → List Priced → ℕ → Bool
+is_dear k limit found floor = nat_lt limit floor || is_beyond k found floor
+
+-- something was found, and is before some parts at a price
+abbrev pub comes_first : Option Priced → List Part → ℕ → Bool
+comes_first None front price = false
+comes_first (Some one) front price = is_before one.0 one.1 front price
+
+-- the k-th that was found is before some parts at a floor
+abbrev pub is_behind : ℕ → List Priced → List Part → ℕ → Bool
+is_behind k found front floor = comes_first (slice_get found (k - 1)) front floor
+
+-- something was found, and costs no more than a limit
+abbrev pub costs_up_to : ℕ → Option Priced → Bool
+costs_up_to limit None = false
+costs_up_to limit (Some one) = nat_le one.1 limit
+
+-- the k-th was found, and costs no more than a limit
+abbrev pub is_within : ℕ → List Priced → ℕ → Bool
+is_within k found limit = costs_up_to limit (slice_get found (k - 1))

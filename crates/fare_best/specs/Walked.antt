@@ -18,11 +18,11 @@ IsPlaced k found parts price =
     Contains found (parts, price) ⊎ ((length found ≡ k) × All (λ one. IsBefore one (parts, price)) found)
 
 -- from what was found a walk over some lists came to what is found then, where that was ranked: it is ranked, what had
--- its place has it, and so has each lawful list of those walked
-pub record IsWalk (tariff : Tariff) (trip : Itinerary) (k : ℕ) (D : List Part → Type 0) (before after : List Priced) :
-    Type 0 where
+-- its place has it, and so has each lawful list of those walked that costs no more than a limit
+pub record IsWalk (tariff : Tariff) (trip : Itinerary) (k limit : ℕ) (D : List Part → Type 0)
+    (before after : List Priced) : Type 0 where
   pub ranked : IsRanked tariff trip k before → IsRanked tariff trip k after
   pub kept : IsRanked tariff trip k before → (parts : List Part) (price : ℕ) → IsPlaced k before parts price
       → IsPlaced k after parts price
   pub walked : IsRanked tariff trip k before → (parts : List Part) (price : ℕ) → IsLawful tariff trip parts price
-      → D parts → IsPlaced k after parts price
+      → price ≤ limit → D parts → IsPlaced k after parts price

@@ -1,7 +1,8 @@
 //! The first constructions by Order that a walk has found.
 
-ghost use Rattle.std.specs.Prelude.{◌≡◌, ◌<◌, ◌≤◌, [], length, slice_get, option_map, vec_len, vec_capacity, IfOk};
-ghost use Rattle.fare_best.specs.Ranking.{comes_before, first_with, is_beyond, is_taken, place_of, ranked_with};
+ghost use Rattle.std.specs.Prelude.{◌≡◌, ◌-◌, ◌<◌, ◌≤◌, [], length, slice_get, option_map, vec_len, vec_capacity, IfOk};
+ghost use Rattle.fare_best.specs.Ranking.{comes_before, first_with, is_behind, is_beyond, is_taken, is_within};
+ghost use Rattle.fare_best.specs.Ranking.{place_of, ranked_with};
 
 use fare_outside::NoMemory;
 use fare_units::{Construction, earlier};
@@ -68,13 +69,40 @@ impl BestList {
         self.found.truncate(k);
     }
 
+    /// The `k`th with its price.
+    fn last_wanted(&self, k: usize) -> Option<(&Construction, u64)>
+        ensures { option_map (λ found. (found.0.now, found.1)) result ≡ slice_get self.now (k - 1) }
+    {
+        self.get(k.saturating_sub(1))
+    }
+
     /// Whether the `k`th costs less than a floor.
     pub(crate) fn is_beyond(&self, k: usize, floor: u64) -> bool
         ensures { result ≡ is_beyond k self.now floor }
     {
-        match self.found.get(k.saturating_sub(1)) {
+        match self.last_wanted(k) {
             None => false,
-            Some((_, price)) => *price < floor,
+            Some((_, price)) => price < floor,
+        }
+    }
+
+    /// Whether the `k`th is before some parts at a floor.
+    pub(crate) fn is_behind(&self, k: usize, front: &Construction, floor: u64) -> bool
+        ensures { result ≡ is_behind k self.now front.now floor }
+    {
+        match self.last_wanted(k) {
+            None => false,
+            Some((parts, price)) => earlier(parts, price, front, floor),
+        }
+    }
+
+    /// Whether there is a `k`th, and it costs no more than a limit.
+    pub(crate) fn is_within(&self, k: usize, limit: u64) -> bool
+        ensures { result ≡ is_within k self.now limit }
+    {
+        match self.last_wanted(k) {
+            None => false,
+            Some((_, price)) => price <= limit,
         }
     }
 }

@@ -1,8 +1,7 @@
-//! The first ten: the first lawful constructions of a trip by Order, up to ten of them, found by a walk that leaves out
-//! what costs more than the last one wanted.
+//! The first ten: the first lawful constructions of a trip by Order, up to ten of them, found by walks that leave out
+//! what costs more than a limit, or can't be before the last one wanted.
 //!
 //! - `best_list`: the first constructions that were found, in their order;
-//! - `front`: what a walk asks of the first parts of a construction;
 //! - `walking`: the walk over the constructions that begin with some parts;
 //! - `first`: the first of all, and the law that they are one list.
 //!
@@ -11,7 +10,6 @@
 
 mod best_list;
 mod first;
-mod front;
 mod walking;
 
 pub use best_list::{BestList, MOST_BEST};

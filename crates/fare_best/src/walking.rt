@@ -1,61 +1,97 @@
-//! The walk over the constructions that begin with some parts, which keeps the first k that it finds. What costs more
-//! than the k-th found is left out.
+//! The walk over the constructions that begin with some parts, which keeps the first of those that it finds. What costs
+//! more than a limit, or can't be before the last one wanted, is left out.
 
-ghost use Rattle.std.specs.Prelude.{◌≡◌, ◌+◌, ◌<◌, ◌≤◌, length};
+ghost use Rattle.std.specs.Prelude.{◌≡◌, ◌+◌, ◌<◌, ◌≤◌, ◌++◌, ◌∷◌, [], length, Contains};
 ghost use Rattle.fare_trip.specs.Itinerary.{count};
 ghost use Rattle.fare_rules.specs.Construction.{greatest_unit, places};
+ghost use Rattle.fare_component.specs.Table.{IsInBounds, entries_of};
 ghost use Rattle.fare_units.specs.Walk.{Completes, GoesOn, AnyPart, EndsAt, HasFare, IsPart, IsList, next_start};
-ghost use Rattle.fare_bounds.specs.Covers.{AreRests};
-ghost use Rattle.fare_branch.specs.Floors.{IsMadeWith};
+ghost use Rattle.fare_homing.specs.Rows.{AreHomingsOf};
+ghost use Rattle.fare_branch.specs.Ahead.{AreAhead};
+ghost use Rattle.fare_branch.specs.Floors.{IsFloorAnswer, IsMadeWith};
+ghost use Rattle.fare_best.specs.Ranking.{is_dear};
 ghost use Rattle.fare_best.specs.Walked.{IsWalk};
 
 use crate::best_list::{BestList, MOST_BEST};
-use crate::front::{construction_of, end_of, greatest_unit, next_start};
-use fare_bounds::Rest;
-use fare_branch::{Partial, floor_of};
-use fare_component::Table;
+use fare_branch::{Ahead, Partial, ahead_of, floor_with, is_barred, stack_floor};
+use fare_component::{Entry, Table};
+use fare_homing::Homing;
 use fare_rules::Part;
-use fare_units::lawful_price;
+use fare_units::lawful_price_by;
+
+/// What a walk wants.
+#[derive(Clone, Copy)]
+pub(crate) struct Wanted {
+    /// How many constructions.
+    pub(crate) count: usize,
+    /// What each may cost at most, in hundredths.
+    pub(crate) limit: u64,
+}
+
+/// Whether what costs no less than a floor is not wanted: it costs more than the limit, or than the last one wanted of
+/// those that were found.
+fn is_dear(wanted: Wanted, found: &BestList, floor: u64) -> bool
+    ensures { result ≡ is_dear wanted.count wanted.limit found.now floor }
+{
+    wanted.limit < floor || found.is_beyond(wanted.count, floor)
+}
 
 /// Takes a construction, where it is lawful, with its price.
-fn take(table: &Table, k: usize, front: &Partial, found: &mut BestList)
-    requires few { k ≤ MOST_BEST }
-    ensures { IsWalk table.now.edition table.now.trip k (IsList front.now) found.old found.new }
+fn take(table: &Table, wanted: Wanted, front: &Partial, found: &mut BestList)
+    requires few { wanted.count ≤ MOST_BEST }
+    ensures { IsWalk table.now.edition table.now.trip wanted.count wanted.limit (IsList front.now) found.old
+        found.new }
 {
-    let parts = construction_of(front.parts());
-    match lawful_price(table.edition(), table.trip(), &parts) {
+    match lawful_price_by(table, front.construction()) {
         Err(_) => {}
-        Ok(price) => found.insert(k, parts, price),
+        Ok(price) => found.insert(wanted.count, front.to_construction(), price),
     }
 }
 
 /// Walks over all constructions that have these parts as their first ones.
 #[cycle(walk)]
-pub(crate) fn walk(table: &Table, rest: &Rest, k: usize, front: &Partial, found: &mut BestList)
-    requires rest { AreRests table.now.edition table.now.trip rest.now }
+pub(crate) fn walk(
+    table: &Table,
+    homing: &Homing,
+    wanted: Wanted,
+    front: &Partial,
+    found: &mut BestList,
+)
+    requires homing { AreHomingsOf table.now.edition table.now.trip homing.now }
     requires made { IsMadeWith table.now front.now }
-    requires some { 1 ≤ k }
-    requires few { k ≤ MOST_BEST }
-    ensures { IsWalk table.now.edition table.now.trip k (Completes front.now) found.old found.new }
+    requires some { 1 ≤ wanted.count }
+    requires few { wanted.count ≤ MOST_BEST }
+    ensures { IsWalk table.now.edition table.now.trip wanted.count wanted.limit (Completes front.now) found.old
+        found.new }
 {
-    if end_of(front) == table.trip().count() {
-        return take(table, k, front, found);
+    if front.end() == table.trip().count() {
+        return take(table, wanted, front, found);
     }
-    walk_ends(table, rest, k, front, found)
+    let ahead = ahead_of(table, homing, front);
+    walk_ends(table, homing, wanted, front, &ahead, found)
 }
 
 /// Walks over those that go on with any part, the greatest end first.
 #[cycle(walk)]
-fn walk_ends(table: &Table, rest: &Rest, k: usize, front: &Partial, found: &mut BestList)
-    requires rest { AreRests table.now.edition table.now.trip rest.now }
+fn walk_ends(
+    table: &Table,
+    homing: &Homing,
+    wanted: Wanted,
+    front: &Partial,
+    ahead: &Ahead,
+    found: &mut BestList,
+)
+    requires homing { AreHomingsOf table.now.edition table.now.trip homing.now }
     requires made { IsMadeWith table.now front.now }
-    requires some { 1 ≤ k }
-    requires few { k ≤ MOST_BEST }
-    ensures { IsWalk table.now.edition table.now.trip k (GoesOn front.now AnyPart) found.old found.new }
+    requires ahead { AreAhead table.now front.now ahead.now }
+    requires some { 1 ≤ wanted.count }
+    requires few { wanted.count ≤ MOST_BEST }
+    ensures { IsWalk table.now.edition table.now.trip wanted.count wanted.limit (GoesOn front.now AnyPart) found.old
+        found.new }
 {
     let trip = table.trip();
-    for end in (next_start(trip, front) + 1..trip.count() + 1).rev() {
-        walk_entries(table, rest, k, front, end, found);
+    for end in (front.next_start(trip) + 1..trip.count() + 1).rev() {
+        walk_entries(table, homing, wanted, front, ahead, end, found);
     }
 }
 
@@ -63,76 +99,131 @@ fn walk_ends(table: &Table, rest: &Rest, k: usize, front: &Partial, found: &mut 
 #[cycle(walk)]
 fn walk_entries(
     table: &Table,
-    rest: &Rest,
-    k: usize,
+    homing: &Homing,
+    wanted: Wanted,
     front: &Partial,
+    ahead: &Ahead,
     end: usize,
     found: &mut BestList,
 )
-    requires rest { AreRests table.now.edition table.now.trip rest.now }
+    requires homing { AreHomingsOf table.now.edition table.now.trip homing.now }
     requires made { IsMadeWith table.now front.now }
-    requires some { 1 ≤ k }
-    requires few { k ≤ MOST_BEST }
+    requires ahead { AreAhead table.now front.now ahead.now }
+    requires some { 1 ≤ wanted.count }
+    requires few { wanted.count ≤ MOST_BEST }
     requires rises { next_start table.now.trip front.now < end }
     requires within { end ≤ count table.now.trip }
-    ensures { IsWalk table.now.edition table.now.trip k (GoesOn front.now (EndsAt end)) found.old found.new }
+    ensures { IsWalk table.now.edition table.now.trip wanted.count wanted.limit (GoesOn front.now (EndsAt end))
+        found.old found.new }
 {
-    let entries = table.entries(next_start(table.trip(), front), end);
+    let entries = table.entries(front.next_start(table.trip()), end);
     for entry in entries {
-        walk_units(table, rest, k, front, end, entry.fare, found);
+        walk_units(table, homing, wanted, front, ahead, end, entry, found);
     }
 }
 
-/// Walks over those that go on with a part that ends at a point and has the fare of a record number.
+/// Walks over those that go on with a part that ends at a point and has the fare of an entry.
 #[cycle(walk)]
 fn walk_units(
     table: &Table,
-    rest: &Rest,
-    k: usize,
+    homing: &Homing,
+    wanted: Wanted,
     front: &Partial,
+    ahead: &Ahead,
     end: usize,
-    fare: u32,
+    entry: &Entry,
     found: &mut BestList,
 )
-    requires rest { AreRests table.now.edition table.now.trip rest.now }
+    requires homing { AreHomingsOf table.now.edition table.now.trip homing.now }
     requires made { IsMadeWith table.now front.now }
-    requires some { 1 ≤ k }
-    requires few { k ≤ MOST_BEST }
+    requires ahead { AreAhead table.now front.now ahead.now }
+    requires some { 1 ≤ wanted.count }
+    requires few { wanted.count ≤ MOST_BEST }
     requires rises { next_start table.now.trip front.now < end }
     requires within { end ≤ count table.now.trip }
-    ensures { IsWalk table.now.edition table.now.trip k (GoesOn front.now (HasFare end fare)) found.old found.new }
+    requires there { Contains (entries_of table.now.edition table.now.trip (next_start table.now.trip front.now) end)
+        entry.now }
+    requires bounds { IsInBounds entry.now }
+    ensures { IsWalk table.now.edition table.now.trip wanted.count wanted.limit
+        (GoesOn front.now (HasFare end entry.now.fare)) found.old found.new }
 {
     let sectors = table.trip().count();
     prove!(end <= sectors);
-    for unit in 1..greatest_unit(front) + 2 {
+    for unit in 1..front.greatest_unit() + 2 {
         let part = Part {
             end: end as u8,
             unit: unit as u8,
-            fare,
+            fare: entry.fare,
         };
-        enter(table, rest, k, front, part, found);
+        let floor = floor_with(ahead, entry, part);
+        follow(table, homing, wanted, front, part, floor, found);
     }
 }
 
-/// Walks over those that go on with a part, unless none is lawful or each costs more than the k-th found.
+/// Walks over those that go on with a part, where by its floor they can be wanted.
 #[cycle(walk)]
-fn enter(table: &Table, rest: &Rest, k: usize, front: &Partial, part: Part, found: &mut BestList)
-    requires rest { AreRests table.now.edition table.now.trip rest.now }
+fn follow(
+    table: &Table,
+    homing: &Homing,
+    wanted: Wanted,
+    front: &Partial,
+    part: Part,
+    floor: Option<u64>,
+    found: &mut BestList,
+)
+    requires homing { AreHomingsOf table.now.edition table.now.trip homing.now }
     requires made { IsMadeWith table.now front.now }
-    requires some { 1 ≤ k }
-    requires few { k ≤ MOST_BEST }
+    requires some { 1 ≤ wanted.count }
+    requires few { wanted.count ≤ MOST_BEST }
     requires rises { next_start table.now.trip front.now < part.end }
     requires within { part.end ≤ count table.now.trip }
-    ensures { IsWalk table.now.edition table.now.trip k (GoesOn front.now (IsPart part)) found.old found.new }
+    requires floor { IsFloorAnswer table.now.edition table.now.trip (front.now ++ part ∷ []) floor }
+    ensures { IsWalk table.now.edition table.now.trip wanted.count wanted.limit (GoesOn front.now (IsPart part))
+        found.old found.new }
+{
+    let Some(least) = floor else {
+        return;
+    };
+    if is_dear(wanted, found, least) {
+        return;
+    }
+    enter(table, homing, wanted, front, part, found)
+}
+
+/// Walks over those that go on with a part, unless none is lawful, none is wanted by its floor, or each is behind the
+/// last one wanted.
+#[cycle(walk)]
+fn enter(
+    table: &Table,
+    homing: &Homing,
+    wanted: Wanted,
+    front: &Partial,
+    part: Part,
+    found: &mut BestList,
+)
+    requires homing { AreHomingsOf table.now.edition table.now.trip homing.now }
+    requires made { IsMadeWith table.now front.now }
+    requires some { 1 ≤ wanted.count }
+    requires few { wanted.count ≤ MOST_BEST }
+    requires rises { next_start table.now.trip front.now < part.end }
+    requires within { part.end ≤ count table.now.trip }
+    ensures { IsWalk table.now.edition table.now.trip wanted.count wanted.limit (GoesOn front.now (IsPart part))
+        found.old found.new }
 {
     let Some(longer) = front.next(table, part) else {
         return;
     };
-    let Some(floor) = floor_of(table, rest, &longer) else {
+    let Some(floor) = stack_floor(table, homing, &longer) else {
         return;
     };
-    if found.is_beyond(k, floor) {
+    if is_dear(wanted, found, floor) {
         return;
     }
-    walk(table, rest, k, &longer, found)
+    if found.is_behind(wanted.count, longer.construction(), floor) {
+        return;
+    }
+    if is_barred(table, &longer) {
+        return;
+    }
+    walk(table, homing, wanted, &longer, found)
 }

@@ -25,13 +25,14 @@ use Rattle.fare_branch.specs.declared.ahead.Ahead.{Ahead}
 use Rattle.fare_branch.specs.Ahead.{AreAhead, AreBehindHalf, IsBehindNext, IsHalfRow, must_go_from}
 use Rattle.fare_branch.specs.Costs.{or_nothing, part_least, units_floor}
 use Rattle.fare_branch.specs.Floors.{IsFloorAnswer}
+use Rattle.fare_branch.specs.Joining.{is_stuck}
 use Rattle.fare_homing.specs.Homing.{IsUpTo, homing_at, is_same_city, may_end_at}
 use Rattle.fare_homing.specs.Rows.{cell, AreHomingsOf}
-use Rattle.fare_branch.specs.Stack.{AreOver, IsOver, IsOverOpen, is_blocked, may_come_to}
+use Rattle.fare_branch.specs.Stack.{AreOver, IsOver, IsOverOpen, may_come_to}
 use Rattle.fare_branch.proofs.OverLemmas.{all_over, alone_behind, apart, behind_front, behind_next, comes_home_later, ComesHome, fewer, first_by, last_behind, last_by, last_may, none_new, point_behind, rises, within}
 use Rattle.fare_homing.proofs.ReachLemmas.{up_more}
 use Rattle.fare_branch.proofs.ShutLemmas.{own_behind}
-use Rattle.fare_branch.proofs.StackFloorLemmas.{first_is, firsts, has_first_in, not_blocked, not_shut, spent_up}
+use Rattle.fare_branch.proofs.StackFloorLemmas.{first_is, firsts, has_first_in, not_stuck, not_shut, spent_up}
 use Rattle.fare_branch.proofs.StackLemmas.{true_cost, begins_at, home_at, over_down}
 use Rattle.fare_branch.proofs.SumLemmas.{kept_member, unit_up_to}
 use Rattle.fare_branch.proofs.TrueCostLemmas.{alone_cost, no_single, true_least}
@@ -227,10 +228,10 @@ module _ (table : Pricing) (homing : Homing) (are : AreHomingsOf table.edition t
         let b = by_behind part rest price lawful same in
         absurd (not_shut table.edition table.trip front (part ∷ rest) price lawful unit low most b.0 b.1 b.2 b.3 b.4 b.5 shut)
 
-    pub blocked_row : is_blocked front unit ≡ true → AreBehindHalf table homing front unit row
-    blocked_row blocked part rest price cost lawful same way over =
+    pub stuck_row : is_stuck table.trip front unit ≡ true → AreBehindHalf table homing front unit row
+    stuck_row stuck part rest price cost lawful same way over =
         let b = by_behind part rest price lawful same in
-        absurd (not_blocked table.edition table.trip front (part ∷ rest) price lawful unit low most b.0 b.1 b.2 b.3 b.4 b.5 blocked)
+        absurd (not_stuck table.edition table.trip front (part ∷ rest) price lawful unit low most b.0 b.1 b.2 b.3 b.4 b.5 stuck)
 
   -- so what is known of the rows is known of what is ahead
   module _ (ahead : Ahead) (spent : ahead.spent ≡ units_floor table.edition table.trip front) where

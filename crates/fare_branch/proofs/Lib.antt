@@ -12,7 +12,10 @@ pub mod WholeLemmas
 pub mod SameLemmas
 pub mod ShutLemmas
 pub mod OnwardLemmas
+pub mod EndingLemmas
+pub mod ChainLemmas
 pub mod RefusalLemmas
+pub mod JoiningLemmas
 pub mod BarredLemmas
 pub mod DiveLemmas
 pub mod UnitLemmas

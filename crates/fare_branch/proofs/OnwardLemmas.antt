@@ -1,10 +1,10 @@
--- A unit of the first parts of a lawful construction that must go on does: it has parts behind them, it comes home there,
--- and each of its first parts has an amount as one that is not its last.
+-- A unit of the first parts of a lawful construction that must have more parts does: it has parts behind them, it comes
+-- home there, each of its first parts has an amount as one that is not its last, and they are chained.
 use Rattle.std.proofs.Common.{◌≡◌, ℕ, zero, suc, ◌+◌, ◌-◌, ◌<◌, ◌≤◌, ◌⊎◌, Bool, true, false, ◌&&◌, ◌||◌, not, ltb, leb, eqb, List, [], ◌∷◌, ◌++◌, length, refl, ap, sym, subst, ◌∙◌, inl, inr, arith}
 use Rattle.std.specs.Prelude.{bytes_eq, is_some}
 use Rattle.std.specs.List.{list_any}
 use Rattle.std.proofs.Math.ListN.{length-append}
-use Rattle.std.proofs.lemmas.Bool.{cases_Bool, cases_lt, or_cases, and_parts, lt-ltb, lt-leb, not-true, eqb-true, ne_eqb}
+use Rattle.std.proofs.lemmas.Bool.{cases_Bool, cases_lt, or_cases, and_parts, lt-ltb, lt-leb, not-true, eqb-true, eq-eqb, ne_eqb}
 use Rattle.std.proofs.lemmas.List.{append-nil}
 use Rattle.fare_codes.specs.declared.city.City.{City}
 use Rattle.fare_trip.specs.Itinerary.{Itinerary, count}
@@ -23,8 +23,10 @@ use Rattle.fare_rules.proofs.MemberLemmas.{Member, member_numbers}
 use Rattle.fare_rules.proofs.NumberLemmas.{find_none}
 use Rattle.fare_units.specs.Onward.{must_go_on, is_in_city, is_in_country, points_behind, may_come_home}
 use Rattle.fare_units.specs.Shut.{is_shut, has_gap_before}
+use Rattle.fare_branch.specs.Ending.{is_priced_back, needs_more}
+use Rattle.fare_branch.proofs.ChainLemmas.{chained_front}
 use Rattle.fare_units.proofs.NextLemmas.{front_part, front_start, front_unit}
-use Rattle.fare_branch.proofs.SameLemmas.{AreFirst, holds_same, jaw_same, closes_same, start_same, end_same}
+use Rattle.fare_branch.proofs.SameLemmas.{AreFirst, holds_same, chained_same, jaw_same, closes_same, start_same, end_same}
 use Rattle.fare_branch.proofs.ShutLemmas.{own_behind, own_in_two, own_are_first, any_at, not_alone, both_true}
 use Rattle.fare_branch.proofs.SumLemmas.{kept_member}
 
@@ -85,7 +87,7 @@ ends_home trip parts xs h =
     (and_parts (leb 2 (length xs)) (comes_home trip parts xs) most.0).1
 
 module _ (trip : Itinerary) (parts : List Part) (all : IsCover trip parts) where
-  starts_behind : (k : ℕ) → 1 ≤ k → end_of parts k ≤ start_of trip parts (k + 1)
+  pub starts_behind : (k : ℕ) → 1 ≤ k → end_of parts k ≤ start_of trip parts (k + 1)
   starts_behind k low =
       let n : k + 1 - 1 ≡ k = omega arith in
       rw (lt-leb (k + 1) 1 (omega arith), n) (begins_later trip (end_of parts k))
@@ -127,6 +129,10 @@ module _ (tariff : Tariff) (trip : Itinerary) (front rest : List Part) (price : 
         and_not (must_close tariff trip (front ++ rest) ys) (ends_at_home trip (front ++ rest) ys) must (subst Q e close_holds),
       )
 
+  own_is_of : (j : ℕ) → Member j (own (front ++ rest) unit) → unit_of (front ++ rest) j ≡ unit
+  unfolding own
+  own_is_of j m = eqb-true (unit_of (front ++ rest) j) unit (kept_member (is_own (front ++ rest) unit) 1 (length (front ++ rest) + 1 - 1) j m).2
+
   -- what it has among the first parts is not all
   ends_open : (x : ℕ) (xs : List ℕ) → AreFirst tariff trip front rest (x ∷ xs) → own (front ++ rest) unit ≡ x ∷ xs → must_go_on tariff trip front (x ∷ xs) ≡ true → ⊥
   ends_open x xs first e must =
@@ -139,13 +145,45 @@ module _ (tariff : Tariff) (trip : Itinerary) (front rest : List Part) (price : 
       let closed : closes trip (front ++ rest) (x ∷ xs) ≡ true = closes_from trip (front ++ rest) (x ∷ xs) close.0 close.1 in
       true_false (sym (sym (closes_same tariff trip front rest x xs first) ∙ closed) ∙ here.1)
 
+  -- the last of all its parts is priced back
+  ends_back : (x : ℕ) (xs : List ℕ) → AreFirst tariff trip front rest (x ∷ xs) → own (front ++ rest) unit ≡ x ∷ xs → is_shut tariff trip front (x ∷ xs) ≡ false → is_priced_back tariff trip front (last_of (x ∷ xs)) ≡ true
+  unfolding part_amount is_back_in is_hr
+  ends_back x xs first e shut =
+      let here = open_parts tariff trip front (x ∷ xs) shut in
+      let none : holds_ow tariff (front ++ rest) (x ∷ xs) ≡ false = holds_same tariff trip front rest (x ∷ xs) first ∙ here.0 in
+      let place = first (last_of (x ∷ xs)) (last_one x xs) in
+      let low : 1 ≤ last_of (x ∷ xs) = place.0 in
+      let within : last_of (x ∷ xs) ≤ length front = place.1 in
+      let n : length (front ++ rest) ≡ length front + length rest = length-append front rest in
+      let there = amount_of_part tariff trip (front ++ rest) (kept tariff trip (front ++ rest) price lawful) (last_of (x ∷ xs)) low (omega arith) in
+      let P : List ℕ → Type 0 = λ ys. Member (last_of (x ∷ xs)) ys in
+      let mine : unit_of (front ++ rest) (last_of (x ∷ xs)) ≡ unit = own_is_of (last_of (x ∷ xs)) (subst P (sym e) (last_one x xs)) in
+      let A : ℕ → Type 0 = λ u. is_some (part_amount tariff trip (front ++ rest) (own (front ++ rest) u) (last_of (x ∷ xs))) ≡ true in
+      let B : List ℕ → Type 0 = λ ys. is_some (part_amount tariff trip (front ++ rest) ys (last_of (x ∷ xs))) ≡ true in
+      let C : Bool → Type 0 = λ b. is_some (component_amount tariff trip (start_of trip (front ++ rest) (last_of (x ∷ xs))) (end_of (front ++ rest) (last_of (x ∷ xs))) (part_at (front ++ rest) (last_of (x ∷ xs))).fare b) ≡ true in
+      let D : ℕ → Type 0 = λ a. is_some (component_amount tariff trip a (end_of (front ++ rest) (last_of (x ∷ xs))) (part_at (front ++ rest) (last_of (x ∷ xs))).fare true) ≡ true in
+      let E : Part → Type 0 = λ p. is_some (component_amount tariff trip (start_of trip front (last_of (x ∷ xs))) p.end p.fare true) ≡ true in
+      let same : eqb (last_of (x ∷ xs)) (last_of (x ∷ xs)) ≡ true = eq-eqb (last_of (x ∷ xs)) (last_of (x ∷ xs)) refl in
+      let back : is_back_in tariff trip (front ++ rest) (x ∷ xs) (last_of (x ∷ xs)) ≡ true = rw (none, same) refl in
+      both_true (ltb 0 (last_of (x ∷ xs))) (is_some (component_amount tariff trip (start_of trip front (last_of (x ∷ xs))) (end_of front (last_of (x ∷ xs))) (part_at front (last_of (x ∷ xs))).fare true)) (lt-ltb 0 (last_of (x ∷ xs)) (omega arith))
+      (subst E (front_part front rest (last_of (x ∷ xs)) low within) (subst D (front_start trip front rest (last_of (x ∷ xs)) low within) (subst C back (subst B e (subst A mine there)))))
+
+  ends_short : (x : ℕ) (xs : List ℕ) → AreFirst tariff trip front rest (x ∷ xs) → own (front ++ rest) unit ≡ x ∷ xs → needs_more tariff trip front (x ∷ xs) ≡ true → ⊥
+  ends_short x xs first e more =
+      elim (or_cases (must_go_on tariff trip front (x ∷ xs)) (not (is_shut tariff trip front (x ∷ xs)) && not (is_priced_back tariff trip front (last_of (x ∷ xs)))) more) [
+        | inl must ↦ ends_open x xs first e must
+        | inr lacks ↦
+            let both = and_parts (not (is_shut tariff trip front (x ∷ xs))) (not (is_priced_back tariff trip front (last_of (x ∷ xs)))) lacks in
+            true_false (sym (ends_back x xs first e (not-true (is_shut tariff trip front (x ∷ xs)) both.0)) ∙ not-true (is_priced_back tariff trip front (last_of (x ∷ xs))) both.1)
+      ]
+
   -- so some part comes to it behind them
-  pub goes_behind : (x : ℕ) (xs behind : List ℕ) → AreFirst tariff trip front rest (x ∷ xs) → own (front ++ rest) unit ≡ (x ∷ xs) ++ behind → must_go_on tariff trip front (x ∷ xs) ≡ true → (k : ℕ) × (more : List ℕ) × (behind ≡ k ∷ more)
-  goes_behind x xs [] first e must = absurd (ends_open x xs first (e ∙ append-nil (x ∷ xs)) must)
+  pub goes_behind : (x : ℕ) (xs behind : List ℕ) → AreFirst tariff trip front rest (x ∷ xs) → own (front ++ rest) unit ≡ (x ∷ xs) ++ behind → needs_more tariff trip front (x ∷ xs) ≡ true → (k : ℕ) × (more : List ℕ) × (behind ≡ k ∷ more)
+  goes_behind x xs [] first e must = absurd (ends_short x xs first (e ∙ append-nil (x ∷ xs)) must)
   goes_behind x xs (k ∷ more) first e must = (k, more, refl)
 
   -- with a part behind it is one of half round trips
-  no_one_way : (x : ℕ) (xs : List ℕ) (k : ℕ) (more : List ℕ) → own (front ++ rest) unit ≡ (x ∷ xs) ++ k ∷ more → holds_ow tariff (front ++ rest) ((x ∷ xs) ++ k ∷ more) ≡ false
+  pub no_one_way : (x : ℕ) (xs : List ℕ) (k : ℕ) (more : List ℕ) → own (front ++ rest) unit ≡ (x ∷ xs) ++ k ∷ more → holds_ow tariff (front ++ rest) ((x ∷ xs) ++ k ∷ more) ≡ false
   no_one_way x xs k more e =
       let n : length ((x ∷ xs) ++ k ∷ more) ≡ length (x ∷ xs) + suc (length more) = length-append (x ∷ xs) (k ∷ more) in
       let P : List ℕ → Type 0 = λ ys. (holds_ow tariff (front ++ rest) ys && ltb 1 (length ys)) ≡ false in
@@ -161,7 +199,7 @@ module _ (tariff : Tariff) (trip : Itinerary) (front rest : List Part) (price : 
       (omega arith, omega arith)
 
   -- what ends there ends behind the first parts
-  point_behind : (j : ℕ) → 1 ≤ length front → length front < j → j ≤ length (front ++ rest) → Member (end_of (front ++ rest) j) (points_behind trip front)
+  pub point_behind : (j : ℕ) → 1 ≤ length front → length front < j → j ≤ length (front ++ rest) → Member (end_of (front ++ rest) j) (points_behind trip front)
   point_behind j some behind within =
       let all = cover trip (front ++ rest) (kept tariff trip (front ++ rest) price lawful).cover in
       let n : length (front ++ rest) ≡ length front + length rest = length-append front rest in
@@ -217,7 +255,7 @@ module _ (tariff : Tariff) (trip : Itinerary) (front rest : List Part) (price : 
       (both_true (ltb (length (x ∷ xs)) 2) (list_any (is_in_country tariff trip (start_city trip front x)) (points_behind trip front)) (lt-ltb (length (x ∷ xs)) 2 near.0)
       (any_at (is_in_country tariff trip (start_city trip front x)) (end_of (front ++ rest) j) (points_behind trip front) m near.1))
 
-  -- the last part of a unit that must go on is behind the first parts, and ends near where the unit begins
+  -- the last part of a unit that must have more parts is behind the first parts, and ends near where the unit begins
   abbrev pub LastIsBehind : ℕ → List ℕ → ℕ → Type 0
   LastIsBehind x xs last =
       (length front < last) × (last ≤ length (front ++ rest)) × (unit_of (front ++ rest) last ≡ unit) × EndsNear x xs last
@@ -225,7 +263,7 @@ module _ (tariff : Tariff) (trip : Itinerary) (front rest : List Part) (price : 
   own_unit : (j : ℕ) → Member j (own_behind tariff trip front rest unit) → unit_of (front ++ rest) j ≡ unit
   own_unit j m = eqb-true (unit_of (front ++ rest) j) unit (kept_member (is_own (front ++ rest) unit) (length front + 1) (length rest) j m).2
 
-  pub last_is_behind : (x : ℕ) (xs : List ℕ) → own front unit ≡ x ∷ xs → must_go_on tariff trip front (x ∷ xs) ≡ true → LastIsBehind x xs (last_of (own (front ++ rest) unit))
+  pub last_is_behind : (x : ℕ) (xs : List ℕ) → own front unit ≡ x ∷ xs → needs_more tariff trip front (x ∷ xs) ≡ true → LastIsBehind x xs (last_of (own (front ++ rest) unit))
   last_is_behind x xs e must =
       let P : List ℕ → Type 0 = λ ys. AreFirst tariff trip front rest ys in
       let Q : List ℕ → Type 0 = λ ys. own (front ++ rest) unit ≡ ys ++ own_behind tariff trip front rest unit in
@@ -240,7 +278,7 @@ module _ (tariff : Tariff) (trip : Itinerary) (front rest : List Part) (price : 
       let place = place_behind (last_of (behind.0 ∷ behind.1)) m in
       subst (LastIsBehind x xs) (sym last) (place.0, place.1, own_unit (last_of (behind.0 ∷ behind.1)) m, ends_near x xs behind.0 behind.1 first whole)
 
-  pub comes_home_behind : (x : ℕ) (xs : List ℕ) → own front unit ≡ x ∷ xs → must_go_on tariff trip front (x ∷ xs) ≡ true → may_come_home tariff trip front (x ∷ xs) ≡ true
+  pub comes_home_behind : (x : ℕ) (xs : List ℕ) → own front unit ≡ x ∷ xs → needs_more tariff trip front (x ∷ xs) ≡ true → may_come_home tariff trip front (x ∷ xs) ≡ true
   comes_home_behind x xs e must =
       let P : List ℕ → Type 0 = λ ys. AreFirst tariff trip front rest ys in
       let first : AreFirst tariff trip front rest (x ∷ xs) = subst P e (own_are_first tariff trip front rest unit) in
@@ -260,7 +298,7 @@ module _ (tariff : Tariff) (trip : Itinerary) (front rest : List Part) (price : 
       let other : eqb j (last_of ((x ∷ xs) ++ k ∷ more)) ≡ false = ne_eqb j (last_of ((x ∷ xs) ++ k ∷ more)) (λ same. omega arith) in
       rw (none, other, end_same tariff trip front rest j jl jh, start_same tariff trip front rest j jl jh, start_same tariff trip front rest x here.0 here.1) refl
 
-  pub amount_onward : (x : ℕ) (xs : List ℕ) → own front unit ≡ x ∷ xs → must_go_on tariff trip front (x ∷ xs) ≡ true → (j : ℕ) → 1 ≤ j → j ≤ length front → unit_of front j ≡ unit
+  pub amount_onward : (x : ℕ) (xs : List ℕ) → own front unit ≡ x ∷ xs → needs_more tariff trip front (x ∷ xs) ≡ true → (j : ℕ) → 1 ≤ j → j ≤ length front → unit_of front j ≡ unit
       → is_some (component_amount tariff trip (start_of trip front j) (end_of front j) (part_at front j).fare (heads_home tariff trip front (x ∷ xs) j)) ≡ true
   unfolding part_amount
   amount_onward x xs e must j jl jh mine =
@@ -283,3 +321,25 @@ module _ (tariff : Tariff) (trip : Itinerary) (front rest : List Part) (price : 
       let D : ℕ → Type 0 = λ a. is_some (component_amount tariff trip a (end_of (front ++ rest) j) (part_at (front ++ rest) j).fare (heads_home tariff trip front (x ∷ xs) j)) ≡ true in
       let E : Part → Type 0 = λ p. is_some (component_amount tariff trip (start_of trip front j) p.end p.fare (heads_home tariff trip front (x ∷ xs) j)) ≡ true in
       subst E (front_part front rest j jl jh) (subst D (front_start trip front rest j jl jh) (subst C back (subst B whole (subst A here there))))
+
+  -- each of its first parts begins where the one before it ends
+  chained_behind : (x : ℕ) (xs : List ℕ) (k : ℕ) (more : List ℕ) → AreFirst tariff trip front rest (x ∷ xs) → own (front ++ rest) unit ≡ (x ∷ xs) ++ k ∷ more → is_chained trip front (x ∷ xs) ≡ true
+  chained_behind x [] k more first e = refl
+  chained_behind x (y ∷ ys) k more first e =
+      let long : is_jaw tariff trip (front ++ rest) ((x ∷ y ∷ ys) ++ k ∷ more) ≡ false = three_no_jaw x y ys k more in
+      let close = closed_whole ((x ∷ y ∷ ys) ++ k ∷ more) e (must_close_from tariff trip (front ++ rest) ((x ∷ y ∷ ys) ++ k ∷ more) (no_one_way x (y ∷ ys) k more e) long) in
+      sym (chained_same tariff trip front rest (x ∷ y ∷ ys) first) ∙ chained_front trip (front ++ rest) (x ∷ y ∷ ys) (k ∷ more) close.0
+    where
+      three_no_jaw : (a b : ℕ) (cs : List ℕ) (j : ℕ) (others : List ℕ) → is_jaw tariff trip (front ++ rest) ((a ∷ b ∷ cs) ++ j ∷ others) ≡ false
+      three_no_jaw a b [] j others = refl
+      three_no_jaw a b (c ∷ cs) j others = refl
+
+  pub chained_onward : (x : ℕ) (xs : List ℕ) → own front unit ≡ x ∷ xs → needs_more tariff trip front (x ∷ xs) ≡ true → is_chained trip front (x ∷ xs) ≡ true
+  chained_onward x xs e must =
+      let P : List ℕ → Type 0 = λ ys. AreFirst tariff trip front rest ys in
+      let Q : List ℕ → Type 0 = λ ys. own (front ++ rest) unit ≡ ys ++ own_behind tariff trip front rest unit in
+      let first : AreFirst tariff trip front rest (x ∷ xs) = subst P e (own_are_first tariff trip front rest unit) in
+      let two : own (front ++ rest) unit ≡ (x ∷ xs) ++ own_behind tariff trip front rest unit = subst Q e (own_in_two tariff trip front rest unit) in
+      let behind = goes_behind x xs (own_behind tariff trip front rest unit) first two must in
+      let R : List ℕ → Type 0 = λ ys. own (front ++ rest) unit ≡ (x ∷ xs) ++ ys in
+      chained_behind x xs behind.0 behind.1 first (subst R behind.2 two)

@@ -1,9 +1,9 @@
 -- What is behind the first parts of a lawful construction, over one unit more of these.
-use Rattle.std.proofs.Common.{◌≡◌, ℕ, suc, ◌+◌, ◌-◌, ◌<◌, ◌≤◌, Bool, true, false, ◌&&◌, cond, leb, List, [], ◌∷◌, ◌++◌, length, refl, ap, sym, subst, ◌∙◌, inl, inr, arith}
+use Rattle.std.proofs.Common.{◌≡◌, ℕ, suc, ◌+◌, ◌-◌, ◌<◌, ◌≤◌, Bool, true, false, ◌&&◌, cond, leb, not, List, [], ◌∷◌, ◌++◌, length, refl, ap, sym, subst, ◌∙◌, inl, inr, arith}
 use Rattle.std.specs.Prelude.{Option, Some, None, bytes_eq, nat_lt, nat_le, sum_by}
 use Rattle.std.specs.List.{range_with_len}
 use Rattle.std.proofs.Math.ListN.{length-append}
-use Rattle.std.proofs.lemmas.Bool.{cases_Bool, lt-ltb, le-leb, ltb-true, leb-true, eqb-true}
+use Rattle.std.proofs.lemmas.Bool.{cases_Bool, or_cases, not-true, lt-ltb, le-leb, ltb-true, leb-true, eqb-true}
 use Rattle.std.proofs.lemmas.List.{append-nil}
 use Rattle.std.proofs.lemmas.Option.{same_Some}
 use Rattle.fare_trip.specs.Itinerary.{Itinerary, count}
@@ -18,16 +18,19 @@ use Rattle.fare_rules.proofs.CoverLemmas.{same_end}
 use Rattle.fare_rules.proofs.LawfulLemmas.{kept}
 use Rattle.fare_rules.proofs.MemberLemmas.{Member}
 use Rattle.fare_component.specs.Table.{Pricing}
-use Rattle.fare_units.specs.Onward.{must_go_on, is_shut_unit}
+use Rattle.fare_units.specs.Onward.{is_shut_unit}
 use Rattle.fare_units.proofs.NextLemmas.{front_start, front_unit, greatest_same}
 use Rattle.fare_bounds.specs.Covers.{rest_at}
 use Rattle.fare_homing.specs.declared.homing.Homing.{Homing}
 use Rattle.fare_branch.specs.declared.stacking.Open.{Open}
 use Rattle.fare_branch.specs.Costs.{part_least, units_floor}
 use Rattle.fare_homing.specs.Homing.{IsUpTo, homing_at}
+use Rattle.fare_branch.specs.Ending.{needs_more}
 use Rattle.fare_branch.specs.Floors.{IsFloorAnswer}
+use Rattle.fare_branch.specs.Joining.{is_blocked, is_stuck, may_join}
+use Rattle.fare_branch.proofs.JoiningLemmas.{joined}
 use Rattle.fare_homing.specs.Rows.{cell, AreHomingsOf}
-use Rattle.fare_branch.specs.Stack.{goes_on, AreOver, may_come_to, is_blocked, IsUnderSum, IsOverOpen, AreOverOpen, IsOpenUnit}
+use Rattle.fare_branch.specs.Stack.{goes_on, AreOver, may_come_to, IsUnderSum, IsOverOpen, AreOverOpen, IsOpenUnit}
 use Rattle.fare_branch.proofs.CostLemmas.{unit_from_one, member_place}
 use Rattle.fare_branch.proofs.CrossingLemmas.{not_crossed, begun_by, began_before}
 use Rattle.fare_branch.proofs.UnitLemmas.{all, unit_in, own_has}
@@ -152,7 +155,7 @@ module _ (tariff : Tariff) (trip : Itinerary) (front rest : List Part) (price : 
             absurd (omega arith)
 
         -- nor does it cross the unit of the last of the first parts
-        pub not_blocked : is_blocked front unit ≡ true → ⊥
+        not_blocked : is_blocked front unit ≡ true → ⊥
         not_blocked blocked =
             let less : unit_of front (length front) < unit = ltb-true (unit_of front (length front)) unit blocked in
             let n : length (front ++ rest) ≡ length front + length rest = length-append front rest in
@@ -168,6 +171,18 @@ module _ (tariff : Tariff) (trip : Itinerary) (front rest : List Part) (price : 
             let found = began_before (front ++ rest) (kept tariff trip (front ++ rest) price lawful).numbering x (unit_of (front ++ rest) (length front)) one (omega arith) some_unit (omega arith) in
             let crossing : unit_of (front ++ rest) (length front) ≡ unit_of (front ++ rest) x = not_crossed (front ++ rest) (kept tariff trip (front ++ rest) price lawful).crossing found.0 x (length front) (last_of (k ∷ more)) found.1 found.2 (omega arith) last_place.0 last_place.1 (sym found.3) (last_place.2 ∙ sym (same ∙ mine)) in
             omega arith
+
+        -- and a part may join it
+        pub not_stuck : is_stuck trip front unit ≡ true → ⊥
+        not_stuck stuck =
+            let P : List ℕ → Type 0 = λ ys. Member k ys in
+            let place = behind_place unit k (subst P (sym some) (inl refl)) in
+            let Q : List ℕ → Type 0 = λ ys. may_join trip front ys ≡ true in
+            let may : may_join trip front (own front unit) ≡ true = subst Q (sym e) (joined tariff trip front rest price lawful unit low (in_all unit low high) x xs k more firsts whole_is place.0 place.1) in
+            elim (or_cases (is_blocked front unit) (not (may_join trip front (own front unit))) stuck) [
+              | inl blocked ↦ not_blocked blocked
+              | inr none ↦ true_false (sym may ∙ not-true (may_join trip front (own front unit)) none)
+            ]
 
         -- and comes home where it may
         home_may : may_come_to tariff trip (start_of trip front x) (nat_lt 1 (length (x ∷ xs))) (end_of (front ++ rest) (last_of (k ∷ more))) ≡ true
@@ -212,22 +227,22 @@ module _ (table : Pricing) (homing : Homing) (front : List Part) (u : ℕ) (high
   over_shut : is_shut_unit table.edition table.trip front (suc u) ≡ true → AreOver table homing front (suc u) behind
   over_shut shut = stays_by (λ rest price lawful x xs e k more some. not_shut table.edition table.trip front rest price lawful (suc u) (omega arith) high x xs e k more some shut)
 
-  over_blocked : is_blocked front (suc u) ≡ true → AreOver table homing front (suc u) behind
-  over_blocked blocked = stays_by (λ rest price lawful x xs e k more some. not_blocked table.edition table.trip front rest price lawful (suc u) (omega arith) high x xs e k more some blocked)
+  over_stuck : is_stuck table.trip front (suc u) ≡ true → AreOver table homing front (suc u) behind
+  over_stuck stuck = stays_by (λ rest price lawful x xs e k more some. not_stuck table.edition table.trip front rest price lawful (suc u) (omega arith) high x xs e k more some stuck)
 
-  -- some part comes to the unit, which must go on
-  goes_by : (rest : List Part) (price : ℕ) (lawful : IsLawful table.edition table.trip (front ++ rest) price) (x : ℕ) (xs : List ℕ) → own front (suc u) ≡ x ∷ xs → must_go_on table.edition table.trip front (own front (suc u)) ≡ true
+  -- some part comes to the unit, which must have more
+  goes_by : (rest : List Part) (price : ℕ) (lawful : IsLawful table.edition table.trip (front ++ rest) price) (x : ℕ) (xs : List ℕ) → own front (suc u) ≡ x ∷ xs → needs_more table.edition table.trip front (own front (suc u)) ≡ true
       → (k : ℕ) × (more : List ℕ) × (own_behind table.edition table.trip front rest (suc u) ≡ k ∷ more)
   goes_by rest price lawful x xs e must =
-      let P : List ℕ → Type 0 = λ ys. must_go_on table.edition table.trip front ys ≡ true in
+      let P : List ℕ → Type 0 = λ ys. needs_more table.edition table.trip front ys ≡ true in
       goes_behind table.edition table.trip front rest price lawful (suc u) (omega arith) (in_all table.edition table.trip front rest price lawful (suc u) (omega arith) high) x xs (own_behind table.edition table.trip front rest (suc u))
       (firsts table.edition table.trip front rest price lawful (suc u) (omega arith) high x xs e) (in_two table.edition table.trip front rest price lawful (suc u) (omega arith) high x xs e) (subst P e must)
 
-  over_none : (row : List (Option ℕ)) → is_blocked front (suc u) ≡ true → must_go_on table.edition table.trip front (own front (suc u)) ≡ true → AreOver table homing front (suc u) row
-  over_none row blocked must rest price i cost lawful low most over =
+  over_none : (row : List (Option ℕ)) → is_stuck table.trip front (suc u) ≡ true → needs_more table.edition table.trip front (own front (suc u)) ≡ true → AreOver table homing front (suc u) row
+  over_none row stuck must rest price i cost lawful low most over =
       let unit_has = has_first_in table.edition table.trip front rest price lawful (suc u) (omega arith) high (own front (suc u)) refl in
       let goes_on_by = goes_by rest price lawful unit_has.0 unit_has.1 unit_has.2 must in
-      absurd (not_blocked table.edition table.trip front rest price lawful (suc u) (omega arith) high unit_has.0 unit_has.1 unit_has.2 goes_on_by.0 goes_on_by.1 goes_on_by.2 blocked)
+      absurd (not_stuck table.edition table.trip front rest price lawful (suc u) (omega arith) high unit_has.0 unit_has.1 unit_has.2 goes_on_by.0 goes_on_by.1 goes_on_by.2 stuck)
 
   module _ (opened : Open) (is : IsOpenUnit table front (suc u) opened) (row : List (Option ℕ)) (over_row : AreOverOpen table homing (end_of front (length front)) opened behind row) where
     homes : List (Option ℕ)
@@ -308,18 +323,18 @@ module _ (table : Pricing) (homing : Homing) (front : List Part) (unit : ℕ) (l
       let Q : ℕ → Type 0 = λ v. is_shut_unit table.edition table.trip front v ≡ true in
       subst P next_unit (over_shut table homing front (unit - 1) (omega arith) behind known (subst Q (sym next_unit) shut))
 
-  pub over_blocked_unit : is_blocked front unit ≡ true → AreOver table homing front unit behind
-  over_blocked_unit blocked =
+  pub over_stuck_unit : is_stuck table.trip front unit ≡ true → AreOver table homing front unit behind
+  over_stuck_unit stuck =
       let P : ℕ → Type 0 = λ v. AreOver table homing front v behind in
-      let Q : ℕ → Type 0 = λ v. is_blocked front v ≡ true in
-      subst P next_unit (over_blocked table homing front (unit - 1) (omega arith) behind known (subst Q (sym next_unit) blocked))
+      let Q : ℕ → Type 0 = λ v. is_stuck table.trip front v ≡ true in
+      subst P next_unit (over_stuck table homing front (unit - 1) (omega arith) behind known (subst Q (sym next_unit) stuck))
 
-  pub over_no_unit : (row : List (Option ℕ)) (opened : Open) → IsOpenUnit table front unit opened → is_blocked front unit ≡ true → opened.must ≡ true → AreOver table homing front unit row
-  over_no_unit row opened is blocked must =
+  pub over_no_unit : (row : List (Option ℕ)) (opened : Open) → IsOpenUnit table front unit opened → is_stuck table.trip front unit ≡ true → opened.must ≡ true → AreOver table homing front unit row
+  over_no_unit row opened is stuck must =
       let P : ℕ → Type 0 = λ v. AreOver table homing front v row in
-      let Q : ℕ → Type 0 = λ v. is_blocked front v ≡ true in
-      let R : ℕ → Type 0 = λ v. must_go_on table.edition table.trip front (own front v) ≡ true in
-      subst P next_unit (over_none table homing front (unit - 1) (omega arith) behind known row (subst Q (sym next_unit) blocked) (subst R (sym next_unit) (sym is.must ∙ must)))
+      let Q : ℕ → Type 0 = λ v. is_stuck table.trip front v ≡ true in
+      let R : ℕ → Type 0 = λ v. needs_more table.edition table.trip front (own front v) ≡ true in
+      subst P next_unit (over_none table homing front (unit - 1) (omega arith) behind known row (subst Q (sym next_unit) stuck) (subst R (sym next_unit) (sym is.must ∙ must)))
 
   pub over_open_unit : (opened : Open) → IsOpenUnit table front unit opened → (row : List (Option ℕ)) → AreOverOpen table homing (end_of front (length front)) opened behind row → AreOver table homing front unit row
   over_open_unit opened is row over_row =

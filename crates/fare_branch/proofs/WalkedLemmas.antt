@@ -37,7 +37,7 @@ list_before_longer (x ∷ xs) [] rest h = absurd h
 list_before_longer (x ∷ xs) (y ∷ ys) rest (inl h) = inl h
 list_before_longer (x ∷ xs) (y ∷ ys) rest (inr (e, h)) = inr (e, list_before_longer xs ys rest h)
 
-before_longer : (xs ys rest : List Part) (px floor price : ℕ) → floor ≤ price → Before xs px ys floor → Before xs px (ys ++ rest) price
+pub before_longer : (xs ys rest : List Part) (px floor price : ℕ) → floor ≤ price → Before xs px ys floor → Before xs px (ys ++ rest) price
 before_longer xs ys rest px floor price up (inl l) = inl (omega arith)
 before_longer xs ys rest px floor price up (inr (e, h)) =
     elim (cases_order floor price) [

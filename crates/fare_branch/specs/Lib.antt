@@ -4,7 +4,9 @@ pub use Rattle.fare_component.specs.Table
 pub use Rattle.fare_bounds.specs.Covers
 pub use Rattle.fare_homing.specs.Homing
 pub mod Floors
+pub mod Ending
 pub mod Refusals
+pub mod Joining
 pub mod Beginnings
 pub mod Costs
 pub mod Stack

@@ -5,12 +5,12 @@ use Rattle.fare_trip.specs.Itinerary.{Itinerary, count}
 use Rattle.fare_tariff.specs.Tariff.{Tariff}
 use Rattle.fare_rules.specs.declared.part.Part.{Part}
 use Rattle.fare_rules.specs.Best.{IsLawful}
-use Rattle.fare_rules.specs.Construction.{own, first_of, last_of, start_of, end_of, unit_of}
+use Rattle.fare_rules.specs.Construction.{own, first_of, last_of, start_of, end_of}
 use Rattle.fare_component.specs.Table.{Pricing}
 use Rattle.fare_bounds.specs.Covers.{rest_at}
-use Rattle.fare_units.specs.Onward.{must_go_on}
 use Rattle.fare_homing.specs.declared.homing.Homing.{Homing}
 use Rattle.fare_branch.specs.declared.stacking.Open.{Open}
+use Rattle.fare_branch.specs.Ending.{needs_more}
 use Rattle.fare_homing.specs.Homing.{IsUpTo, may_end_at, is_same_city, homing_at}
 use Rattle.fare_homing.specs.Rows.{cell}
 
@@ -38,10 +38,6 @@ AreOver table homing first unit numbers =
     → end_of first (length first) ≤ i → i ≤ count table.trip
     → IsOver table.trip (cell homing.closing) (cell homing.jaw) (rest_at homing.rest) (first ++ rest) (length first)
     unit i cost → IsUpTo cost (rest_at numbers i)
-
--- a unit is blocked: it began behind the unit of the last of some parts, which it would cross if it went on
-abbrev pub is_blocked : List Part → ℕ → Bool
-is_blocked parts unit = nat_lt (unit_of parts (length parts)) unit
 
 -- a unit that begins at a point may come home at another: in the same city, or, where it has one part so far, in its
 -- country
@@ -73,12 +69,12 @@ pub record IsOverOpen (trip : Itinerary) (homing : Homing) (from start : ℕ) (m
   pub whole : must ≡ false → (cost : ℕ) → IsUpTo cost behind → IsUpTo cost least
 
 -- what is known of an open unit of some parts: where it begins, whether it has two parts or more, and whether it must
--- go on
+-- have more
 pub record IsOpenUnit (table : Pricing) (parts : List Part) (unit : ℕ) (opened : Open) : Type 0 where
   pub start : opened.start ≡ start_of table.trip parts (first_of (own parts unit))
   pub within : opened.start ≤ count table.trip
   pub closes : opened.closes ≡ nat_lt 1 (length (own parts unit))
-  pub must : opened.must ≡ must_go_on table.edition table.trip parts (own parts unit)
+  pub must : opened.must ≡ needs_more table.edition table.trip parts (own parts unit)
 
 -- numbers are under what is behind each point from one on over an open unit, by those that are there without it
 abbrev pub AreOverOpen : Pricing → Homing → ℕ → Open → List (Option ℕ) → List (Option ℕ) → Type 0

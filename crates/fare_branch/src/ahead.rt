@@ -16,10 +16,9 @@ ghost use Rattle.fare_homing.specs.Rows.{cell, AreHomingsOf};
 ghost use Rattle.fare_branch.specs.Stack.{AreOver};
 
 use crate::costs::{entry_least, units_floor};
+use crate::joining::{first_place, is_stuck};
 use crate::partial::Partial;
-use crate::stacking::{
-    Open, first_place, homes_of, is_blocked, may_come_to, over_point, over_unit,
-};
+use crate::stacking::{Open, homes_of, may_come_to, over_point, over_unit};
 use fare_component::{Entry, Table};
 use fare_homing::{Homing, added, number_at};
 use fare_rules::{MOST_POINTS, Part};
@@ -30,7 +29,7 @@ const MOST_UNITS: usize = 18;
 
 /// What some first parts cost at least, and what is behind the part that comes next.
 #[derive(Drop)]
-pub(crate) struct Ahead {
+pub struct Ahead {
     /// What the first parts cost at least.
     pub spent: u64,
     /// What is behind a one way fare, by the point where it ends.
@@ -97,7 +96,7 @@ fn begun_row(
 {
     let trip = table.trip();
     let parts = front.parts();
-    if is_blocked(parts, unit) {
+    if is_stuck(table, front, unit) {
         return [None; MOST_POINTS];
     }
     if is_shut_unit(table.edition(), trip, parts, unit) {
@@ -124,7 +123,7 @@ fn new_row(
 }
 
 /// What is ahead of some first parts.
-pub(crate) fn ahead_of(table: &Table, homing: &Homing, front: &Partial) -> Ahead
+pub fn ahead_of(table: &Table, homing: &Homing, front: &Partial) -> Ahead
     requires homing { AreHomingsOf table.now.edition table.now.trip homing.now }
     requires made { IsMadeWith table.now front.now }
     ensures { AreAhead table.now front.now result }
@@ -158,7 +157,7 @@ fn behind_of(ahead: &Ahead, entry: &Entry, part: Part) -> Option<u64>
 }
 
 /// What some first parts cost at least with a part of an entry and what is behind that.
-pub(crate) fn floor_with(ahead: &Ahead, entry: &Entry, part: Part) -> Option<u64>
+pub fn floor_with(ahead: &Ahead, entry: &Entry, part: Part) -> Option<u64>
     requires { IsInBounds entry.now }
     ensures { (behind : ℕ) → (if is_some entry.now.single then rest_at ahead.now.alone part.end
         else cell ahead.now.half part.unit part.end) ≡ Some behind

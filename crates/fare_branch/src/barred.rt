@@ -9,7 +9,7 @@ use fare_units::{is_uncombined, is_untimely, part_at};
 
 /// Whether the last of some first parts does not combine with an earlier one, or shuts its unit with a stay that is not
 /// allowed: then they have no completion.
-pub(crate) fn is_barred(table: &Table, front: &Partial) -> bool
+pub fn is_barred(table: &Table, front: &Partial) -> bool
     requires made { IsMadeWith table.now front.now }
     ensures { result ≡ true → HasNoCompletion table.now.edition table.now.trip front.now }
 {

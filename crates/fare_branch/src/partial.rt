@@ -50,19 +50,26 @@ impl Partial {
         ensures { result ≡ self.now }
     {
         Partial {
-            parts: copied(self.parts()),
+            parts: self.to_construction(),
         }
     }
 
     /// Its parts as a construction.
-    pub(crate) fn construction(&self) -> &Construction
+    pub fn construction(&self) -> &Construction
         ensures { result.now ≡ self.now }
     {
         &self.parts
     }
 
+    /// Its parts as a construction of its own.
+    pub fn to_construction(&self) -> Construction
+        ensures { result ≡ self.now }
+    {
+        copied(self.parts())
+    }
+
     /// The point where its last part ends; 0 where it has none.
-    pub(crate) fn end(&self) -> usize
+    pub fn end(&self) -> usize
         ensures value { result ≡ end_of self.now (length self.now) }
         ensures small { result < 256 }
     {
@@ -71,7 +78,7 @@ impl Partial {
     }
 
     /// Where a part that comes after it starts.
-    pub(crate) fn next_start(&self, trip: &Trip) -> usize
+    pub fn next_start(&self, trip: &Trip) -> usize
         ensures value { result ≡ next_start trip.now self.now }
         ensures small { result ≤ 256 }
     {
@@ -80,7 +87,7 @@ impl Partial {
     }
 
     /// The greatest unit number of its parts; 0 where it has none.
-    pub(crate) fn greatest_unit(&self) -> usize
+    pub fn greatest_unit(&self) -> usize
         ensures value { result ≡ greatest_unit self.now (places self.now) }
         ensures small { result ≤ 255 }
     {
@@ -131,7 +138,7 @@ impl Partial {
 }
 
 /// A construction of some parts.
-pub(crate) fn copied(parts: &[Part]) -> Construction
+fn copied(parts: &[Part]) -> Construction
     requires { length parts.now ≤ MOST_PARTS }
     ensures { result ≡ parts.now }
 {

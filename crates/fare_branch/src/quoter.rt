@@ -37,7 +37,7 @@ impl Quoter for BranchQuoter {
 }
 
 /// The best construction of the trip of a table, with its price; nothing exactly where none is lawful.
-fn best_of(table: &Table) -> Option<(Construction, u64)>
+pub fn best_of(table: &Table) -> Option<(Construction, u64)>
     ensures { IsBestAnswer table.now.edition table.now.trip result }
 {
     first_part_is_a_choice();

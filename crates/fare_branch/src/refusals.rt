@@ -1,42 +1,20 @@
 //! Why some first parts are not gone on from: what the last of them breaks, whatever follows.
 
-ghost use Rattle.std.specs.Prelude.{◌≡◌, ◌<◌, ◌≤◌, length, is_some};
-ghost use Rattle.fare_trip.specs.Itinerary.{count};
-ghost use Rattle.fare_rules.specs.ComponentAmount.{component_amount};
+ghost use Rattle.std.specs.Prelude.{◌≡◌, ◌≤◌, length, is_some};
+ghost use Rattle.fare_rules.specs.Construction.{own};
+ghost use Rattle.fare_rules.specs.Shape.{follows, is_chained};
+ghost use Rattle.fare_units.specs.Advance.{Advances};
+ghost use Rattle.fare_units.specs.Places.{IsPlace};
 ghost use Rattle.fare_branch.specs.Floors.{IsMadeWith};
-ghost use Rattle.fare_branch.specs.Refusals.{is_priced, onward_amount, is_worthless, is_hopeless};
+ghost use Rattle.fare_branch.specs.Refusals.{onward_amount, is_worthless, is_broken_off, is_hopeless};
 
-use fare_component::{Entry, Table};
+use crate::ending::{has_amount, needs_more};
+use fare_component::Table;
 use fare_rules::Part;
+use fare_trip::Trip;
 use fare_units::{
-    Construction, is_fruitless, is_homeward, is_priceless, is_stranded, must_go_on, part_at,
-    start_of,
+    Construction, is_fruitless, is_homeward, is_priceless, is_stranded, part_at, start_of,
 };
-
-/// Whether an entry has an amount, priced back or not.
-fn is_priced(entry: &Entry, back: bool) -> bool
-    ensures { result ≡ is_priced entry.now back }
-{
-    if back {
-        entry.back.is_some()
-    } else {
-        entry.out.is_some()
-    }
-}
-
-/// Whether a fare has an amount for a span, priced back or not.
-fn has_amount(table: &Table, a: usize, b: usize, fare: u32, back: bool) -> bool
-    requires rises { a < b }
-    requires within { b ≤ count table.now.trip }
-    ensures { result ≡ is_some (component_amount table.now.edition table.now.trip a b fare back) }
-{
-    for entry in table.entries(a, b) {
-        if entry.fare == fare {
-            return is_priced(entry, back);
-        }
-    }
-    false
-}
 
 /// Whether the last of some parts has an amount as one that is not the last of its unit of half round trips.
 fn has_onward_amount(table: &Table, parts: &Construction) -> bool
@@ -57,19 +35,59 @@ fn has_onward_amount(table: &Table, parts: &Construction) -> bool
     )
 }
 
-/// Whether the last of some parts, of a unit, is worthless: the unit must go on, and yet the part has no amount there.
+/// Whether the last of some parts, of a unit, is worthless: the unit must have more parts, and yet the part has no
+/// amount there.
 fn is_worthless(table: &Table, parts: &Construction, unit: u8) -> bool
     requires made { IsMadeWith table.now parts.now }
     requires some { 1 ≤ length parts.now }
     ensures { result ≡ is_worthless table.now.edition table.now.trip parts.now unit }
 {
-    must_go_on(table.edition(), table.trip(), parts.parts(), unit as usize)
-        && !has_onward_amount(table, parts)
+    needs_more(table, parts.parts(), unit as usize) && !has_onward_amount(table, parts)
+}
+
+/// Whether a part begins in the city where another one ends.
+fn follows(trip: &Trip, parts: &[Part], before: usize, k: usize) -> bool
+    requires advances { Advances trip.now parts.now }
+    requires place { IsPlace parts.now k }
+    ensures { result ≡ follows trip.now parts.now before k }
+{
+    let start = start_of(trip, parts, k);
+    let end = part_at(parts, before).end as usize;
+    trip.point(start).is(trip.point(end))
+}
+
+/// Whether each part of a unit begins in the city where the one before it ends.
+#[tactic(auto, using(crate::proofs::ChainLemmas::chain_over, crate::proofs::ChainLemmas::chain_begins, crate::proofs::ChainLemmas::chain_joins, crate::proofs::ChainLemmas::chain_breaks, crate::proofs::ChainLemmas::chain_done), unfolding(fare_rules::specs::Construction::own))]
+fn is_chained(trip: &Trip, parts: &[Part], unit: usize) -> bool
+    requires advances { Advances trip.now parts.now }
+    ensures { result ≡ is_chained trip.now parts.now (own parts.now unit) }
+{
+    let mut before = 0;
+    for k in 1..parts.len() + 1 {
+        if part_at(parts, k).unit as usize != unit {
+            continue;
+        }
+        if before > 0 && !follows(trip, parts, before, k) {
+            return false;
+        }
+        before = k;
+    }
+    true
+}
+
+/// Whether a unit of some parts is broken off: it must have more parts, and yet one of its parts begins in another city
+/// than the one before it ends, so that it can't close.
+fn is_broken_off(table: &Table, parts: &Construction, unit: u8) -> bool
+    requires made { IsMadeWith table.now parts.now }
+    ensures { result ≡ is_broken_off table.now.edition table.now.trip parts.now unit }
+{
+    let parts = parts.parts();
+    needs_more(table, parts, unit as usize) && !is_chained(table.trip(), parts, unit as usize)
 }
 
 /// Whether the last of some parts, of a unit, has no place in any lawful construction that begins with them: it crosses
-/// a unit, shares one with a one way fare, shuts one that has no price, leaves its unit where it can't come home, or
-/// has no amount in a unit that must go on.
+/// a unit, shares one with a one way fare, shuts one that has no price, leaves its unit where it can't come home, has
+/// no amount in a unit that must have more parts, or breaks such a one off.
 pub(crate) fn is_hopeless(table: &Table, parts: &Construction, unit: u8) -> bool
     requires made { IsMadeWith table.now parts.now }
     requires some { 1 ≤ length parts.now }
@@ -81,4 +99,5 @@ pub(crate) fn is_hopeless(table: &Table, parts: &Construction, unit: u8) -> bool
         || is_priceless(table, places, unit as usize)
         || is_stranded(edition, trip, places, unit as usize)
         || is_worthless(table, parts, unit)
+        || is_broken_off(table, parts, unit)
 }

@@ -10,16 +10,18 @@ ghost use Rattle.fare_branch.specs.Floors.{IsMadeWith, IsFloorAnswer};
 ghost use Rattle.fare_homing.specs.Homing.{homing_at};
 ghost use Rattle.fare_homing.specs.Rows.{cell, AreHomingsOf};
 ghost use Rattle.fare_branch.specs.Stack.{AreOver, AreHomes, AreOverOpen, IsUntilHome, IsOverOpen};
-ghost use Rattle.fare_branch.specs.Stack.{IsOpenUnit, is_blocked, may_come_to};
+ghost use Rattle.fare_branch.specs.Stack.{IsOpenUnit, may_come_to};
 
 use crate::costs::units_floor;
+use crate::ending::needs_more;
+use crate::joining::{first_place, is_stuck, part_count};
 use crate::partial::Partial;
 use fare_bounds::lesser;
 use fare_component::Table;
 use fare_homing::{Homing, added, are_near, cell};
 use fare_rules::{MOST_POINTS, Part};
 use fare_trip::Trip;
-use fare_units::{MOST_PARTS, is_shut_unit, must_go_on, part_at, start_of};
+use fare_units::{MOST_PARTS, is_shut_unit, start_of};
 
 /// A unit of first parts that is open: parts may come to it.
 #[derive(Clone, Copy)]
@@ -28,44 +30,8 @@ pub(crate) struct Open {
     pub start: usize,
     /// Whether it must close, since it has two parts or more.
     pub closes: bool,
-    /// Whether it must go on.
+    /// Whether it must have more parts.
     pub must: bool,
-}
-
-/// The first of the places of a unit; 0 where there is none.
-#[tactic(auto, using(crate::proofs::StackRowLemmas::own_here, crate::proofs::StackRowLemmas::own_over, crate::proofs::StackRowLemmas::own_done), unfolding(fare_rules::specs::Construction::own))]
-pub(crate) fn first_place(parts: &[Part], unit: usize) -> usize
-    ensures { result ≡ first_of (own parts.now unit) }
-{
-    for k in 1..parts.len() + 1 {
-        if part_at(parts, k).unit as usize == unit {
-            return k;
-        }
-    }
-    0
-}
-
-/// How many parts a unit has.
-#[tactic(auto, using(crate::proofs::StackRowLemmas::own_here, crate::proofs::StackRowLemmas::own_over, crate::proofs::StackRowLemmas::own_done), unfolding(fare_rules::specs::Construction::own))]
-fn part_count(parts: &[Part], unit: usize) -> usize
-    requires { length parts.now ≤ MOST_PARTS }
-    ensures { result ≡ length (own parts.now unit) }
-{
-    let mut count = 0;
-    for k in 1..parts.len() + 1 {
-        if part_at(parts, k).unit as usize != unit {
-            continue;
-        }
-        count += 1;
-    }
-    count
-}
-
-/// Whether a unit would cross that of the last of some parts if it went on.
-pub(crate) fn is_blocked(parts: &[Part], unit: usize) -> bool
-    ensures { result ≡ is_blocked parts.now unit }
-{
-    (part_at(parts, parts.len()).unit as usize) < unit
 }
 
 /// Whether a unit that begins at a point may come home at another.
@@ -187,12 +153,12 @@ fn open_unit(table: &Table, parts: &[Part], unit: usize) -> Open
     Open {
         start: start_of(trip, parts, first_place(parts, unit)),
         closes: part_count(parts, unit) > 1,
-        must: must_go_on(table.edition(), trip, parts, unit),
+        must: needs_more(table, parts, unit),
     }
 }
 
 /// What is behind each point at least over one unit more of first parts.
-#[tactic(auto, using(crate::proofs::StackFloorLemmas::over_shut_unit, crate::proofs::StackFloorLemmas::over_blocked_unit, crate::proofs::StackFloorLemmas::over_no_unit, crate::proofs::StackFloorLemmas::over_open_unit))]
+#[tactic(auto, using(crate::proofs::StackFloorLemmas::over_shut_unit, crate::proofs::StackFloorLemmas::over_stuck_unit, crate::proofs::StackFloorLemmas::over_no_unit, crate::proofs::StackFloorLemmas::over_open_unit))]
 pub(crate) fn over_unit(
     table: &Table,
     homing: &Homing,
@@ -211,7 +177,7 @@ pub(crate) fn over_unit(
         return *behind;
     }
     let opened = open_unit(table, parts, unit);
-    if !is_blocked(parts, unit) {
+    if !is_stuck(table, partial, unit) {
         return over_open(table, homing, partial.end(), opened, behind);
     }
     if opened.must {
@@ -235,7 +201,7 @@ fn over_units(table: &Table, homing: &Homing, partial: &Partial) -> [Option<u64>
 /// A number that is at most the price of every completion of some first parts; nothing only where there is none. It
 /// knows that what begins must end: each open unit comes home, one inside the other, and so does each that begins
 /// behind.
-pub(crate) fn stack_floor(table: &Table, homing: &Homing, partial: &Partial) -> Option<u64>
+pub fn stack_floor(table: &Table, homing: &Homing, partial: &Partial) -> Option<u64>
     requires homing { AreHomingsOf table.now.edition table.now.trip homing.now }
     requires made { IsMadeWith table.now partial.now }
     ensures { IsFloorAnswer table.now.edition table.now.trip partial.now result }

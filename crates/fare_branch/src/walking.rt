@@ -16,7 +16,7 @@ ghost use Rattle.fare_branch.specs.Walked.{IsWalk, IsUnderAll, is_beaten, is_no_
 use crate::ahead::{Ahead, ahead_of, floor_with};
 use crate::barred::is_barred;
 use crate::bound::Bound;
-use crate::partial::{Partial, copied};
+use crate::partial::Partial;
 use crate::stacking::stack_floor;
 use fare_component::{Entry, Table};
 use fare_homing::Homing;
@@ -32,10 +32,10 @@ fn better(front: &Partial, price: u64, best: Found) -> Found
     ensures { TakesBetter front.now price best result }
 {
     match best {
-        None => Some((copied(front.parts()), price)),
+        None => Some((front.to_construction(), price)),
         Some((parts, least)) => {
             if earlier(front.construction(), price, &parts, least) {
-                return Some((copied(front.parts()), price));
+                return Some((front.to_construction(), price));
             }
             Some((parts, least))
         }

@@ -1,4 +1,4 @@
-use Rattle.std.proofs.Common.{◌≡◌, ◌+◌, true, false, drop, get_or, sym, subst, ◌∙◌, arith}
+use Rattle.std.proofs.Common.{◌≡◌, true, false, arith}
 use Rattle.fare_best.specs.Ranking.{comes_before, place_of}
 use Rattle.fare_best.proofs.RankingLemmas.{place_over, place_here, place_past}
 use Rattle.fare_best.proofs.best_list.place_of.Goals as goal

@@ -2,14 +2,14 @@ use Rattle.std.proofs.Common.{◌≡◌, ℕ, true, None, replicate, subst}
 use Rattle.fare_rules.specs.Construction.{first_of, own, start_of}
 use Rattle.fare_units.specs.Onward.{is_shut_unit}
 use Rattle.fare_branch.specs.Ahead.{IsHalfRow}
-use Rattle.fare_branch.specs.Stack.{is_blocked}
-use Rattle.fare_branch.proofs.AheadLemmas.{begun_row, shut_row, blocked_row}
+use Rattle.fare_branch.specs.Joining.{is_stuck}
+use Rattle.fare_branch.proofs.AheadLemmas.{begun_row, shut_row, stuck_row}
 use Rattle.fare_branch.proofs.ahead.begun_row.Goals as goal
 
-pub returns-then-is_blocked : goal.returns-then-is_blocked
-returns-then-is_blocked c =
-    let blocked : is_blocked c.args.front.now c.args.unit ≡ true = cc in
-    blocked_row c.args.table.now c.args.homing.now c.requires.homing c.args.front.now c.args.unit c.requires.low c.requires.high (replicate 17 None) blocked
+pub returns-then-is_stuck : goal.returns-then-is_stuck
+returns-then-is_stuck c =
+    let stuck : is_stuck c.args.table.now.trip c.args.front.now c.args.unit ≡ true = cc in
+    stuck_row c.args.table.now c.args.homing.now c.requires.homing c.args.front.now c.args.unit c.requires.low c.requires.high (replicate 17 None) stuck
 
 pub returns-then-is_shut_unit : goal.returns-then-is_shut_unit
 returns-then-is_shut_unit c =

@@ -7,23 +7,26 @@ use Rattle.fare_units.specs.Onward.{is_shut_unit, is_stranded}
 use Rattle.fare_units.specs.Shut.{is_priceless}
 use Rattle.fare_units.specs.Walk.{is_fruitless}
 use Rattle.fare_branch.specs.Floors.{HasNoCompletion, may_follow}
-use Rattle.fare_branch.specs.Refusals.{is_hopeless, is_worthless}
+use Rattle.fare_branch.specs.Refusals.{is_hopeless, is_worthless, is_broken_off}
 use Rattle.fare_branch.proofs.StepLemmas.{none_follows}
 use Rattle.fare_branch.proofs.ShutLemmas.{fruitless_is_none, priceless_is_none}
-use Rattle.fare_branch.proofs.RefusalLemmas.{shut_is_none, stranded_is_none, worthless_is_none}
+use Rattle.fare_branch.proofs.RefusalLemmas.{shut_is_none, stranded_is_none, worthless_is_none, broken_is_none}
 use Rattle.fare_branch.proofs.partial.Partial.next.Goals as goal
 
 hopeless_is_none : (tariff : Tariff) (trip : Itinerary) (front : List Part) (part : Part) → is_hopeless tariff trip (front ++ part ∷ []) part.unit ≡ true → HasNoCompletion tariff trip (front ++ part ∷ [])
 hopeless_is_none tariff trip front part none =
-    elim (or_cases (is_fruitless tariff (front ++ part ∷ []) || is_priceless tariff trip (front ++ part ∷ []) part.unit || is_stranded tariff trip (front ++ part ∷ []) part.unit) (is_worthless tariff trip (front ++ part ∷ []) part.unit) none) [
-      | inl three ↦ elim (or_cases (is_fruitless tariff (front ++ part ∷ []) || is_priceless tariff trip (front ++ part ∷ []) part.unit) (is_stranded tariff trip (front ++ part ∷ []) part.unit) three) [
-        | inl two ↦ elim (or_cases (is_fruitless tariff (front ++ part ∷ [])) (is_priceless tariff trip (front ++ part ∷ []) part.unit) two) [
-          | inl f ↦ fruitless_is_none tariff trip front part f
-          | inr p ↦ priceless_is_none tariff trip front part p
+    elim (or_cases (is_fruitless tariff (front ++ part ∷ []) || is_priceless tariff trip (front ++ part ∷ []) part.unit || is_stranded tariff trip (front ++ part ∷ []) part.unit || is_worthless tariff trip (front ++ part ∷ []) part.unit) (is_broken_off tariff trip (front ++ part ∷ []) part.unit) none) [
+      | inl four ↦ elim (or_cases (is_fruitless tariff (front ++ part ∷ []) || is_priceless tariff trip (front ++ part ∷ []) part.unit || is_stranded tariff trip (front ++ part ∷ []) part.unit) (is_worthless tariff trip (front ++ part ∷ []) part.unit) four) [
+        | inl three ↦ elim (or_cases (is_fruitless tariff (front ++ part ∷ []) || is_priceless tariff trip (front ++ part ∷ []) part.unit) (is_stranded tariff trip (front ++ part ∷ []) part.unit) three) [
+          | inl two ↦ elim (or_cases (is_fruitless tariff (front ++ part ∷ [])) (is_priceless tariff trip (front ++ part ∷ []) part.unit) two) [
+            | inl f ↦ fruitless_is_none tariff trip front part f
+            | inr p ↦ priceless_is_none tariff trip front part p
+          ]
+          | inr s ↦ stranded_is_none tariff trip front part s
         ]
-        | inr s ↦ stranded_is_none tariff trip front part s
+        | inr w ↦ worthless_is_none tariff trip front part w
       ]
-      | inr w ↦ worthless_is_none tariff trip front part w
+      | inr b ↦ broken_is_none tariff trip front part b
     ]
 
 pub returns-then-not-may_follow : goal.returns-then-not-may_follow

@@ -2,7 +2,7 @@
 use Rattle.std.proofs.Common.{◌≡◌, ◌+◌, ◌-◌, ◌≤◌, length, filter}
 use Rattle.fare_rules.specs.Construction.{is_own}
 use Rattle.fare_rules.specs.Numbers.{numbers}
-use Rattle.fare_branch.proofs.stacking.part_count.Given as goal
+use Rattle.fare_branch.proofs.joining.part_count.Given as goal
 
 abbrev pub invariant-loop-k : goal.invariant-loop-k
 invariant-loop-k l = record {

@@ -4,7 +4,7 @@ use Rattle.fare_rules.proofs.MemberLemmas.{Member}
 use Rattle.fare_component.specs.declared.table.entry.Entry.{Entry}
 use Rattle.fare_branch.specs.Beginnings.{fare_of_entry}
 use Rattle.fare_branch.proofs.EntryLemmas.{fare_not_so_far, priced_entry, priced_none}
-use Rattle.fare_branch.proofs.refusals.has_amount.Goals as goal
+use Rattle.fare_branch.proofs.ending.has_amount.Goals as goal
 
 pub returns-then-entry-fare : goal.returns-then-entry-fare
 returns-then-entry-fare c =
