@@ -6,12 +6,12 @@ ghost use Rattle.fare_rules.specs.Lawful.{lawful_price};
 ghost use Rattle.fare_counter.specs.BestText.{entries_text, entry_text, first_text, place_text};
 
 use fare_best::{BestList, MOST_BEST};
-use fare_calc::{line_of, print_line};
+use fare_calc::{Priced, Sheets, push_line, push_no_fare};
 use fare_outside::NoMemory;
 use fare_tariff::Edition;
 use fare_text::{push_hundredths, push_labelled};
 use fare_trip::Trip;
-use fare_units::{Construction, price_is_of_unbroken};
+use fare_units::Construction;
 use std::alloc::Global;
 
 /// Appends the first constructions, numbered from 1, or that there is no fare. After want of memory the text may hold a
@@ -28,7 +28,7 @@ pub(crate) fn push_first(
     ensures { OnOk result (text.new.items ≡ text.old.items ++ first_text edition.now trip.now first.now) }
 {
     if first.len() == 0 {
-        return Ok(text.extend_from_slice(b"NO FARE\n")?);
+        return push_no_fare(text);
     }
     push_entries(text, alloc, edition, trip, first)
 }
@@ -88,12 +88,16 @@ fn push_entry(
     ensures { OnOk result
         (text.new.items ≡ text.old.items ++ entry_text edition.now trip.now number (parts.now, price)) }
 {
-    price_is_of_unbroken(edition, trip, parts, price);
+    let one = Priced {
+        edition,
+        trip,
+        construction: parts,
+        price,
+    };
+    let sheets = Sheets::of(&one);
     push_labelled(text, b"BEST ", number)?;
     text.push(b' ')?;
-    push_hundredths(text, price)?;
+    push_hundredths(text, sheets.price())?;
     text.push(b'\n')?;
-    let line = line_of(edition, trip, parts);
-    text.extend_from_slice(print_line(alloc, &line)?.as_slice())?;
-    Ok(text.push(b'\n')?)
+    push_line(text, alloc, &sheets)
 }

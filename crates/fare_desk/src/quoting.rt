@@ -6,12 +6,12 @@ ghost use Rattle.fare_desk.specs.Answers.{Answers};
 
 use crate::quote_fault::QuoteFault;
 use fare_book::Book;
-use fare_calc::answer_text;
+use fare_calc::{Priced, no_fare_text, priced_text};
 use fare_outside::NoMemory;
 use fare_points::placed;
 use fare_tariff::Edition;
 use fare_trip::Trip;
-use fare_units::{Quoter, price_is_of_unbroken};
+use fare_units::Quoter;
 use std::alloc::Global;
 use std::thread::Threads;
 
@@ -63,10 +63,16 @@ fn quote_placed<R: Threads + Sync, Q: Quoter>(
     ensures { IfOk result (λ text. QuotesPlaced edition.now trip.now text.items) }
 {
     match quoter.quote(rt, alloc, edition, trip)? {
-        None => answer_text(alloc, edition, trip, None),
+        None => no_fare_text(alloc, edition),
         Some((best, price)) => {
-            price_is_of_unbroken(edition, trip, &best, price);
-            answer_text(alloc, edition, trip, Some(&best))
+            let construction = &best;
+            let best = Priced {
+                edition,
+                trip,
+                construction,
+                price,
+            };
+            priced_text(alloc, &best)
         }
     }
 }

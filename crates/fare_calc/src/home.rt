@@ -1,33 +1,16 @@
-//! What a lawful construction costs, and in which currency.
+//! The currency of the country where a trip begins.
 
 ghost use Rattle.std.specs.Prelude.{◌≡◌, ◌<◌, IfSome, IsSome, None};
 ghost use Rattle.std.specs.Option.{option_copied};
 ghost use Rattle.fare_tariff.specs.Record.{IsCurrency};
 ghost use Rattle.fare_rules.specs.Lawful.{first_broken};
-ghost use Rattle.fare_rules.specs.UnitPrice.{price};
-ghost use Rattle.fare_units.specs.Advance.{Advances};
 ghost use Rattle.fare_calc.specs.PartSheets.{home_currency};
+ghost use Rattle.fare_calc.specs.Worksheet.{local_amount};
 
+use fare_codes::convert;
 use fare_tariff::{CurRec, Edition};
 use fare_trip::Trip;
-use fare_units::{Construction, lawful_price, price_is_of_unbroken};
-
-/// The price of a lawful construction, whose parts go on from part to part within the trip.
-#[tactic(auto, unfolding(fare_rules::specs::Lawful::lawful_price))]
-pub(crate) fn price_of(edition: &Edition, trip: &Trip, c: &Construction) -> u64
-    requires { first_broken edition.now trip.now c.now ≡ None }
-    ensures value { result ≡ price edition.now trip.now c.now }
-    ensures advances { Advances trip.now c.now }
-    ensures bound { result < 40_000_000_000 }
-{
-    match lawful_price(edition, trip, c) {
-        Err(_) => 0,
-        Ok(price) => {
-            price_is_of_unbroken(edition, trip, c, price);
-            price
-        }
-    }
-}
+use fare_units::Construction;
 
 /// The currency of the country where the trip begins.
 pub(crate) fn home_currency<'a>(edition: &'a Edition, trip: &Trip) -> Option<&'a CurRec>
@@ -38,6 +21,21 @@ pub(crate) fn home_currency<'a>(edition: &'a Edition, trip: &Trip) -> Option<&'a
         None => None,
         Some(filed) => edition.currency_of(filed.country),
     }
+}
+
+/// A price in hundredths of a NUC, converted to a currency and counted in the last of its decimals.
+pub(crate) fn local_amount(price: u64, currency: &CurRec) -> u128
+    requires price { price < 40_000_000_000 }
+    requires currency { IsCurrency currency.now.roe currency.now.decimals currency.now.unit }
+    ensures { result ≡ local_amount price currency.now }
+{
+    convert(
+        price,
+        currency.roe,
+        currency.decimals,
+        currency.unit,
+        currency.mode,
+    )
 }
 
 /// A law: the country where a lawful construction begins has a currency, so its worksheet has the rate of exchange and
