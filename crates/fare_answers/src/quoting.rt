@@ -34,6 +34,7 @@ pub fn quote_text<R: Threads + Sync, Q: Quoter>(
 }
 
 /// The answer text in an edition that knows all points of the trip.
+#[tactic(auto, unfolding(fare_calc::specs::Answer::answer_text))]
 fn quote_placed<R: Threads + Sync, Q: Quoter>(
     rt: &R,
     alloc: Global,

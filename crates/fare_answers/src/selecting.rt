@@ -26,7 +26,7 @@ pub fn edition_for<'b>(book: &'b Book, trip: &Trip) -> Result<&'b Edition, Quote
 
 /// An edition, where it knows each point of a trip.
 fn that_knows<'b>(edition: &'b Edition, trip: &Trip) -> Result<&'b Edition, QuoteFault>
-    ensures found { IfOk result (λ edition. that_knows trip.now edition.now ≡ Ok edition.now) }
+    ensures found { IfOk result (λ chosen. that_knows trip.now edition.now ≡ Ok chosen.now) }
     ensures refused { IfErr result (λ fault. that_knows trip.now edition.now ≡ Err fault) }
 {
     match placed(edition, trip) {
