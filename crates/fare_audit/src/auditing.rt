@@ -13,12 +13,12 @@ use crate::differing::{difference, parts_advance};
 use crate::figures::{first_figure, is_same_line};
 use crate::filing::{construction_of, unrecorded};
 use crate::verdict::Verdict;
-use fare_calc::line_of;
+use fare_calc::{Priced, Sheets, line_by};
 use fare_line::Line;
 use fare_outside::NoMemory;
 use fare_tariff::Edition;
 use fare_trip::Trip;
-use fare_units::{Construction, Quoter, lawful_price, price_is_of_unbroken};
+use fare_units::{Construction, Quoter, lawful_price};
 use std::alloc::Global;
 use std::thread::Threads;
 
@@ -98,8 +98,13 @@ fn audit_figures<R: Threads + Sync, Q: Quoter>(
     ensures { IfOk result
         (IsFiguresVerdict edition.now trip.now line.now (line_of edition.now trip.now parts.now) price) }
 {
-    price_is_of_unbroken(edition, trip, parts, price);
-    let made = line_of(edition, trip, parts);
+    let one = Priced {
+        edition,
+        trip,
+        construction: parts,
+        price,
+    };
+    let made = line_by(&Sheets::of(&one));
     if is_same_line(alloc, line, &made)? {
         audit_price(rt, alloc, quoter, edition, trip, parts, price)
     } else {

@@ -2,6 +2,5 @@ pub mod HomeLemmas
 pub mod LetterLemmas
 pub mod LineParts
 pub mod RangeLists
-pub mod RangeTexts
 pub mod SheetLemmas
 mod WorkedAnswers

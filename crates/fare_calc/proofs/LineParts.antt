@@ -1,6 +1,6 @@
 -- The parts of the line of a construction that breaks no rule.
 use Rattle.std.proofs.Common.{◌≡◌, ℕ, zero, suc, ◌+◌, ◌-◌, ◌<◌, ◌≤◌, Bool, true, false, ◌&&◌, List, [], ◌∷◌, length, ◌∙◌, refl, ap, sym, subst, inl, inr, arith}
-use Rattle.std.specs.Prelude.{Option, Some, None, option_map, filter_map, nat_le, nat_lt}
+use Rattle.std.specs.Prelude.{Option, Some, None, IfSome, map, option_map, filter_map, nat_le, nat_lt}
 use Rattle.std.specs.List.{cons_option, range_with_len, list_all}
 use Rattle.std.proofs.lemmas.Bool.{cases_Bool, and_parts, lt-leb, lt-ltb, le-leb}
 use Rattle.fare_codes.specs.declared.city.City.{City}
@@ -25,10 +25,14 @@ use Rattle.fare_line.specs.declared.line.sector.LineSector.{LineSector}
 use Rattle.fare_calc.specs.declared.part_sheet.PartSheet.{PartSheet}
 use Rattle.fare_line.specs.declared.line.part.LinePart.{LinePart}
 use Rattle.fare_line.specs.Line.{are_parts, flown_count, gap_count, is_led, is_priced, is_unit}
-use Rattle.fare_calc.specs.LineOf.{FitsLine, letter_of, flown_of, flown_sector, flown_from, line_part, line_part_of}
-use Rattle.fare_calc.specs.PartSheets.{gap_after, gap_before, in_fare_direction, part_higher, part_mileage, sheet_with, sheet_of_part}
+use Rattle.fare_calc.specs.LineOf.{FitsLine, letter_of, flown_of, flown_sector, flown_from, line_part}
+use Rattle.fare_calc.specs.PartSheets.{gap_after, gap_before, in_fare_direction, part_higher, part_mileage, part_sheets, sheet_with, sheet_of_part}
 use Rattle.fare_calc.proofs.LetterLemmas.{letter_has_form, bare_not_higher}
-use Rattle.fare_calc.proofs.RangeLists.{gather_next, gather_none, any_none}
+use Rattle.fare_calc.proofs.RangeLists.{gather_next, gather_none, any_none, both_hold, map_found}
+
+-- the part of a line for a part of a construction
+abbrev line_part_of : Tariff → Itinerary → List Part → ℕ → Option LinePart
+line_part_of tariff trip parts k = option_map line_part (sheet_of_part tariff trip parts k)
 
 -- sectors that are flown, one after the other
 flown_in_air : (trip : Itinerary) (d a : ℕ) → a + d ≤ count trip → ((i : ℕ) → a < i → i ≤ a + d → is_surface trip i ≡ false) → length (flown_from trip (a + 1)) ≡ d + length (flown_from trip (a + d + 1))
@@ -86,15 +90,6 @@ unfolding are_parts
 parts_lead begun flown part rest priced begins ends fits others =
     five_hold (is_priced part) (nat_lt (begun + gap_count part.gap) part.end) (nat_le part.end 16) (nat_le (flown_count begun part) flown) (are_parts part.end (flown - flown_count begun part) rest)
     priced (lt-ltb (begun + gap_count part.gap) part.end begins) (le-leb part.end 16 ends) (le-leb (flown_count begun part) flown fits) others
-
-both_hold : (a b : Bool) → a ≡ true → b ≡ true → (a && b) ≡ true
-both_hold a b e f = rw (e, f)
-
-some_none : {A : Type 0} (x : A) → Some x ≡ None → ⊥
-some_none x e = cc
-
-some_same : {A : Type 0} (x y : A) → Some x ≡ Some y → x ≡ y
-some_same x y e = cc
 
 at_least_one : (parts : List Part) → {n : ℕ} → end_of parts (length parts) ≡ n → 1 ≤ n → 1 ≤ length parts
 at_least_one [] e some = absurd (omega arith)
@@ -210,30 +205,38 @@ module _ (tariff : Tariff) (trip : Itinerary) (parts : List Part) (kept : IsKept
       let none = bare_not_higher tariff trip (start_of trip parts k) (end_of parts k) (indicator tariff trip (start_of trip parts k) (end_of parts k)) fare (is_back tariff trip parts k) used e in
       ap (option_map (in_fare_direction trip (is_back tariff trip parts k))) none
 
-  sheet_fits : (k : ℕ) → 1 ≤ k → k ≤ length parts → (fare : FareRecord) → fare_of tariff parts k ≡ Some fare → FitsLine (sheet_with tariff trip parts k fare)
+  sheet_fits : (k : ℕ) → 1 ≤ k → k ≤ length parts → (fare : FareRecord) → fare_of tariff parts k ≡ Some fare → (sheet_with tariff trip parts k fare).amount ≤ 1_250_000_000 → FitsLine (sheet_with tariff trip parts k fare)
   unfolding sheet_with
-  sheet_fits k low high fare f = record {
+  sheet_fits k low high fare f small = record {
     letter = letter_has_form tariff trip (start_of trip parts k) (end_of parts k) (indicator tariff trip (start_of trip parts k) (end_of parts k));
     pair = higher_none k low high fare f;
     unit = unit_has_form k low high;
+    amount = small;
   }
 
 -- what a construction that breaks no rule says of the sheet of a part
-sheet_there : (tariff : Tariff) (trip : Itinerary) (parts : List Part) (k : ℕ) (found : Option FareRecord) (sheet : PartSheet) → Some sheet ≡ option_map (sheet_with tariff trip parts k) found → (fare : FareRecord) × (found ≡ Some fare) × (sheet ≡ sheet_with tariff trip parts k fare)
-sheet_there tariff trip parts k None sheet e = absurd (some_none sheet e)
-sheet_there tariff trip parts k (Some fare) sheet e = (fare, refl, some_same sheet (sheet_with tariff trip parts k fare) e)
+pub sheet_found : (tariff : Tariff) (trip : Itinerary) (parts : List Part) (k : ℕ) → first_broken tariff trip parts ≡ None → count trip ≤ 16 → 1 ≤ k → k ≤ length parts → (found : Option PartSheet) → found ≡ sheet_of_part tariff trip parts k → IfSome found (λ sheet. sheet.amount ≤ 1_250_000_000) → IfSome found FitsLine
+sheet_found tariff trip parts k lawful short low high found e small =
+    let fare = fare_is_filed tariff trip parts kept k low high in
+    let is : found ≡ Some (sheet_with tariff trip parts k fare.0) = e ∙ ap (option_map (sheet_with tariff trip parts k)) fare.1 in
+    subst (λ o. IfSome o FitsLine) (sym is) (sheet_fits tariff trip parts kept short k low high fare.0 fare.1 (subst (λ o. IfSome o (λ sheet. sheet.amount ≤ 1_250_000_000)) is small))
+  where
+    kept : IsKept tariff trip parts
+    kept = kept_from_unbroken tariff trip parts lawful
 
-pub fits_line : (tariff : Tariff) (trip : Itinerary) (parts : List Part) (k : ℕ) (sheet : PartSheet) → first_broken tariff trip parts ≡ None → count trip ≤ 16 → 1 ≤ k → k ≤ length parts → Some sheet ≡ sheet_of_part tariff trip parts k → FitsLine sheet
-fits_line tariff trip parts k sheet lawful short low high e =
-    let there = sheet_there tariff trip parts k (fare_of tariff parts k) sheet e in
-    subst FitsLine (sym there.2) (sheet_fits tariff trip parts (kept_from_unbroken tariff trip parts lawful) short k low high there.0 there.1)
+-- the parts of its line are those of the sheets
+parts_of_line : (tariff : Tariff) (trip : Itinerary) (parts : List Part) → map line_part (part_sheets tariff trip parts) ≡ filter_map (line_part_of tariff trip parts) (places parts)
+parts_of_line tariff trip parts = map_found line_part (sheet_of_part tariff trip parts) (places parts)
 
 -- and of the parts and units of its line
-pub lawful_parts_share : (tariff : Tariff) (trip : Itinerary) (parts : List Part) → first_broken tariff trip parts ≡ None → count trip ≤ 16 → 1 ≤ count trip → list_all is_priced (filter_map (line_part_of tariff trip parts) (places parts)) ≡ true → are_parts 0 (length (flown_from trip 1)) (filter_map (line_part_of tariff trip parts) (places parts)) ≡ true
-lawful_parts_share tariff trip parts lawful short some priced = parts_share tariff trip parts (kept_from_unbroken tariff trip parts lawful) short some priced
+pub lawful_parts_share : (tariff : Tariff) (trip : Itinerary) (parts : List Part) (line : List LinePart) → line ≡ map line_part (part_sheets tariff trip parts) → first_broken tariff trip parts ≡ None → count trip ≤ 16 → 1 ≤ count trip → list_all is_priced line ≡ true → are_parts 0 (length (flown_from trip 1)) line ≡ true
+lawful_parts_share tariff trip parts line e lawful short some priced =
+    let is : line ≡ filter_map (line_part_of tariff trip parts) (places parts) = e ∙ parts_of_line tariff trip parts in
+    ap (are_parts 0 (length (flown_from trip 1))) is ∙ parts_share tariff trip parts (kept_from_unbroken tariff trip parts lawful) short some (ap (list_all is_priced) (sym is) ∙ priced)
 
-pub lawful_parts_are_led : (tariff : Tariff) (trip : Itinerary) (parts : List Part) → first_broken tariff trip parts ≡ None → count trip ≤ 16 → 1 ≤ count trip → is_led (filter_map (line_part_of tariff trip parts) (places parts)) ≡ true
-lawful_parts_are_led tariff trip parts lawful short some = parts_are_led tariff trip parts (kept_from_unbroken tariff trip parts lawful) short some
+pub lawful_parts_are_led : (tariff : Tariff) (trip : Itinerary) (parts : List Part) (line : List LinePart) → line ≡ map line_part (part_sheets tariff trip parts) → first_broken tariff trip parts ≡ None → count trip ≤ 16 → 1 ≤ count trip → is_led line ≡ true
+lawful_parts_are_led tariff trip parts line e lawful short some =
+    ap is_led (e ∙ parts_of_line tariff trip parts) ∙ parts_are_led tariff trip parts (kept_from_unbroken tariff trip parts lawful) short some
 
 pub lawful_few_units : (tariff : Tariff) (trip : Itinerary) (parts : List Part) → first_broken tariff trip parts ≡ None → count trip ≤ 16 → greatest_unit parts (places parts) ≤ 16
 lawful_few_units tariff trip parts lawful short = few_units tariff trip parts (kept_from_unbroken tariff trip parts lawful) short

@@ -1,6 +1,6 @@
 -- Answers to the byte, computed on the definitions.
 use Prim.Native.String.{String}
-use Rattle.std.specs.Prelude.{◌≡◌, refl, ℕ, List, [], ◌∷◌, Some, codes, map}
+use Rattle.std.specs.Prelude.{◌≡◌, refl, ℕ, List, [], ◌∷◌, Some, codes, map, flat_map}
 use Rattle.fare_codes.specs.declared.area.Area.TheVariants.{Two}
 use Rattle.fare_codes.specs.declared.cabin.Cabin.TheVariants.{Y}
 use Rattle.fare_codes.specs.declared.indicator.Indicator.TheVariants.{EH}
@@ -30,10 +30,10 @@ use Rattle.fare_rules.specs.UnitPrice.{part_amount, unit_sum, is_round_trip, uni
 use Rattle.fare_rules.proofs.Filed.{allowance, city, currency, fare, edition, free, part}
 use Rattle.fare_rules.proofs.Editions.{through_fare, with_allowance, beside_paris, pacific_circle, round_the_world, end_on_end, side_trip, paris_and_lyon}
 use Rattle.fare_rules.proofs.Trips.{straight_to_rome, stopping_in_paris, changing_in_paris, paris_twice, by_the_pacific, on_two_carriers, back_from_lyon}
-use Rattle.fare_calc.specs.PartSheets.{sheet_with}
+use Rattle.fare_calc.specs.PartSheets.{part_sheets, sheet_with}
 use Rattle.fare_calc.specs.LineOf.{line_of}
 use Rattle.fare_line.specs.LineText.{parts_text, line_text}
-use Rattle.fare_calc.specs.Worksheet.{miles_text, part_lines, part_lines_of, unit_line, currency_lines, worksheet_text}
+use Rattle.fare_calc.specs.Worksheet.{miles_text, part_lines, unit_line, currency_lines, worksheet_text}
 use Rattle.fare_calc.specs.Answer.{answer_text}
 
 -- record 6 is a one way fare from London to Rome
@@ -130,10 +130,14 @@ pub worked_answers : map answer_found answers ≡ map expected answers
 unfolding digits greatest_reference backhaul compared_pairs base higher own_sectors circle_reference unit_circle_minimum repeats_city runs_between has_indicator covers_cabins covers_carriers in_season span_surcharge is_applicable fare_amount component_amount own is_back_in indicator_of surcharge sum_of_miles compared_miles mileage reference is_hr closes is_open_jaw stops_hold transfers_hold advance_holds part_amount unit_sum is_round_trip unit_kind unit_minimum unit_sheet price day_number season_holds days_of_months days_since_1970 surcharged tenths converted last_digits decimal_text sheet_with line_of parts_text line_text miles_text part_lines unit_line currency_lines worksheet_text answer_text
 worked_answers = refl
 
+-- the lines of the parts of a construction
+abbrev parts_text_of : Tariff → Itinerary → List Part → List ℕ
+parts_text_of tariff trip parts = flat_map part_lines (part_sheets tariff trip parts)
+
 -- a part with an allowance, and one whose allowance is more than its miles
 pub lines_of_allowances :
-    (part_lines_of (with_allowance (allowance "LON" "ROM" EH "PAR" 60)) stopping_in_paris (part 2 1 8 ∷ []) 1
-    ∷ part_lines_of (with_allowance (allowance "LON" "ROM" EH "PAR" 2_000)) stopping_in_paris (part 2 1 8 ∷ []) 1
+    (parts_text_of (with_allowance (allowance "LON" "ROM" EH "PAR" 60)) stopping_in_paris (part 2 1 8 ∷ [])
+    ∷ parts_text_of (with_allowance (allowance "LON" "ROM" EH "PAR" 2_000)) stopping_in_paris (part 2 1 8 ∷ [])
     ∷ [])
     ≡ (codes "PART 1 LON-ROM UNIT 1 OUT\nFARE 8 YYYOW 400.00\nMILES TPM 1051 EMA 60 NET 991 MPM 1000 M\nHIP NONE\nAF 400.00\n"
     ∷ codes "PART 1 LON-ROM UNIT 1 OUT\nFARE 8 YYYOW 400.00\nMILES TPM 1051 EMA 2000 NET 0 MPM 1000 M\nHIP NONE\nAF 400.00\n"

@@ -11,9 +11,13 @@ use Rattle.fare_calc.specs.Worksheet.{worksheet_text}
 abbrev pub edition_line : Tariff → List ℕ
 edition_line tariff = codes "EDITION " ++ decimal tariff.number ++ codes " " ++ tariff.effective ++ codes "\n"
 
+-- the line that says that no construction is lawful
+abbrev pub no_fare_line : List ℕ
+no_fare_line = codes "NO FARE\n"
+
 -- the line of the best construction and its worksheet, or that there is no fare
 abbrev pub best_text : Tariff → Itinerary → Option (List Part) → List ℕ
-best_text tariff trip None = codes "NO FARE\n"
+best_text tariff trip None = no_fare_line
 best_text tariff trip (Some parts) =
     line_text (line_of tariff trip parts) ++ codes "\n" ++ worksheet_text tariff trip parts
 

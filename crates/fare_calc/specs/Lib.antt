@@ -7,6 +7,8 @@ pub use Rattle.fare_tariff.specs.Tariff
 pub use Rattle.fare_rules.specs.Construction
 pub use Rattle.fare_rules.specs.Lawful
 pub mod PartSheets
+pub mod UnitSheets
 pub mod LineOf
 pub mod Worksheet
+pub mod Sheets
 pub mod Answer

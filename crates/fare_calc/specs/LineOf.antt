@@ -1,6 +1,6 @@
 -- The line of a construction.
-use Rattle.std.specs.Prelude.{◌≡◌, ℕ, ◌+◌, ◌-◌, true, not, List, Option, Some, None, filter_map, option_map, ◌==◌, ◌&&◌}
-use Rattle.std.specs.Prelude.{nat_lt, if◌then◌else◌}
+use Rattle.std.specs.Prelude.{◌≡◌, ℕ, ◌+◌, ◌-◌, ◌≤◌, true, not, List, Option, Some, None, map, filter_map, option_map}
+use Rattle.std.specs.Prelude.{◌==◌, ◌&&◌, nat_lt, if◌then◌else◌}
 use Rattle.fare_codes.specs.declared.city.City.{City}
 use Rattle.fare_codes.specs.declared.nuc.Nuc.{Nuc}
 use Rattle.fare_trip.specs.Itinerary.{Itinerary, count, point, sector}
@@ -9,19 +9,19 @@ use Rattle.fare_tariff.specs.Tariff.{Tariff}
 use Rattle.fare_rules.specs.declared.miles.Mileage.{Mileage}
 use Rattle.fare_rules.specs.declared.miles.Mileage.TheVariants.{Direct, Within, Excess, NoTpm, NoMpm, Over}
 use Rattle.fare_rules.specs.declared.part.Part.{Part}
-use Rattle.fare_rules.specs.declared.unit_sheet.UnitSheet.{UnitSheet}
 use Rattle.fare_rules.specs.Numbers.{numbers}
 use Rattle.fare_rules.specs.Span.{is_surface, is_transfer}
-use Rattle.fare_rules.specs.Construction.{places, units, own}
-use Rattle.fare_rules.specs.UnitPrice.{unit_sheet, price}
+use Rattle.fare_rules.specs.UnitPrice.{price}
 use Rattle.fare_line.specs.declared.line.part.Letter.{Letter}
 use Rattle.fare_line.specs.declared.line.part.Letter.TheVariants.{Bare, Mileage as Marked}
 use Rattle.fare_line.specs.declared.line.sector.LineSector.{LineSector}
+use Rattle.fare_calc.specs.declared.numbered_unit.NumberedUnit.{NumberedUnit}
 use Rattle.fare_calc.specs.declared.part_sheet.PartSheet.{PartSheet}
 use Rattle.fare_line.specs.declared.line.plus_up.PlusUp.{PlusUp}
 use Rattle.fare_line.specs.declared.line.part.LinePart.{LinePart}
 use Rattle.fare_line.specs.Line.{CalculationLine, is_letter, is_unit}
-use Rattle.fare_calc.specs.PartSheets.{sheet_of_part, home_currency}
+use Rattle.fare_calc.specs.PartSheets.{part_sheets, home_currency}
+use Rattle.fare_calc.specs.UnitSheets.{unit_sheets}
 
 -- a flown sector is marked where it reaches a transfer that isn't the last point
 abbrev pub flown_sector : Itinerary → ℕ → LineSector
@@ -67,18 +67,11 @@ line_part sheet = record {
   gap = sheet.gap;
 }
 
--- the part of a line for a part of a construction
-abbrev pub line_part_of : Tariff → Itinerary → List Part → ℕ → Option LinePart
-line_part_of tariff trip parts k = option_map line_part (sheet_of_part tariff trip parts k)
-
 -- a unit whose price is above the sum of its amounts has a plus-up of the difference
-abbrev pub plus_up_by : ℕ → UnitSheet → Option PlusUp
-plus_up_by unit sheet =
-    if nat_lt sheet.sum sheet.price then Some (record { unit = unit; amount = sheet.price - sheet.sum }) else None
-
--- the plus-up of a unit by its number
-abbrev pub plus_up_of : Tariff → Itinerary → List Part → ℕ → Option PlusUp
-plus_up_of tariff trip parts unit = plus_up_by unit (unit_sheet tariff trip parts (own parts unit))
+abbrev pub plus_up_of : NumberedUnit → Option PlusUp
+plus_up_of unit =
+    if nat_lt unit.sheet.sum unit.sheet.price
+    then Some (record { unit = unit.number; amount = unit.sheet.price - unit.sheet.sum }) else None
 
 -- a currency's rate of exchange, 0 where there is no currency
 abbrev pub rate_of : Option CurrencyRecord → ℕ
@@ -91,15 +84,16 @@ unfoldable pub line_of : Tariff → Itinerary → List Part → CalculationLine
 line_of tariff trip parts = record {
   from = point trip 0;
   sectors = flown_from trip 1;
-  parts = filter_map (line_part_of tariff trip parts) (places parts);
-  plus = filter_map (plus_up_of tariff trip parts) (units parts);
+  parts = map line_part (part_sheets tariff trip parts);
+  plus = filter_map plus_up_of (unit_sheets tariff trip parts);
   total = price tariff trip parts;
   roe = rate_of (home_currency tariff trip);
 }
 
 -- what a line asks of the sheet of a part: its letter is that of a surcharge, a part without a letter has no higher
--- intermediate point, and its unit is one of a line
+-- intermediate point, its unit is one of a line, and its amount is at most 12,500,000.00
 pub record FitsLine (sheet : PartSheet) : Type 0 where
   pub letter : is_letter (letter_of sheet.mileage) ≡ true
   pub pair : letter_of sheet.mileage ≡ Bare → sheet.higher ≡ None
   pub unit : is_unit sheet.unit ≡ true
+  pub amount : sheet.amount ≤ 1_250_000_000

@@ -1,5 +1,5 @@
 -- How the parts of a construction are priced, as the line and the worksheet tell it.
-use Rattle.std.specs.Prelude.{ℕ, ◌+◌, ◌-◌, Bool, List, Option, Some, None, option_map, option_and_then, nat_le}
+use Rattle.std.specs.Prelude.{ℕ, ◌+◌, ◌-◌, Bool, List, Option, Some, None, option_map, option_and_then, nat_le, filter_map}
 use Rattle.std.specs.Prelude.{if◌then◌else◌}
 use Rattle.fare_codes.specs.declared.city.City.{City}
 use Rattle.fare_codes.specs.declared.nuc.Nuc.{Nuc}
@@ -13,7 +13,7 @@ use Rattle.fare_rules.specs.Span.{is_surface}
 use Rattle.fare_rules.specs.Indicator.{country, indicator}
 use Rattle.fare_rules.specs.Mileage.{mileage}
 use Rattle.fare_rules.specs.Base.{Compared, higher}
-use Rattle.fare_rules.specs.Construction.{part_at, start_of, end_of, unit_of, fare_of, start_city, end_city, own}
+use Rattle.fare_rules.specs.Construction.{places, part_at, start_of, end_of, unit_of, fare_of, start_city, end_city, own}
 use Rattle.fare_rules.specs.Direction.{is_back}
 use Rattle.fare_rules.specs.UnitPrice.{part_cost}
 use Rattle.fare_calc.specs.declared.part_sheet.PartSheet.{PartSheet}
@@ -50,6 +50,7 @@ sheet_with tariff trip parts k fare = record {
   place = k;
   from = start_city trip parts k;
   to = end_city trip parts k;
+  start = start_of trip parts k;
   end = end_of parts k;
   gap = gap_before trip parts k;
   unit = unit_of parts k;
@@ -64,6 +65,10 @@ sheet_with tariff trip parts k fare = record {
 -- the sheet of a part, where its fare is filed
 abbrev pub sheet_of_part : Tariff → Itinerary → List Part → ℕ → Option PartSheet
 sheet_of_part tariff trip parts k = option_map (sheet_with tariff trip parts k) (fare_of tariff parts k)
+
+-- the sheets of the parts of a construction, in their order
+abbrev pub part_sheets : Tariff → Itinerary → List Part → List PartSheet
+part_sheets tariff trip parts = filter_map (sheet_of_part tariff trip parts) (places parts)
 
 -- the currency of the country where the trip begins
 abbrev pub home_currency : Tariff → Itinerary → Option CurrencyRecord

@@ -14,13 +14,13 @@ use Rattle.fare_rules.specs.declared.miles.Miles.{Miles}
 use Rattle.fare_rules.specs.declared.part.Part.{Part}
 use Rattle.fare_rules.specs.declared.unit_sheet.UnitKind.{UnitKind}
 use Rattle.fare_rules.specs.declared.unit_sheet.UnitKind.TheVariants.{OW, RT, CT, OJ}
-use Rattle.fare_rules.specs.declared.unit_sheet.UnitSheet.{UnitSheet}
-use Rattle.fare_rules.specs.Construction.{places, units, own}
-use Rattle.fare_rules.specs.UnitPrice.{unit_sheet, price}
+use Rattle.fare_rules.specs.UnitPrice.{price}
+use Rattle.fare_calc.specs.declared.numbered_unit.NumberedUnit.{NumberedUnit}
 use Rattle.fare_calc.specs.declared.part_sheet.PartSheet.{PartSheet}
 use Rattle.fare_line.specs.LineText.{letter_text, tag_text}
 use Rattle.fare_calc.specs.LineOf.{letter_of}
-use Rattle.fare_calc.specs.PartSheets.{sheet_of_part, home_currency}
+use Rattle.fare_calc.specs.PartSheets.{part_sheets, home_currency}
+use Rattle.fare_calc.specs.UnitSheets.{unit_sheets}
 
 -- two cities as from and to
 abbrev pub way_text : City → City → List ℕ
@@ -77,15 +77,6 @@ part_lines sheet =
     part_line sheet ++ filed_line sheet.number sheet.fare ++ miles_line sheet.mileage ++ higher_line sheet.higher
     ++ amount_line sheet.amount
 
--- the lines of a sheet, where there is one
-abbrev pub lines_of : Option PartSheet → List ℕ
-lines_of None = []
-lines_of (Some sheet) = part_lines sheet
-
--- the lines of a part of a construction
-abbrev pub part_lines_of : Tariff → Itinerary → List Part → ℕ → List ℕ
-part_lines_of tariff trip parts k = lines_of (sheet_of_part tariff trip parts k)
-
 -- the kind of a unit
 abbrev pub unit_kind_text : UnitKind → List ℕ
 unit_kind_text OW = codes "OW"
@@ -103,26 +94,26 @@ check_text RT minimum = codes "NONE"
 check_text OJ minimum = codes "NONE"
 
 -- the line of a unit: its number and kind, the sum of its amounts, its check and its price
-unfoldable pub unit_line : ℕ → UnitSheet → List ℕ
-unit_line unit sheet =
-    codes "UNIT " ++ decimal unit ++ codes " " ++ unit_kind_text sheet.kind ++ codes " SUM " ++ nuc_text sheet.sum
-    ++ codes " CHECK " ++ check_text sheet.kind sheet.minimum ++ codes " PRICE " ++ nuc_text sheet.price ++ codes "\n"
-
--- the line of a unit of a construction
-abbrev pub unit_line_of : Tariff → Itinerary → List Part → ℕ → List ℕ
-unit_line_of tariff trip parts unit = unit_line unit (unit_sheet tariff trip parts (own parts unit))
+unfoldable pub unit_line : NumberedUnit → List ℕ
+unit_line unit =
+    codes "UNIT " ++ decimal unit.number ++ codes " " ++ unit_kind_text unit.sheet.kind
+    ++ codes " SUM " ++ nuc_text unit.sheet.sum ++ codes " CHECK " ++ check_text unit.sheet.kind unit.sheet.minimum
+    ++ codes " PRICE " ++ nuc_text unit.sheet.price ++ codes "\n"
 
 -- a local amount, counted in the last of its decimals: without decimals it has no point
 abbrev pub local_text : ℕ → ℕ → List ℕ
 local_text zero amount = decimal amount
 local_text (suc less) amount = decimal_text (less + 1) amount
 
+-- a price converted to a currency, counted in the last of its decimals
+abbrev pub local_amount : ℕ → CurrencyRecord → ℕ
+local_amount price currency = converted price currency.roe currency.decimals currency.unit currency.mode
+
 -- the lines of a currency: its rate of exchange, and a price converted to it
 unfoldable pub currency_lines : ℕ → CurrencyRecord → List ℕ
 currency_lines price currency =
     codes "ROE " ++ rate_text currency.roe ++ codes "\nLOCAL " ++ currency.currency ++ codes " "
-    ++ local_text currency.decimals (converted price currency.roe currency.decimals currency.unit currency.mode)
-    ++ codes "\n"
+    ++ local_text currency.decimals (local_amount price currency) ++ codes "\n"
 
 -- the lines of a currency, where there is one
 abbrev pub currency_lines_of : ℕ → Option CurrencyRecord → List ℕ
@@ -137,5 +128,5 @@ total_lines price currency = codes "TOTAL NUC " ++ nuc_text price ++ codes "\n" 
 -- those of its price in the currency of the country where the trip begins
 unfoldable pub worksheet_text : Tariff → Itinerary → List Part → List ℕ
 worksheet_text tariff trip parts =
-    flat_map (part_lines_of tariff trip parts) (places parts) ++ flat_map (unit_line_of tariff trip parts) (units parts)
+    flat_map part_lines (part_sheets tariff trip parts) ++ flat_map unit_line (unit_sheets tariff trip parts)
     ++ total_lines (price tariff trip parts) (home_currency tariff trip)

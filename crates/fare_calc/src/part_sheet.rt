@@ -1,4 +1,4 @@
-//! How a part of a construction is priced, as the line and the worksheet tell it.
+//! How a part of a construction is priced, as each of its texts tells it.
 
 ghost use Rattle.std.specs.Prelude.{◌≡◌, ◌<◌, ◌≤◌, IfSome, length, option_map};
 ghost use Rattle.fare_trip.specs.Itinerary.{count};
@@ -11,7 +11,7 @@ ghost use Rattle.fare_units.specs.Advance.{Advances};
 ghost use Rattle.fare_units.specs.Places.{IsPlace};
 ghost use Rattle.fare_calc.specs.PartSheets.{gap_after, gap_before, in_fare_direction, sheet_of_part, sheet_with};
 
-use fare_codes::{City, Nuc};
+use fare_codes::{Cabin, Carrier, City, Indicator, Kind, Nuc, Season};
 use fare_component::applicable;
 use fare_mileage::{Mileage, mileage};
 use fare_points::{higher, indicator};
@@ -20,15 +20,17 @@ use fare_tariff::{Edition, FareRec};
 use fare_trip::Trip;
 use fare_units::{is_back, part_at, start_of};
 
-/// How a part of a construction is priced, as its lines tell it.
+/// How a part of a construction is priced.
 #[derive(Clone, Copy, Debug)]
-pub(crate) struct PartSheet {
+pub struct PartSheet {
     /// Its number, from 1.
     pub place: u32,
     /// The city where it begins.
     pub from: City,
     /// The city where it ends.
     pub to: City,
+    /// The number of the trip's point where it begins: its sectors are those from the next number to that of its end.
+    pub start: u8,
     /// The number of the trip's point where it ends.
     pub end: u8,
     /// The city to which the surface sector before it leads, where there is one.
@@ -47,6 +49,42 @@ pub(crate) struct PartSheet {
     pub higher: Option<(City, City, Nuc)>,
     /// Its component amount.
     pub amount: Nuc,
+}
+
+/// A sheet that stands in room that is not yet used.
+impl Default for PartSheet {
+    fn default() -> PartSheet {
+        PartSheet {
+            place: 1,
+            from: City::default(),
+            to: City::default(),
+            start: 0,
+            end: 0,
+            gap: None,
+            unit: 1,
+            number: 1,
+            fare: no_fare(),
+            back: false,
+            mileage: Mileage::Direct,
+            higher: None,
+            amount: Nuc::new(0),
+        }
+    }
+}
+
+/// The fare of a sheet that stands in room that is not yet used.
+fn no_fare() -> FareRec {
+    FareRec {
+        from: City::default(),
+        to: City::default(),
+        ind: Indicator::EH,
+        carrier: Carrier::default(),
+        class: Cabin::Y,
+        kind: Kind::OW,
+        rule: None,
+        season: Season::whole_year(),
+        amount: Nuc::new(0),
+    }
 }
 
 /// The city to which the surface sector that begins at a point leads, where there is one.
@@ -142,6 +180,7 @@ fn sheet_with(edition: &Edition, trip: &Trip, parts: &[Part], k: usize, fare: &F
         place: k as u32,
         from: trip.point(a),
         to: trip.point(b),
+        start: a as u8,
         end: part.end,
         gap: gap_before(trip, parts, k),
         unit: part.unit,

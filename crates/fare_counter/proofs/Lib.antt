@@ -1,4 +1,3 @@
-pub mod EntryLemmas
 pub mod WalkLemmas
 pub mod PathLemmas
 pub mod StepLemmas

@@ -7,10 +7,10 @@ use Rattle.fare_trip.specs.declared.fault.TripFault.{TripFault}
 use Rattle.fare_tariff.specs.Tariff.{Tariff}
 use Rattle.fare_csv.specs.Numbers.{above_zero}
 use Rattle.fare_http.specs.declared.reply.Reply.{Reply}
-use Rattle.fare_desk.specs.Quotation.{Quotation}
+use Rattle.fare_answers.specs.Quotation.{Quotation}
 use Rattle.fare_desk.specs.Replies.{no_route}
 use Rattle.fare_desk.specs.Viewing.{fault_reply, quotation_reply}
-use Rattle.fare_counter.specs.BestText.{BestOver}
+use Rattle.fare_answers.specs.BestText.{BestOver}
 
 -- how many constructions may be asked for is 1 to 10, written without a zero in front
 abbrev pub asked_count : List ℕ → Option ℕ

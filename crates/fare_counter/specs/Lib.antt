@@ -1,8 +1,6 @@
 pub use Rattle.fare_trip.specs.Itinerary
 pub use Rattle.fare_tariff.specs.Tariff
-pub use Rattle.fare_rules.specs.FirstK
-pub use Rattle.fare_desk.specs.Answers
-pub mod BestText
+pub use Rattle.fare_answers.specs.BestText
 pub mod Routes
 pub mod BestReply
 pub mod AuditReply

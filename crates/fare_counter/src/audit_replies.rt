@@ -3,15 +3,15 @@
 ghost use Rattle.std.specs.Prelude.{◌≡◌, Err, IfOk};
 ghost use Rattle.fare_audit.specs.AuditText.{fault_text};
 ghost use Rattle.fare_desk.specs.Replies.{line, says};
-ghost use Rattle.fare_counter.specs.AuditReply.{IsAuditIn, IsAuditOver, IsAuditReply, IsVerdictReply};
+ghost use Rattle.fare_counter.specs.AuditReply.{IsAuditOver, IsAuditReply, IsVerdictReply};
 
+use fare_answers::edition_for;
 use fare_audit::{AuditFault, audit, read_audit, verdict_text};
 use fare_book::Book;
-use fare_desk::{QuoteFault, line_reply, refusal_reply, text_reply};
+use fare_desk::{line_reply, refusal_reply, text_reply};
 use fare_http::{Reply, Status};
 use fare_line::Line;
 use fare_outside::NoMemory;
-use fare_points::placed;
 use fare_tariff::Edition;
 use fare_trip::Trip;
 use fare_units::Quoter;
@@ -42,7 +42,7 @@ fn fault_reply(alloc: Global, fault: &AuditFault) -> Result<Reply, NoMemory>
     line_reply(alloc, Status::BadRequest, fault.text().as_str().as_bytes())
 }
 
-/// The reply to a line with its trip: the verdict in the edition that the trip's sale day selects.
+/// The reply to a line with its trip: the verdict in the edition for the trip, or why there is none.
 fn audit_over<R: Threads + Sync, Q: Quoter>(
     rt: &R,
     alloc: Global,
@@ -53,27 +53,9 @@ fn audit_over<R: Threads + Sync, Q: Quoter>(
 ) -> Result<Reply, NoMemory>
     ensures { IfOk result (IsAuditOver book.now.editions trip.now line.now) }
 {
-    let sale = trip.sale();
-    match book.select(sale) {
-        None => refusal_reply(alloc, &QuoteFault::NoEdition(sale)),
-        Some(edition) => audit_in(rt, alloc, edition, quoter, trip, line),
-    }
-}
-
-/// The reply in an edition, unless it doesn't know a point of the trip.
-fn audit_in<R: Threads + Sync, Q: Quoter>(
-    rt: &R,
-    alloc: Global,
-    edition: &Edition,
-    quoter: &Q,
-    trip: &Trip,
-    line: &Line,
-) -> Result<Reply, NoMemory>
-    ensures { IfOk result (IsAuditIn edition.now trip.now line.now) }
-{
-    match placed(edition, trip) {
-        None => verdict_reply(rt, alloc, edition, quoter, trip, line),
-        Some(city) => refusal_reply(alloc, &QuoteFault::UnknownPlace(city)),
+    match edition_for(book, trip) {
+        Ok(edition) => verdict_reply(rt, alloc, edition, quoter, trip, line),
+        Err(fault) => refusal_reply(alloc, &fault),
     }
 }
 

@@ -4,7 +4,7 @@ ghost use Rattle.std.specs.Prelude.{◌≡◌, ◌≤◌, IfOk, IfSome};
 ghost use Rattle.fare_trip.specs.ItineraryText.{read_trip};
 ghost use Rattle.fare_counter.specs.BestReply.{IsBestReply, IsFirstOf, IsFirstReply, asked_count, count_text};
 
-use crate::listing::best_text;
+use fare_answers::best_text;
 use fare_best::MOST_BEST;
 use fare_book::Book;
 use fare_codes::read_number;

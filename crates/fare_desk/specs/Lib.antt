@@ -1,9 +1,8 @@
 pub use Rattle.fare_trip.specs.Itinerary
 pub use Rattle.fare_tariff.specs.Tariff
 pub use Rattle.fare_book.specs.Book
-pub mod Quotation
-pub mod List
-pub mod Answers
+pub use Rattle.fare_answers.specs.Quotation
+pub use Rattle.fare_answers.specs.List
 pub mod Routes
 pub mod Replies
 pub mod Viewing

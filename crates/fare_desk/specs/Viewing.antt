@@ -21,11 +21,11 @@ use Rattle.fare_http.specs.declared.reply.Allow.TheVariants.{Get, Post}
 use Rattle.fare_http.specs.declared.reply.Reply.{Reply}
 use Rattle.fare_http.specs.declared.reply.Status.TheVariants.{BadRequest, ContentTooLarge, NotFound, Okay}
 use Rattle.fare_http.specs.declared.reply.Status.TheVariants.{InsufficientStorage, UnprocessableContent}
-use Rattle.fare_desk.specs.List.{list_text}
-use Rattle.fare_desk.specs.Quotation.{Quotation, Quotes}
+use Rattle.fare_answers.specs.List.{list_text}
+use Rattle.fare_answers.specs.Quotation.{Quotation, Quotes}
 use Rattle.fare_desk.specs.Replies.{IsAskedBy, line, no_route, says}
 use Rattle.fare_desk.specs.Routes.{route_of}
-use Rattle.fare_desk.specs.declared.quote_fault.QuoteFault.TheVariants.{Memory, NoEdition, UnknownPlace}
+use Rattle.fare_answers.specs.declared.quote_fault.QuoteFault.TheVariants.{Memory, NoEdition, UnknownPlace}
 use Rattle.fare_desk.specs.declared.routes.Route.{Route}
 use Rattle.fare_desk.specs.declared.routes.Route.TheVariants.{Editions, Edition, Quote, Batch}
 

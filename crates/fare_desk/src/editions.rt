@@ -1,13 +1,13 @@
 //! The replies that show the editions of a book.
 
 ghost use Rattle.std.specs.Prelude.{◌≡◌, IfOk, OnOk};
-ghost use Rattle.fare_desk.specs.List.{list_text};
+ghost use Rattle.fare_answers.specs.List.{list_text};
 ghost use Rattle.fare_desk.specs.Replies.{says};
 ghost use Rattle.fare_desk.specs.Viewing.{edition_number, edition_reply, found_reply, number_text};
 ghost use Rattle.fare_book.specs.Book.{numbered};
 
-use crate::list::list_text;
 use crate::replies::{line_reply, no_route_reply, text_reply};
+use fare_answers::list_text;
 use fare_book::Book;
 use fare_codes::read_number;
 use fare_csv::edition_text;

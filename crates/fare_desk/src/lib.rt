@@ -1,10 +1,7 @@
-//! The desk: what a book of published editions answers to a trip, and to the requests of clients. The quotation of a
-//! trip is defined in `specs/` (`Quotation`): the answer text of the best construction in the edition that the sale day
-//! selects. So are the routes of requests (`Routes`), what is answered without a change (`Viewing`), and what a desk
-//! does (`Publishing`).
+//! The desk: what a book of published editions answers to the requests of clients. The routes of requests are defined in
+//! `specs/` (`Routes`), and so is what is answered without a change (`Viewing`), and what a desk does (`Publishing`).
+//! The quotation of a trip and the list of a book are those of `fare_answers`, handed on here.
 //!
-//! - `quote_fault`, `quoting`: the text of a quotation, or why a trip isn't quoted;
-//! - `list`: the text that lists the editions of a book, which is defined in `specs/` (`List`);
 //! - `routes`: the routes of requests; `replies`: replies of one line;
 //! - `editions`, `quotes`, `batch`: the replies that show editions, to a trip, and to a batch of them;
 //! - `front`: what is answered without a change; `publishing`: the reply to a publication;
@@ -15,24 +12,17 @@ mod batch;
 mod desk;
 mod editions;
 mod front;
-mod list;
 mod publishing;
-mod quote_fault;
 mod quotes;
-mod quoting;
 mod replies;
 mod routes;
 
 pub use desk::Desk;
+pub use fare_answers::{QuoteFault, list_text, quote_text};
 pub use front::DeskFront;
-pub use list::list_text;
-pub use quote_fault::QuoteFault;
 pub use quotes::{fault_reply, refusal_reply};
-pub use quoting::quote_text;
 pub use replies::{is_method, line_reply, method_reply, no_route_reply, text_reply};
 pub use routes::{Route, Routes};
 
 #[cfg(test)]
 mod desk_tests;
-#[cfg(test)]
-mod tests;

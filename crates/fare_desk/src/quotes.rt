@@ -4,9 +4,8 @@ ghost use Rattle.std.specs.Prelude.{◌≡◌, Err, IfOk, IsErr};
 ghost use Rattle.fare_trip.specs.ItineraryText.{read_trip};
 ghost use Rattle.fare_desk.specs.Viewing.{IsQuoteReply, IsTripReply, fault_reply, quotation_reply};
 
-use crate::quote_fault::QuoteFault;
-use crate::quoting::quote_text;
 use crate::replies::{line_reply, named_reply, text_reply};
+use fare_answers::{QuoteFault, quote_text};
 use fare_book::Book;
 use fare_http::{Reply, Status};
 use fare_outside::NoMemory;

@@ -6,9 +6,9 @@ use Rattle.fare_book.specs.declared.publish_fault.PublishFault.{PublishFault}
 use Rattle.fare_book.specs.declared.publish_fault.PublishFault.TheVariants as publishing
 use Rattle.fare_book.specs.declared.restore_fault.RestoreFault.{RestoreFault}
 use Rattle.fare_book.specs.declared.restore_fault.RestoreFault.TheVariants as restoring
-use Rattle.fare_desk.specs.declared.quote_fault.QuoteFault.{QuoteFault}
-use Rattle.fare_desk.specs.declared.quote_fault.QuoteFault.TheVariants as quoting
-use Rattle.fare_desk.specs.Quotation.{Quotation}
+use Rattle.fare_answers.specs.declared.quote_fault.QuoteFault.{QuoteFault}
+use Rattle.fare_answers.specs.declared.quote_fault.QuoteFault.TheVariants as quoting
+use Rattle.fare_answers.specs.Quotation.{Quotation}
 use Rattle.fare_outside.specs.declared.keeper.KeepFault.{KeepFault}
 use Rattle.fare_outside.specs.declared.keeper.KeepFault.TheVariants as keeping
 use Rattle.fare_outside.specs.declared.reading.ReadEnd.{ReadEnd}

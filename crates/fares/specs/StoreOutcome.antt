@@ -11,9 +11,9 @@ use Rattle.fare_book.specs.Book.{BookState, numbered}
 use Rattle.fare_book.specs.Editions.{editions_of}
 use Rattle.fare_book.specs.Migration.{MigratesInPart, SameEditions, canonical_body, is_old}
 use Rattle.fare_book.specs.Publish.{Answer as Publication, Offers}
-use Rattle.fare_counter.specs.BestText.{BestOver}
-use Rattle.fare_desk.specs.List.{list_text}
-use Rattle.fare_desk.specs.Quotation.{Quotation, Quotes}
+use Rattle.fare_answers.specs.BestText.{BestOver}
+use Rattle.fare_answers.specs.List.{list_text}
+use Rattle.fare_answers.specs.Quotation.{Quotation, Quotes}
 use Rattle.fares.specs.declared.exit.Exit.TheVariants as ended
 use Rattle.fares.specs.Answer.{Answer, answer_of, migrated_text, publication_answer}
 use Rattle.fares.specs.Limits.{publish_limit, quote_limit}

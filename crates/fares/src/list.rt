@@ -8,7 +8,7 @@ ghost use Rattle.fares.specs.StoreOutcome.{AnswersOver, Lists, ReadsStore};
 
 use crate::exit::Exit;
 use crate::store::book_of;
-use fare_desk::list_text;
+use fare_answers::list_text;
 use fare_outside::Keeper;
 use std::alloc::Global;
 use std::thread::Threads;

@@ -5,9 +5,8 @@ ghost use Rattle.fares.specs.Steps.{Answers, IsEndOfQuoting};
 ghost use Rattle.fares.specs.StoreOutcome.{AnswersTrip};
 
 use crate::exit::Exit;
+use fare_answers::{best_text, quote_text};
 use fare_book::Book;
-use fare_counter::best_text;
-use fare_desk::quote_text;
 use fare_trip::Trip;
 use fare_units::Quoter;
 use std::alloc::Global;

@@ -1,8 +1,8 @@
 //! The ends of a run for what the crates below refuse.
 
 use crate::exit::Exit;
+use fare_answers::QuoteFault;
 use fare_book::{PublishFault, RestoreFault};
-use fare_desk::QuoteFault;
 use fare_outside::{KeepFault, NoMemory, ReadEnd};
 use fare_serve::ServeFault;
 

@@ -7,7 +7,7 @@ ghost use Rattle.fare_line.specs.Line.{is_flown};
 ghost use Rattle.fare_calc.specs.LineOf.{flown_from, flown_of, flown_sector};
 
 use crate::composing::forms::{carrier_has_form, city_has_form};
-use crate::composing::keep;
+use crate::keeping::keep;
 use arrayvec::ArrayVec;
 use fare_line::LineSector;
 use fare_trip::Trip;

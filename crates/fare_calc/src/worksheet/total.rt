@@ -1,33 +1,38 @@
 //! The lines of a total.
 
-ghost use Rattle.std.specs.Prelude.{◌≡◌, ◌++◌, ◌<◌, ◌≤◌, IfSome, OnOk, decimal};
-ghost use Rattle.std.specs.Option.{option_copied};
+ghost use Rattle.std.specs.Prelude.{◌≡◌, ◌++◌, ◌<◌, ◌≤◌, Some, OnOk, decimal};
 ghost use Rattle.fare_codes.specs.Numbers.{decimal_text};
 ghost use Rattle.fare_tariff.specs.Record.{IsCurrency};
+ghost use Rattle.fare_rules.specs.UnitPrice.{price};
+ghost use Rattle.fare_calc.specs.PartSheets.{home_currency};
 ghost use Rattle.fare_calc.specs.Worksheet.{currency_lines, local_text, total_lines};
 
-use fare_codes::{convert, rate_text};
+use crate::home::local_amount;
+use crate::sheets::Sheets;
+use fare_codes::rate_text;
 use fare_outside::NoMemory;
 use fare_tariff::CurRec;
 use fare_text::{push_code, push_decimal, push_hundredths, push_whole};
 
-/// Appends the lines of a total.
-pub(crate) fn push_total(
-    text: &mut Vec<u8>,
-    price: u64,
-    currency: Option<&CurRec>,
-) -> Result<(), NoMemory>
+/// Appends the lines of the total of a lawful construction.
+pub(crate) fn push_total(text: &mut Vec<u8>, sheets: &Sheets<'_>) -> Result<(), NoMemory>
+    ensures { OnOk result (text.new.items ≡ text.old.items
+        ++ total_lines (price sheets.now.edition sheets.now.trip sheets.now.parts)
+        (home_currency sheets.now.edition sheets.now.trip)) }
+{
+    push_price(text, sheets.price(), sheets.currency())
+}
+
+/// Appends the lines of a price in hundredths of a NUC, with what it is in a currency.
+fn push_price(text: &mut Vec<u8>, price: u64, currency: &CurRec) -> Result<(), NoMemory>
     requires price { price < 40_000_000_000 }
-    requires currency { IfSome currency (λ r. IsCurrency r.now.roe r.now.decimals r.now.unit) }
-    ensures { OnOk result (text.new.items ≡ text.old.items ++ total_lines price (option_copied currency.entry)) }
+    requires currency { IsCurrency currency.now.roe currency.now.decimals currency.now.unit }
+    ensures { OnOk result (text.new.items ≡ text.old.items ++ total_lines price (Some currency.now)) }
 {
     text.extend_from_slice(b"TOTAL NUC ")?;
     push_hundredths(text, price)?;
     text.push(b'\n')?;
-    match currency {
-        None => Ok(()),
-        Some(currency) => push_currency(text, price, currency),
-    }
+    push_currency(text, price, currency)
 }
 
 /// Appends the rate of exchange of a currency, and a price converted to it.
@@ -37,13 +42,7 @@ fn push_currency(text: &mut Vec<u8>, price: u64, currency: &CurRec) -> Result<()
     requires currency { IsCurrency currency.now.roe currency.now.decimals currency.now.unit }
     ensures { OnOk result (text.new.items ≡ text.old.items ++ currency_lines price currency.now) }
 {
-    let local = convert(
-        price,
-        currency.roe,
-        currency.decimals,
-        currency.unit,
-        currency.mode,
-    );
+    let local = local_amount(price, currency);
     text.extend_from_slice(b"ROE ")?;
     push_code(text, &rate_text(currency.roe))?;
     text.extend_from_slice(b"\nLOCAL ")?;

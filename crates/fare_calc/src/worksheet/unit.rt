@@ -1,25 +1,22 @@
 //! The line of a unit.
 
 ghost use Rattle.std.specs.Prelude.{◌≡◌, ◌++◌, ◌<◌, ◌^◌, IfSome, OnOk};
+ghost use Rattle.fare_calc.specs.UnitSheets.{FitsUnit};
 ghost use Rattle.fare_calc.specs.Worksheet.{check_text, unit_kind_text, unit_line};
 
+use crate::numbered_unit::NumberedUnit;
 use fare_outside::NoMemory;
 use fare_text::{push_hundredths, push_labelled};
-use fare_units::{UnitKind, UnitSheet};
+use fare_units::UnitKind;
 
 /// Appends the line of a unit.
 #[tactic(auto, unfolding(crate::specs::Worksheet::unit_line))]
-pub(crate) fn push_unit_line(
-    text: &mut Vec<u8>,
-    unit: u8,
-    sheet: &UnitSheet,
-) -> Result<(), NoMemory>
-    requires sum { sheet.now.sum < 10 ^ 13 }
-    requires minimum { IfSome sheet.now.minimum (λ minimum. minimum < 10 ^ 13) }
-    requires price { sheet.now.price < 10 ^ 13 }
-    ensures { OnOk result (text.new.items ≡ text.old.items ++ unit_line unit sheet.now) }
+pub(crate) fn push_unit(text: &mut Vec<u8>, unit: &NumberedUnit) -> Result<(), NoMemory>
+    requires { FitsUnit unit.now }
+    ensures { OnOk result (text.new.items ≡ text.old.items ++ unit_line unit.now) }
 {
-    push_labelled(text, b"UNIT ", u32::from(unit))?;
+    let sheet = &unit.sheet;
+    push_labelled(text, b"UNIT ", u32::from(unit.number))?;
     text.push(b' ')?;
     push_unit_kind(text, sheet.kind)?;
     text.extend_from_slice(b" SUM ")?;

@@ -1,0 +1,9 @@
+pub use Rattle.fare_trip.specs.Itinerary
+pub use Rattle.fare_tariff.specs.Tariff
+pub use Rattle.fare_rules.specs.FirstK
+pub use Rattle.fare_book.specs.Book
+pub mod EditionFor
+pub mod Quotation
+pub mod BestText
+pub mod List
+pub mod Answers

@@ -1,0 +1,25 @@
+//! What a book of published editions answers to a trip, and what it lists of itself, as texts. Each text is defined in
+//! `specs/`: the quotation of a trip (`Quotation`), its first lawful constructions (`BestText`), and the list of
+//! editions (`List`).
+//!
+//! - `quote_fault`, `selecting`: the edition in which a trip is answered (`EditionFor`), or why there is none;
+//! - `quoting`: the text of a quotation;
+//! - `entries`, `listing`: the entries of the first constructions, one for each, and the text with all of them;
+//! - `list`: the text that lists the editions.
+#![tactic(auto)]
+
+mod entries;
+mod list;
+mod listing;
+mod quote_fault;
+mod quoting;
+mod selecting;
+
+pub use list::list_text;
+pub use listing::best_text;
+pub use quote_fault::QuoteFault;
+pub use quoting::quote_text;
+pub use selecting::edition_for;
+
+#[cfg(test)]
+mod tests;
