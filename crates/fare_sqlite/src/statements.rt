@@ -10,7 +10,7 @@ ghost use Rattle.sqlite_value.specs.declared.value.Value.TheVariants.{Int, Blob}
 ghost use Rattle.sqlite_value.specs.Order.{column};
 ghost use Rattle.fare_sqlite.specs.Bodies.{has_no_body, rows_at};
 ghost use Rattle.fare_outside.specs.Keeper.{BodiesStay, BodyAppended, BodyReplaced, HasPlace, ToldAfter};
-ghost use Rattle.fare_outside.specs.Keeper.{WhereTold, body_at};
+ghost use Rattle.fare_outside.specs.Keeper.{body_at};
 ghost use Rattle.fare_sqlite.specs.Kept.{HasTable, IsSettled, LeavesAsBefore, LeavesJust, LeavesOr, Speaks, Stays};
 ghost use Rattle.fare_sqlite.specs.Kept.{kept, rows_of};
 ghost use Rattle.fare_sqlite.specs.Ours.{is_blank};
@@ -181,7 +181,7 @@ pub fn update<S: Alter>(
 pub fn create<S: Alter>(conn: &mut Connection<S>) -> Result<(), KeepFault>
     requires settled { IsTrue (state S.Store conn.old).is_open → IsSettled (state S.Store conn.old) }
     requires blank { is_blank (state S.Store conn.old).now.schema ≡ true }
-    ensures told { WhereTold (kept (state S.Store conn.old)) (kept (state S.Store conn.new)) BodiesStay }
+    ensures told { ToldAfter (kept (state S.Store conn.old)) (kept (state S.Store conn.new)) BodiesStay }
     ensures settled { IsTrue (state S.Store conn.new).is_open → IsSettled (state S.Store conn.new) }
     ensures speaks { Speaks (state S.Store conn.old) → Speaks (state S.Store conn.new) }
 {
