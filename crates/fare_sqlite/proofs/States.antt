@@ -115,7 +115,7 @@ alone_quiet true old new sql c params e Shows h = inl h.1
 alone_quiet false old new sql c params e Shows (inl h) = inl h.1
 alone_quiet false old new sql c params e Shows (inr h) = inr h.3
 
-not_run_quiet : (old new : State) (sql : List ℕ) (params : Row) (e : Error) → IsNotRun old new sql params e → IsQuiet old new
+pub not_run_quiet : (old new : State) (sql : List ℕ) (params : Row) (e : Error) → IsNotRun old new sql params e → IsQuiet old new
 unfolding IsNotRun
 not_run_quiet old new sql params e (inl h) = inl h.1
 not_run_quiet old new sql params e (inr h) = inr h.3

@@ -9,7 +9,7 @@ ghost use Rattle.fare_outside.specs.Keeper.{ToldAfter, WhereTold};
 ghost use Rattle.fare_sqlite.specs.Kept.{LeavesJust, LeavesOr, kept};
 
 use crate::count::counted;
-use crate::table;
+use crate::{statements, table};
 use fare_outside::{KeepFault, Keeper};
 use sqlite::{Alter, Connection};
 use std::alloc::Global;
@@ -54,6 +54,16 @@ impl<S: Alter> SqliteKeeper<S> {
             is_ready: false,
             faults: 0,
         }
+    }
+
+    /// Whether a failure of the disk has shut the connection. It then tells nothing any more.
+    pub fn is_shut(&mut self) -> bool
+        ensures told { ToldAfter (kept (state S.Store self.old.conn)) (kept (state S.Store self.new.conn)) BodiesStay }
+        ensures shut { IsTrue result → kept (state S.Store self.new.conn) ≡ None }
+        ensures ready { self.new.is_ready ≡ self.old.is_ready }
+        ensures faults { self.new.faults ≡ self.old.faults }
+    {
+        statements::is_shut(&mut self.conn)
     }
 
     /// The connection that it was over.

@@ -1,6 +1,6 @@
 //! The statements on the table, each a call of its own.
 
-ghost use Rattle.std.specs.Prelude.{◌≡◌, ◌<◌, ◌≤◌, ◌+◌, ◌-◌, pos, length, slice_set, ◌++◌, ◌∷◌, [], true, Some, IfOk};
+ghost use Rattle.std.specs.Prelude.{◌≡◌, ◌<◌, ◌≤◌, ◌+◌, ◌-◌, pos, length, slice_set, ◌++◌, ◌∷◌, [], true, None, Some, Err, IfOk};
 ghost use Rattle.std.specs.Prelude.{IfSome, IsTrue, OnOk, OnErr};
 ghost use Rattle.std.specs.List.{filter};
 ghost use Rattle.std.specs.Option.{ForSome};
@@ -17,7 +17,7 @@ ghost use Rattle.fare_sqlite.specs.Ours.{is_blank};
 
 use crate::count::fault_of;
 use fare_outside::KeepFault;
-use sqlite::{Alter, Connection, Row, params};
+use sqlite::{Alter, Connection, Error, ErrorCode, Row, params};
 
 const CREATE: &str =
     "CREATE TABLE IF NOT EXISTS edition(place INTEGER PRIMARY KEY, body BLOB NOT NULL)";
@@ -175,6 +175,25 @@ pub fn update<S: Alter>(
         Ok(changed) => Ok(changed),
         Err(error) => Err(fault_of(error)),
     }
+}
+
+/// Whether a failure of the disk has shut the connection.
+pub fn is_shut<S: Alter>(conn: &mut Connection<S>) -> bool
+    ensures told { ToldAfter (kept (state S.Store conn.old)) (kept (state S.Store conn.new)) BodiesStay }
+    ensures shut { IsTrue result → kept (state S.Store conn.new) ≡ None }
+    ensures speaks { Speaks (state S.Store conn.old) → Speaks (state S.Store conn.new) }
+{
+    if !conn.is_autocommit() {
+        return false;
+    }
+    let answer = conn.prepare(COUNT);
+    is_closed(&answer)
+}
+
+fn is_closed<T>(answer: &Result<T, Error>) -> bool
+    ensures { IsTrue result → answer.now ≡ Err (Error.SqliteFailure ErrorCode.Closed) }
+{
+    matches!(answer, Err(Error::SqliteFailure(ErrorCode::Closed)))
 }
 
 /// Makes the table in a database of nothing.
