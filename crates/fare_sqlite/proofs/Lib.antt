@@ -8,3 +8,6 @@ pub mod States
 pub mod Steps
 pub mod Crashes
 pub mod Clauses
+pub mod Shut
+pub mod FoundFiles
+pub mod Told

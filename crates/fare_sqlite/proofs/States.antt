@@ -115,7 +115,7 @@ alone_quiet true old new sql c params e Shows h = inl h.1
 alone_quiet false old new sql c params e Shows (inl h) = inl h.1
 alone_quiet false old new sql c params e Shows (inr h) = inr h.3
 
-not_run_quiet : (old new : State) (sql : List ℕ) (params : Row) (e : Error) → IsNotRun old new sql params e → IsQuiet old new
+pub not_run_quiet : (old new : State) (sql : List ℕ) (params : Row) (e : Error) → IsNotRun old new sql params e → IsQuiet old new
 unfolding IsNotRun
 not_run_quiet old new sql params e (inl h) = inl h.1
 not_run_quiet old new sql params e (inr h) = inr h.3
@@ -217,18 +217,17 @@ pub on_ok : {T E : Type 0} (answer : Result T E) {P : Type 0} → P → OnOk ans
 on_ok (Ok value) holds = holds
 on_ok (Err e) holds = tt
 
-pub told_same : (told : Told) → WhereTold told told BodiesStay
+pub told_same : (told : Told) → ToldAfter told told BodiesStay
 told_same None = tt
 told_same (Some bodies) = refl
 
 -- what is told only while a connection is open
-pub where_open : (before : Told) (s : State) → (IsTrue s.is_open → WhereTold before (kept s) BodiesStay) → WhereTold before (kept s) BodiesStay
-where_open before s told = up_to before (kept s) refl told
+pub told_open : (before : Told) (s : State) → (IsTrue s.is_open → ToldAfter before (kept s) BodiesStay) → ToldAfter before (kept s) BodiesStay
+told_open before s told = up_to (kept s) refl told
   where
-    up_to : (first after : Told) → kept s ≡ after → (IsTrue s.is_open → WhereTold first after BodiesStay) → WhereTold first after BodiesStay
-    up_to None after e told = tt
-    up_to (Some old) None e told = tt
-    up_to (Some old) (Some new) e told = told (tells s new e).is_open
+    up_to : (after : Told) → kept s ≡ after → (IsTrue s.is_open → ToldAfter before after BodiesStay) → ToldAfter before after BodiesStay
+    up_to None e told = tt
+    up_to (Some new) e told = told (tells s new e).is_open
 
 pub where_then : (first before after : Told) → WhereTold first before BodiesStay → ToldAfter before after BodiesStay → WhereTold first after BodiesStay
 where_then None before after made stay = tt

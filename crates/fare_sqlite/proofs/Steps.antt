@@ -25,7 +25,7 @@ use Rattle.sqlite.specs.State.{CommitsBy, Executes, MayCommit, QueriesRow, State
 use Rattle.sqlite.proofs.Callers.{IsPlain, command_of, first_as, runs_as, statement_of}
 use Rattle.fare_sqlite.specs.Bodies.{blob_of, bodies_in, body_of, has_no_body, placed_body, rows_at}
 use Rattle.fare_sqlite.specs.EditionTable.{blank_schema, edition_schema}
-use Rattle.fare_outside.specs.Keeper.{BodiesStay, HasPlace, ToldAfter, WhereTold}
+use Rattle.fare_outside.specs.Keeper.{BodiesStay, HasPlace, ToldAfter}
 use Rattle.fare_sqlite.specs.Kept.{HasBodies, HasTable, IsSettled, Speaks, bodies_of, kept, rows_of}
 use Rattle.fare_sqlite.specs.Ours.{is_blank, is_ours}
 use Rattle.fare_sqlite.proofs.Changes.{Puts, create_does, given, insert_does, stored, update_does}
@@ -33,7 +33,7 @@ use Rattle.fare_sqlite.proofs.Places.{appended, bodies_are, counted_out, replace
 use Rattle.fare_sqlite.proofs.Queries.{at_place, counts, no_body, passes, passes_at, passes_no_body, picks, row_query}
 use Rattle.fare_sqlite.proofs.Rows.{same_place}
 use Rattle.fare_sqlite.proofs.Schemas.{blank_is, edition_is_ours, ours_is}
-use Rattle.fare_sqlite.proofs.States.{Told, tells, tells_bodies}
+use Rattle.fare_sqlite.proofs.States.{Told, tells, tells_bodies, told, told_stays}
 use Rattle.fare_sqlite.proofs.StatementForms.{body_name, count_at_is, count_at_plain, count_at_text, count_is, count_name, count_plain, count_text, create_is, create_plain, create_text, insert_is, insert_plain, insert_text, inserted_terms, others_is, others_plain, others_text, select_is, select_plain, select_text, update_is, update_plain, update_text, updated_terms}
 
 -- a statement is understood alike under one schema
@@ -263,20 +263,13 @@ create_makes old new n settled blank h =
     }
 
 -- a blank database keeps nothing, and neither does one in which the table was just made
-pub made_told : (old new : State) → is_blank old.now.schema ≡ true → Made old new → WhereTold (kept old) (kept new) BodiesStay
-made_told old new blank made = both_told (kept old) (kept new) refl refl
-  where
-    both_told : (before after : Told) → kept old ≡ before → kept new ≡ after → WhereTold before after BodiesStay
-    both_told None after e k = tt
-    both_told (Some first) None e k = tt
-    both_told (Some first) (Some second) e k =
-        let was = tells old first e in
-        let now = tells new second k in
-        let empty : bodies_of old.now ≡ Some [] = rw blank refl in
-        let keeps = tells_bodies new now.is_open (has_bodies new [] made.settled made.holds) in
-        let none : first ≡ [] = cc in
-        let still : second ≡ [] = cc in
-        still ∙ sym none
+pub made_told : (old new : State) → (IsTrue old.is_open → IsSettled old) → is_blank old.now.schema ≡ true → Made old new → ToldAfter (kept old) (kept new) BodiesStay
+made_told old new settled blank made = told_stays (kept old) (kept new) (λ bodies k.
+    let now = tells new bodies k in
+    let keeps = tells_bodies new now.is_open (has_bodies new [] made.settled made.holds) in
+    let none : bodies ≡ [] = cc in
+    let empty : bodies_of old.now ≡ Some [] = rw blank refl in
+    told old bodies (record { is_open = made.was_open; outside = (settled made.was_open).outside; are = empty ∙ ap (λ (b : List (List ℕ)). Some b) (sym none) }))
 
 -- a database that is blank holds no table of editions
 pub not_blank : (s : State) → is_blank s.now.schema ≡ true → HasTable s → ⊥

@@ -3,4 +3,5 @@ pub mod Bodies
 pub mod Ours
 pub mod Kept
 pub mod State
-pub mod FileState
+pub mod Found
+pub mod Named

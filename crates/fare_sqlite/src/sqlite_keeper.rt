@@ -1,14 +1,15 @@
-ghost use Rattle.std.specs.Prelude.{◌≡◌, ◌≤◌, ◌-◌, ◌++◌, ◌∷◌, [], false, slice_set, OnOk, IsErrOf, IsTrue, None};
+ghost use Rattle.std.specs.Prelude.{◌≡◌, ◌≤◌, ◌-◌, ◌||◌, ◌++◌, ◌∷◌, [], false, is_ok, slice_set, OnOk, IsErrOf};
+ghost use Rattle.std.specs.Prelude.{IsTrue, None};
 ghost use Rattle.std.specs.Option.{ForSome};
 ghost use Rattle.sqlite.specs.Held.{state};
 ghost use Rattle.sqlite.specs.State.{HasCleanDisk};
 ghost use Rattle.fare_outside.specs.Cause.{Rose};
 ghost use Rattle.fare_outside.specs.Keeper.{BodiesStay, BodyAppended, BodyReplaced, HasPlace, MayAppend, MayReplace};
-ghost use Rattle.fare_outside.specs.Keeper.{ToldAfter};
+ghost use Rattle.fare_outside.specs.Keeper.{ToldAfter, WhereTold};
 ghost use Rattle.fare_sqlite.specs.Kept.{LeavesJust, LeavesOr, kept};
 
 use crate::count::counted;
-use crate::table;
+use crate::{statements, table};
 use fare_outside::{KeepFault, Keeper};
 use sqlite::{Alter, Connection};
 use std::alloc::Global;
@@ -55,6 +56,16 @@ impl<S: Alter> SqliteKeeper<S> {
         }
     }
 
+    /// Whether a failure of the disk has shut the connection. It then tells nothing any more.
+    pub fn is_shut(&mut self) -> bool
+        ensures told { ToldAfter (kept (state S.Store self.old.conn)) (kept (state S.Store self.new.conn)) BodiesStay }
+        ensures shut { IsTrue result → kept (state S.Store self.new.conn) ≡ None }
+        ensures ready { self.new.is_ready ≡ self.old.is_ready }
+        ensures faults { self.new.faults ≡ self.old.faults }
+    {
+        statements::is_shut(&mut self.conn)
+    }
+
     /// The connection that it was over.
     pub fn into_connection(self) -> Connection<S>
         ensures { result ≡ self.conn }
@@ -72,8 +83,15 @@ impl<S: Alter> Keeper for SqliteKeeper<S> {
 
     /// Makes the table where the database is blank. It fails where the database holds anything but
     /// that table, or where the table isn't a body at each place from 1 to their count. The name
-    /// isn't looked at.
-    fn open(&mut self, _alloc: Global, _name: &str) -> Result<(), KeepFault> {
+    /// isn't looked at. What it tells then was told before.
+    fn open(&mut self, _alloc: Global, _name: &str) -> Result<(), KeepFault>
+        ensures told { ToldAfter (kept (state S.Store self.old.conn)) (kept (state S.Store self.new.conn)) BodiesStay }
+        ensures bodies { WhereTold (kept (state S.Store self.old.conn)) (kept (state S.Store self.new.conn))
+            BodiesStay }
+        ensures ready { self.new.is_ready ≡ (self.old.is_ready || is_ok result) }
+        ensures never_falls { self.old.faults ≤ self.new.faults }
+        ensures cause { IsErrOf result KeepFault.Failed → Rose self.old.faults self.new.faults }
+    {
         let answer = table::adopt(&mut self.conn);
         counted(&mut self.faults, answer)?;
         self.is_ready = true;

@@ -1,6 +1,6 @@
 //! The statements on the table, each a call of its own.
 
-ghost use Rattle.std.specs.Prelude.{◌≡◌, ◌<◌, ◌≤◌, ◌+◌, ◌-◌, pos, length, slice_set, ◌++◌, ◌∷◌, [], true, Some, IfOk};
+ghost use Rattle.std.specs.Prelude.{◌≡◌, ◌<◌, ◌≤◌, ◌+◌, ◌-◌, pos, length, slice_set, ◌++◌, ◌∷◌, [], true, None, Some, Err, IfOk};
 ghost use Rattle.std.specs.Prelude.{IfSome, IsTrue, OnOk, OnErr};
 ghost use Rattle.std.specs.List.{filter};
 ghost use Rattle.std.specs.Option.{ForSome};
@@ -10,14 +10,14 @@ ghost use Rattle.sqlite_value.specs.declared.value.Value.TheVariants.{Int, Blob}
 ghost use Rattle.sqlite_value.specs.Order.{column};
 ghost use Rattle.fare_sqlite.specs.Bodies.{has_no_body, rows_at};
 ghost use Rattle.fare_outside.specs.Keeper.{BodiesStay, BodyAppended, BodyReplaced, HasPlace, ToldAfter};
-ghost use Rattle.fare_outside.specs.Keeper.{WhereTold, body_at};
+ghost use Rattle.fare_outside.specs.Keeper.{body_at};
 ghost use Rattle.fare_sqlite.specs.Kept.{HasTable, IsSettled, LeavesAsBefore, LeavesJust, LeavesOr, Speaks, Stays};
 ghost use Rattle.fare_sqlite.specs.Kept.{kept, rows_of};
 ghost use Rattle.fare_sqlite.specs.Ours.{is_blank};
 
 use crate::count::fault_of;
 use fare_outside::KeepFault;
-use sqlite::{Alter, Connection, Row, params};
+use sqlite::{Alter, Connection, Error, ErrorCode, Row, params};
 
 const CREATE: &str =
     "CREATE TABLE IF NOT EXISTS edition(place INTEGER PRIMARY KEY, body BLOB NOT NULL)";
@@ -177,11 +177,30 @@ pub fn update<S: Alter>(
     }
 }
 
+/// Whether a failure of the disk has shut the connection.
+pub fn is_shut<S: Alter>(conn: &mut Connection<S>) -> bool
+    ensures told { ToldAfter (kept (state S.Store conn.old)) (kept (state S.Store conn.new)) BodiesStay }
+    ensures shut { IsTrue result → kept (state S.Store conn.new) ≡ None }
+    ensures speaks { Speaks (state S.Store conn.old) → Speaks (state S.Store conn.new) }
+{
+    if !conn.is_autocommit() {
+        return false;
+    }
+    let answer = conn.prepare(COUNT);
+    is_closed(&answer)
+}
+
+fn is_closed<T>(answer: &Result<T, Error>) -> bool
+    ensures { IsTrue result → answer.now ≡ Err (Error.SqliteFailure ErrorCode.Closed) }
+{
+    matches!(answer, Err(Error::SqliteFailure(ErrorCode::Closed)))
+}
+
 /// Makes the table in a database of nothing.
 pub fn create<S: Alter>(conn: &mut Connection<S>) -> Result<(), KeepFault>
     requires settled { IsTrue (state S.Store conn.old).is_open → IsSettled (state S.Store conn.old) }
     requires blank { is_blank (state S.Store conn.old).now.schema ≡ true }
-    ensures told { WhereTold (kept (state S.Store conn.old)) (kept (state S.Store conn.new)) BodiesStay }
+    ensures told { ToldAfter (kept (state S.Store conn.old)) (kept (state S.Store conn.new)) BodiesStay }
     ensures settled { IsTrue (state S.Store conn.new).is_open → IsSettled (state S.Store conn.new) }
     ensures speaks { Speaks (state S.Store conn.old) → Speaks (state S.Store conn.new) }
 {

@@ -7,7 +7,7 @@ ghost use Rattle.sqlite.specs.Held.{state};
 ghost use Rattle.sqlite.specs.State.{HasCleanDisk};
 ghost use Rattle.fare_sqlite.specs.Bodies.{rows_at};
 ghost use Rattle.fare_outside.specs.Keeper.{BodiesStay, BodyAppended, BodyReplaced, HasPlace, MayAppend, MayReplace};
-ghost use Rattle.fare_outside.specs.Keeper.{ToldAfter, WhereTold, body_at};
+ghost use Rattle.fare_outside.specs.Keeper.{ToldAfter, body_at};
 ghost use Rattle.fare_sqlite.specs.Kept.{HasTable, IsSettled, LeavesJust, LeavesOr, Speaks, Stays, kept, rows_of};
 
 use crate::form::{holds_editions_alone, is_blank};
@@ -19,7 +19,7 @@ use sqlite::{Alter, Connection};
 /// it a blob, at each place from 1 to their number. A database that holds anything else fails, and is left
 /// as it was.
 pub fn adopt<S: Alter>(conn: &mut Connection<S>) -> Result<(), KeepFault>
-    ensures told { WhereTold (kept (state S.Store conn.old)) (kept (state S.Store conn.new)) BodiesStay }
+    ensures told { ToldAfter (kept (state S.Store conn.old)) (kept (state S.Store conn.new)) BodiesStay }
     ensures speaks { OnOk result (Speaks (state S.Store conn.new)) }
     ensures still { Speaks (state S.Store conn.old) → Speaks (state S.Store conn.new) }
 {
@@ -36,7 +36,7 @@ pub fn adopt<S: Alter>(conn: &mut Connection<S>) -> Result<(), KeepFault>
 /// Makes the table where there is nothing yet.
 fn create_if_blank<S: Alter>(conn: &mut Connection<S>) -> Result<(), KeepFault>
     requires { IsTrue (state S.Store conn.old).is_open → IsSettled (state S.Store conn.old) }
-    ensures told { WhereTold (kept (state S.Store conn.old)) (kept (state S.Store conn.new)) BodiesStay }
+    ensures told { ToldAfter (kept (state S.Store conn.old)) (kept (state S.Store conn.new)) BodiesStay }
     ensures settled { IsTrue (state S.Store conn.new).is_open → IsSettled (state S.Store conn.new) }
     ensures speaks { Speaks (state S.Store conn.old) → Speaks (state S.Store conn.new) }
 {

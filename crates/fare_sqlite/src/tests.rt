@@ -3,12 +3,16 @@ ghost use Rattle.std.specs.Prelude.{IsTrue};
 use crate::*;
 use fare_outside::{KeepFault, Keeper};
 use sqlite::{Connection, Error, MemStore};
+use sqlite_disk::Wary;
 use std::alloc::Global;
 use std::fs;
 use std::test::Fail;
 
 /// The folder in which the tests on files lie.
 const FOLDER: &str = "fare_sqlite_test";
+
+/// The folder in which a keeper is opened by two names.
+const NAMES: &str = "fare_sqlite_names";
 
 /// A connection to a database in memory, after these statements.
 fn database(alloc: Global, sql: &str) -> Result<Connection<MemStore>, Error> {
@@ -25,7 +29,7 @@ fn opening(alloc: Global, sql: &str) -> Result<Result<(), KeepFault>, Fail> {
 
 /// Opens the store, adds a body, and answers how many there are then.
 fn publish(
-    store: &mut FileKeeper,
+    store: &mut FileKeeper<Wary>,
     alloc: Global,
     name: &str,
     body: &[u8],
@@ -73,7 +77,7 @@ fn put_at<P: Keeper>(
 
 /// Opens the store, and answers whether its first body is that one.
 fn is_first(
-    store: &mut FileKeeper,
+    store: &mut FileKeeper<Wary>,
     alloc: Global,
     name: &str,
     body: &[u8],
@@ -135,12 +139,12 @@ fn a_file_keeps_bodies_for_one_keeper_at_a_time(rt: HostRuntime) -> Result<(), F
     let alloc = rt.alloc();
     let _ = fs::remove_dir_all(&rt, FOLDER);
     let name = "fare_sqlite_test/editions";
-    let mut first = FileKeeper::new(&rt);
+    let mut first = FileKeeper::<Wary>::new(&rt);
     let in_no_folder = publish(&mut first, alloc, name, b"one");
     assert_eq!(rt; in_no_folder, Err(KeepFault::Failed));
     fs::create_dir(&rt, FOLDER)?;
     assert_eq!(rt; publish(&mut first, alloc, name, b"one")?, 1);
-    let mut second = FileKeeper::new(&rt);
+    let mut second = FileKeeper::<Wary>::new(&rt);
     let beside_the_first = publish(&mut second, alloc, name, b"two");
     assert_eq!(rt; beside_the_first, Err(KeepFault::Failed));
     drop(first);
@@ -148,5 +152,29 @@ fn a_file_keeps_bodies_for_one_keeper_at_a_time(rt: HostRuntime) -> Result<(), F
     assert!(rt; is_first(&mut second, alloc, name, b"one")?);
     drop(second);
     fs::remove_dir_all(&rt, FOLDER)?;
+    Ok(())
+}
+
+#[test]
+fn a_file_that_is_open_is_opened_by_no_other_name(rt: HostRuntime) -> Result<(), Fail> {
+    let alloc = rt.alloc();
+    let _ = fs::remove_dir_all(&rt, NAMES);
+    fs::create_dir(&rt, NAMES)?;
+    let mut store = FileKeeper::<Wary>::new(&rt);
+    assert_eq!(rt;
+        publish(&mut store, alloc, "fare_sqlite_names/one", b"one")?,
+        1
+    );
+    assert_eq!(rt;
+        publish(&mut store, alloc, "fare_sqlite_names/other", b"two")?,
+        2
+    );
+    assert!(rt; fs::metadata(&rt, "fare_sqlite_names/other").is_err());
+    drop(store);
+    let mut again = FileKeeper::<Wary>::new(&rt);
+    assert!(rt; is_first(&mut again, alloc, "fare_sqlite_names/one", b"one")?);
+    assert_eq!(rt; again.len(alloc)?, 2);
+    drop(again);
+    fs::remove_dir_all(&rt, NAMES)?;
     Ok(())
 }

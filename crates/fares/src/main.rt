@@ -38,7 +38,7 @@ use crate::fault_line::fault_text;
 use crate::run::run;
 use fare_devices::{StdSink, StdSource, TcpDoor};
 use fare_outside::{NoMemory, OpenGate};
-use fare_sqlite::FileKeeper;
+use fare_sqlite::{FileKeeper, Wary};
 use std::io::{ErrorKind, Write};
 use std::process::ExitCode;
 use std::{env, io};
@@ -47,7 +47,7 @@ fn main(rt: HostRuntime) -> ExitCode {
     let alloc = rt.alloc();
     let mut source = StdSource::new(&rt);
     let mut sink = StdSink::new(&rt);
-    let mut store = FileKeeper::new(&rt);
+    let mut store = FileKeeper::<Wary>::new(&rt);
     let mut door = TcpDoor::new(&rt);
     let exit = match words_after_the_first(&rt) {
         Ok(words) => run(
