@@ -3,25 +3,21 @@ ghost use Rattle.fare_outside.specs.Cause.{Rose};
 ghost use Rattle.fare_devices.specs.OpenDoor.{places_of, place_of};
 
 use crate::TcpLimits;
+use crate::tcp_arrivals::TcpArrivals;
 use crate::tcp_peer::TcpPeer;
 use arrayvec::ArrayVec;
 use fare_outside::{Door, Failed, MOST_HELD, raised};
-use std::io;
-use std::io::ErrorKind;
 use std::marker::Model;
-use std::net::{Ipv4Addr, TcpListener, TcpStream};
-
-/// How often an accept is tried again that failed for the peer's sake.
-const MOST_TRIES: usize = 1_000;
 
 /// A door over a port of this machine's own address, 127.0.0.1. It tells nothing of what is sent,
 /// and counts each call that fails.
+///
+/// Connections are read side by side until a request is whole, so a peer that is silent or slow stands before no other.
 #[derive(Drop)]
 pub struct TcpDoor {
     runtime: HostRuntime,
     limits: TcpLimits,
-    listener: Option<TcpListener>,
-    next: Option<TcpStream>,
+    arrivals: TcpArrivals,
     current: Option<TcpPeer>,
     held: ArrayVec<TcpPeer, MOST_HELD>,
     faults: u64,
@@ -58,31 +54,12 @@ impl TcpDoor {
         TcpDoor {
             runtime: *rt,
             limits,
-            listener: None,
-            next: None,
+            arrivals: TcpArrivals::new(),
             current: None,
             held: ArrayVec::new(),
             faults: 0,
             cuts: 0,
         }
-    }
-}
-
-impl TcpDoor {
-    /// The connection that was found already, or the one that comes next; none where none can be
-    /// accepted.
-    fn accept(&mut self) -> Option<TcpStream>
-        ensures { self.new ≡ self.old }
-    {
-        match self.next.take() {
-            Some(stream) => Some(stream),
-            None => accept_waiting(self.listener.as_ref()?).ok(),
-        }
-    }
-
-    /// A connection that waits already.
-    fn find(&self) -> Option<TcpStream> {
-        accept_now(self.listener.as_ref()?).ok()
     }
 }
 
@@ -102,11 +79,8 @@ impl Door for TcpDoor {
     ghost cuts = { λ door. door.cuts };
 
     fn listen(&mut self, port: u16) -> Result<(), Failed> {
-        match TcpListener::bind(&self.runtime, (Ipv4Addr::LOCALHOST, port)) {
-            Ok(listener) => {
-                self.listener = Some(listener);
-                Ok(())
-            }
+        match self.arrivals.listen(&self.runtime, port) {
+            Ok(()) => Ok(()),
             Err(_) => {
                 self.faults = raised(self.faults);
                 Err(Failed)
@@ -114,15 +88,16 @@ impl Door for TcpDoor {
         }
     }
 
-    /// Waits for a connection as long as it takes, so it never answers that none will come.
+    /// Waits for a connection as long as it takes, so it never answers that none will come. The one that it takes has
+    /// sent a whole request, or its end, or is late.
     fn next(&mut self) -> Result<bool, Failed> {
         self.close();
-        match self.accept() {
-            Some(stream) => {
-                self.current = Some(TcpPeer::new(stream));
+        match self.arrivals.next(&self.runtime, &self.limits) {
+            Ok(arrived) => {
+                self.current = Some(arrived);
                 Ok(true)
             }
-            None => {
+            Err(_) => {
                 self.faults = raised(self.faults);
                 Err(Failed)
             }
@@ -161,12 +136,9 @@ impl Door for TcpDoor {
         }
     }
 
-    /// Asks without waiting. The connection that it finds is the next.
+    /// Asks without waiting. Where it finds a connection, `next` needn't wait.
     fn more(&mut self) -> bool {
-        if self.next.is_none() {
-            self.next = self.find();
-        }
-        self.next.is_some()
+        self.arrivals.more(&self.runtime, &self.limits)
     }
 
     fn hold(&mut self) -> bool {
@@ -191,33 +163,7 @@ impl Door for TcpDoor {
     }
 }
 
-/// Waits for the next connection.
-fn accept_waiting(listener: &TcpListener) -> io::Result<TcpStream> {
-    listener.set_nonblocking(false)?;
-    for _ in 0..MOST_TRIES {
-        match listener.accept() {
-            Ok((stream, _)) => return Ok(stream),
-            Err(error) if is_of_the_peer(error.kind()) => {}
-            Err(error) => return Err(error),
-        }
-    }
-    Err(io::Error::from(ErrorKind::ConnectionAborted))
-}
-
-/// Takes a connection that waits already.
-fn accept_now(listener: &TcpListener) -> io::Result<TcpStream> {
-    listener.set_nonblocking(true)?;
-    let (stream, _) = listener.accept()?;
-    Ok(stream)
-}
-
-/// A peer gave up, or a signal broke the call off: the next connection may well be accepted.
-fn is_of_the_peer(kind: ErrorKind) -> bool {
-    matches!(
-        kind,
-        ErrorKind::ConnectionAborted | ErrorKind::ConnectionReset | ErrorKind::Interrupted
-    )
-}
-
+#[cfg(test)]
+mod http_tests;
 #[cfg(test)]
 mod tests;

@@ -1,9 +1,12 @@
 ghost use Rattle.std.specs.Prelude.{◌≤◌, ◌<◌, length, IfOk, IfSome};
 
 use crate::TcpLimits;
+use crate::tcp_ahead::TcpAhead;
+use std::alloc::Global;
 use std::io;
 use std::io::{ErrorKind, Read, Write};
 use std::net::{Shutdown, TcpStream};
+use std::os::fd::{AsRawFd, RawFd};
 use std::time::{Duration, Instant};
 
 /// How often a call is tried again that a signal broke off.
@@ -15,29 +18,108 @@ const MOST_PIECES: usize = 256;
 /// The size of such a piece in bytes.
 const PIECE: usize = 4_096;
 
+/// The size in bytes of a piece that is read ahead.
+const PIECE_AHEAD: usize = 16_384;
+
 /// The other end of a connection, which is gone once it was cut off.
 #[derive(Drop)]
 pub struct TcpPeer {
-    stream: Option<TcpStream>,
+    line: Option<Line>,
+    /// For how long it has kept the door waiting.
     waited: Duration,
+    /// For how long of it nothing came, while it is read ahead.
+    silent: Duration,
+}
+
+/// A connection that stands, and what was read ahead of it.
+#[derive(Drop)]
+struct Line {
+    stream: TcpStream,
+    ahead: TcpAhead,
 }
 
 impl Default for TcpPeer {
     /// One that is gone.
     fn default() -> TcpPeer {
         TcpPeer {
-            stream: None,
+            line: None,
             waited: Duration::ZERO,
+            silent: Duration::ZERO,
         }
     }
 }
 
 impl TcpPeer {
-    /// A peer that hasn't kept the door waiting yet.
-    pub fn new(stream: TcpStream) -> TcpPeer {
-        TcpPeer {
-            stream: Some(stream),
-            waited: Duration::ZERO,
+    /// A peer that hasn't kept the door waiting yet, and is read ahead without waiting.
+    pub fn new(alloc: Global, stream: TcpStream) -> TcpPeer {
+        let mut peer = TcpPeer::default();
+        if stream.set_nonblocking(true).is_ok() {
+            let ahead = TcpAhead::new(alloc);
+            peer.line = Some(Line { stream, ahead });
+        }
+        peer
+    }
+
+    /// The system's number of its socket, or -1 where it is gone.
+    pub fn socket(&self) -> RawFd {
+        match &self.line {
+            Some(line) => line.stream.as_raw_fd(),
+            None => -1,
+        }
+    }
+
+    /// How many bytes are kept that were read ahead.
+    pub fn kept(&self) -> usize {
+        match &self.line {
+            Some(line) => line.ahead.len(),
+            None => 0,
+        }
+    }
+
+    /// How much longer it may be silent.
+    pub fn patience(&self, limits: &TcpLimits) -> Duration {
+        let silence = limits.silence.saturating_sub(self.silent);
+        silence.min(limits.exchange.saturating_sub(self.waited))
+    }
+
+    /// Whether the door needn't wait for it any longer: enough came, or it is late, or gone.
+    pub fn is_ready(&self, limits: &TcpLimits) -> bool {
+        match &self.line {
+            Some(line) => line.ahead.is_enough() || self.patience(limits).is_zero(),
+            None => true,
+        }
+    }
+
+    /// It has kept the door waiting for so long, and nothing came.
+    pub fn wait(&mut self, time: Duration) {
+        self.waited = self.waited.saturating_add(time);
+        self.silent = self.silent.saturating_add(time);
+    }
+
+    /// Reads on without waiting, unless enough came. What comes beyond so many bytes of room is the last that is read
+    /// ahead.
+    pub fn read_ahead(&mut self, room: usize) {
+        let Some(line) = &mut self.line else {
+            return;
+        };
+        if line.ahead.is_enough() {
+            return;
+        }
+        match line.read_ahead(room) {
+            Ok(()) => self.silent = Duration::ZERO,
+            Err(error) if is_not_yet(error.kind()) => {}
+            Err(_) => self.line = None,
+        }
+    }
+
+    /// The door turns to it, so that its reads and writes wait from now on. One of which not enough came is cut off.
+    pub fn begin(&mut self) {
+        let stands = match &self.line {
+            Some(line) => line.ahead.is_enough() && line.stream.set_nonblocking(false).is_ok(),
+            None => false,
+        };
+        if !stands {
+            self.line = None;
         }
     }
 
@@ -52,7 +134,7 @@ impl TcpPeer {
                 Err(_) => break,
             }
         }
-        self.stream = None;
+        self.line = None;
         None
     }
 
@@ -71,21 +153,26 @@ impl TcpPeer {
                 Ok(_) | Err(_) => break,
             }
         }
-        self.stream = None;
+        self.line = None;
         None
     }
 
     /// Ends the connection so that the peer gets all that was sent: bytes of the peer that nobody
     /// reads would make the system break it off.
     pub fn end(self, rt: &HostRuntime, limits: &TcpLimits) {
-        let TcpPeer { stream, waited: _ } = self;
-        if let Some(stream) = stream {
-            let _ = read_away(rt, limits.end, &stream);
+        let TcpPeer {
+            line,
+            waited: _,
+            silent: _,
+        } = self;
+        if let Some(line) = line {
+            let _ = read_away(rt, limits.end, &line.stream);
         }
     }
 }
 
 impl TcpPeer {
+    /// What was read ahead comes first.
     fn read_once(
         &mut self,
         rt: &HostRuntime,
@@ -94,12 +181,17 @@ impl TcpPeer {
     ) -> io::Result<usize>
         ensures { IfOk result (λ count. count ≤ length buf.new) }
     {
-        let Some(stream) = &mut self.stream else {
+        let Some(line) = &mut self.line else {
             return Err(io::Error::from(ErrorKind::NotConnected));
         };
-        stream.set_read_timeout(Some(allowed(limits, self.waited)))?;
+        let given = line.ahead.give(buf);
+        if given > 0 {
+            return Ok(given);
+        }
+        line.stream
+            .set_read_timeout(Some(allowed(limits, self.waited)))?;
         let begun = Instant::now(rt)?;
-        let count = stream.read(buf);
+        let count = line.stream.read(buf);
         self.waited = self.waited.saturating_add(begun.elapsed(rt)?);
         count
     }
@@ -107,15 +199,39 @@ impl TcpPeer {
     fn write_once(&mut self, rt: &HostRuntime, limits: &TcpLimits, buf: &[u8]) -> io::Result<usize>
         ensures { IfOk result (λ count. count ≤ length buf.now) }
     {
-        let Some(stream) = &mut self.stream else {
+        let Some(line) = &mut self.line else {
             return Err(io::Error::from(ErrorKind::NotConnected));
         };
-        stream.set_write_timeout(Some(allowed(limits, self.waited)))?;
+        line.stream
+            .set_write_timeout(Some(allowed(limits, self.waited)))?;
         let begun = Instant::now(rt)?;
-        let count = stream.write(buf);
+        let count = line.stream.write(buf);
         self.waited = self.waited.saturating_add(begun.elapsed(rt)?);
         count
     }
+}
+
+impl Line {
+    /// Keeps what came, at most a piece. At the peer's end, and where memory is wanting or the room is used up, nothing
+    /// more is read ahead.
+    fn read_ahead(&mut self, room: usize) -> io::Result<()> {
+        if self.ahead.reserve(PIECE_AHEAD).is_err() {
+            self.ahead.stop();
+            return Ok(());
+        }
+        let mut piece = [0; PIECE_AHEAD];
+        let count = self.stream.read(&mut piece)?;
+        self.ahead.keep(&piece[..count])?;
+        if count == 0 || room < count {
+            self.ahead.stop();
+        }
+        Ok(())
+    }
+}
+
+/// Nothing came yet, or a signal broke the call off.
+fn is_not_yet(kind: ErrorKind) -> bool {
+    matches!(kind, ErrorKind::WouldBlock | ErrorKind::Interrupted)
 }
 
 /// How long a call may wait after so long a wait: not at all, which the system refuses, where the

@@ -1,22 +1,30 @@
 use super::*;
 use std::io::{Read, Write};
-use std::net::Shutdown;
+use std::net::{Ipv4Addr, Shutdown, SocketAddr, TcpStream};
 use std::test::Fail;
 use std::thread;
-use std::time::Duration;
+use std::time::{Duration, Instant};
 
-/// A door on a free port, and the port.
-fn listening(rt: &HostRuntime, limits: TcpLimits) -> Result<(TcpDoor, u16), Fail> {
+/// A door on a free port, and where it listens.
+fn open(rt: &HostRuntime, limits: TcpLimits) -> Result<(TcpDoor, SocketAddr), Fail> {
     let mut door = TcpDoor::with_limits(rt, limits);
     door.listen(0)?;
-    let port = match &door.listener {
-        Some(listener) => listener.local_addr()?.port(),
-        None => 0,
-    };
-    Ok((door, port))
+    match door.arrivals.listener() {
+        Some(listener) => {
+            let address = listener.local_addr()?;
+            Ok((door, address))
+        }
+        None => Err(Fail::new("no listener")),
+    }
 }
 
-fn dialed(rt: &HostRuntime, port: u16) -> Result<TcpStream, Fail> {
+/// A door on a free port, and the port.
+pub fn listening(rt: &HostRuntime, limits: TcpLimits) -> Result<(TcpDoor, u16), Fail> {
+    let (door, address) = open(rt, limits)?;
+    Ok((door, address.port()))
+}
+
+pub fn dialed(rt: &HostRuntime, port: u16) -> Result<TcpStream, Fail> {
     Ok(TcpStream::connect(rt, (Ipv4Addr::LOCALHOST, port))?)
 }
 
@@ -35,11 +43,16 @@ fn gets(peer: &mut TcpStream, bytes: &[u8]) -> Result<bool, Fail> {
     Ok(&buf[..count] == bytes && peer.read(&mut [0; 1])? == 0)
 }
 
+/// Whether the current connection brings just these bytes next.
+fn begins(door: &mut TcpDoor, bytes: &[u8]) -> Result<bool, Fail> {
+    let mut buf = [0; 32];
+    let count = door.read(&mut buf)?;
+    Ok(&buf[..count] == bytes)
+}
+
 /// Whether the current connection brings just these bytes, and then the end.
 fn brings(door: &mut TcpDoor, bytes: &[u8]) -> Result<bool, Fail> {
-    let mut buf = [0; 16];
-    let count = door.read(&mut buf)?;
-    Ok(&buf[..count] == bytes && door.read(&mut [0; 1])? == 0)
+    Ok(begins(door, bytes)? && door.read(&mut [0; 1])? == 0)
 }
 
 /// Whether a connection is found within a second: the system may need a moment to tell of it.
@@ -60,7 +73,7 @@ fn taken_and_held(door: &mut TcpDoor) -> bool {
     }
 }
 
-fn taken(door: &mut TcpDoor) -> bool {
+pub fn taken(door: &mut TcpDoor) -> bool {
     door.next() == Ok(true)
 }
 
@@ -114,11 +127,39 @@ fn a_silent_peer_is_cut_off(rt: HostRuntime) -> Result<(), Fail> {
 }
 
 #[test]
+fn a_silent_peer_stands_before_no_other(rt: HostRuntime) -> Result<(), Fail> {
+    let (mut door, port) = listening(&rt, TcpLimits::default())?;
+    let _silent = dialed(&rt, port)?;
+    let mut slow = dialed(&rt, port)?;
+    slow.write_all(b"GET /editions HTTP/1.1\r\n")?;
+    let _ready = asking(&rt, port, b"ready")?;
+    let begun = Instant::now(&rt)?;
+    assert!(rt; taken(&mut door));
+    assert!(rt; begun.elapsed(&rt)? < Duration::from_secs(5));
+    assert!(rt; brings(&mut door, b"ready")?);
+    assert!(rt; !door.more());
+    slow.write_all(b"\r\n")?;
+    assert!(rt; finds(&rt, &mut door));
+    assert!(rt; taken(&mut door));
+    assert!(rt; begins(&mut door, b"GET /editions HTTP/1.1\r\n\r\n")?);
+    Ok(())
+}
+
+#[test]
+fn the_door_listens_at_loopback_alone(rt: HostRuntime) -> Result<(), Fail> {
+    let (_door, address) = open(&rt, TcpLimits::default())?;
+    assert!(rt; address.ip().is_loopback());
+    Ok(())
+}
+
+#[test]
 fn a_peer_that_resets_is_cut_off_alone(rt: HostRuntime) -> Result<(), Fail> {
     let (mut door, port) = listening(&rt, TcpLimits::default())?;
-    let peer = dialed(&rt, port)?;
+    let mut peer = dialed(&rt, port)?;
+    peer.write_all(b"GET / HTTP/1.1\r\n\r\n")?;
     assert!(rt; taken(&mut door));
     assert_eq!(rt; door.write(b"unread"), Ok(6));
+    assert!(rt; begins(&mut door, b"GET / HTTP/1.1\r\n\r\n")?);
     // A connection that ends with bytes unread is reset.
     drop(peer);
     assert!(rt; is_cut(&mut door));
@@ -132,7 +173,9 @@ fn a_peer_that_resets_is_cut_off_alone(rt: HostRuntime) -> Result<(), Fail> {
 #[test]
 fn unread_bytes_do_not_lose_the_answer(rt: HostRuntime) -> Result<(), Fail> {
     let (mut door, port) = listening(&rt, TcpLimits::default())?;
-    let mut peer = asking(&rt, port, b"never read")?;
+    // More than is read ahead, since no request begins so.
+    let bytes = Vec::from_elem(rt.alloc(), b'?', 50_000)?;
+    let mut peer = asking(&rt, port, &bytes)?;
     assert!(rt; taken(&mut door));
     assert_eq!(rt; door.write(b"refused"), Ok(7));
     door.close();
