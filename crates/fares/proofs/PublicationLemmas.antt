@@ -25,7 +25,7 @@ published_nothing ended.DoorFault refusal = refusal
 published_nothing exit refusal = tt
 
 -- the answer to an edition that is offered to an opened book is that to its text
-over_store : (before between after : Told) (text : List ℕ) (edition : Tariff) (editions : List Tariff) (answer : Answer) → edition_of text ≡ Ok edition → WhereTold before between BodiesStay → AreStored between editions → ToldAfter between after (MayAdd edition) → ((old new : Bodies) → between ≡ Some old → after ≡ Some new → RefusalLeaves answer old new) → AnswersOffer editions edition between after answer → OverStore before after (AnswersText text answer)
+over_store : (before between after : Told) (text : List ℕ) (edition : Tariff) (editions : List Tariff) (answer : Answer) → edition_of text ≡ Ok edition → WhereTold before between BodiesStay → AreStored between editions → ToldAfter between after (MayAdd editions edition) → ((old new : Bodies) → between ≡ Some old → after ≡ Some new → RefusalLeaves answer old new) → AnswersOffer editions edition between after answer → OverStore before after (AnswersText text answer)
 over_store before between None text edition editions answer e stay stored told leaves offer = tt
 over_store before None (Some left) text edition editions answer e stay stored told leaves offer = absurd told
 over_store None (Some middle) (Some left) text edition editions answer e stay stored told leaves offer =
@@ -38,7 +38,7 @@ left_as_told : (between after : Told) (old new : Bodies) → Stay between after 
 left_as_told between after old new stay is was = let same : Stay (Some old) (Some new) = rw (is, was) at stay in same
 
 -- and so is the answer of a function that offers it
-pub publishes : {A : Type 0} → (before between after : Told) (text : List ℕ) (edition : Tariff) (editions : List Tariff) (result : Result (Vec ℕ A) Exit) → edition_of text ≡ Ok edition → WhereTold before between BodiesStay → AreStored between editions → ToldAfter between after (MayAdd edition) → IfErr result (λ exit. PublishesNothing exit → Stay between after) → Answers (AnswersOffer editions edition between after) result → Answers (λ answer. OverStore before after (AnswersText text answer)) result
+pub publishes : {A : Type 0} → (before between after : Told) (text : List ℕ) (edition : Tariff) (editions : List Tariff) (result : Result (Vec ℕ A) Exit) → edition_of text ≡ Ok edition → WhereTold before between BodiesStay → AreStored between editions → ToldAfter between after (MayAdd editions edition) → IfErr result (λ exit. PublishesNothing exit → Stay between after) → Answers (AnswersOffer editions edition between after) result → Answers (λ answer. OverStore before after (AnswersText text answer)) result
 publishes before between after text edition editions (Ok made) e stay stored told leaves answer =
     over_store before between after text edition editions (Ok made.items) e stay stored told (λ old new is was. tt) answer
 publishes before between after text edition editions (Err exit) e stay stored told leaves (inl cut) = inl cut
@@ -46,10 +46,18 @@ publishes before between after text edition editions (Err exit) e stay stored to
     let stays : Stay between after = leaves (published_nothing exit refused.0) in
     inr (refused.0, over_store before between after text edition editions (Err exit) e stay stored told (λ old new is was. left_as_told between after old new stays is was) refused.1)
 
--- what is added to an opened store is the text of the edition
-pub may_publish : (before between after : Told) (text : List ℕ) (edition : Tariff) → edition_of text ≡ Ok edition → WhereTold before between BodiesStay → ToldAfter between after (MayAdd edition) → WhereTold before after (MayPublish text)
-may_publish None between after text edition e stay added = tt
-may_publish (Some old) between None text edition e stay added = tt
-may_publish (Some old) None (Some new) text edition e stay added = absurd added
-may_publish (Some old) (Some middle) (Some new) text edition e stay (inl same) = inl (same ∙ stay)
-may_publish (Some old) (Some middle) (Some new) text edition e stay (inr more) = inr (edition, e, rw stay at more)
+-- what is added to an opened store is the text of the edition, which is new to those that its bodies stand for
+pub may_publish : (before between after : Told) (text : List ℕ) (edition : Tariff) (editions : List Tariff) → edition_of text ≡ Ok edition → WhereTold before between BodiesStay → AreStored between editions → ToldAfter between after (MayAdd editions edition) → WhereTold before after (MayPublish text)
+may_publish None between after text edition editions e stay stored added = tt
+may_publish (Some old) between None text edition editions e stay stored added = tt
+may_publish (Some old) None (Some new) text edition editions e stay stored added = absurd added
+may_publish (Some old) (Some middle) (Some new) text edition editions e stay stored (inl same) = inl (same ∙ stay)
+may_publish (Some old) (Some middle) (Some new) text edition editions e stay stored (inr more) =
+    inr (record {
+      edition = edition;
+      editions = editions;
+      readable = e;
+      stored = rw stay at stored;
+      is_new = more.0;
+      appended = rw stay at more.1;
+    })

@@ -8,7 +8,7 @@ use Rattle.fare_book.specs.declared.restore_fault.RestoreFault.{RestoreFault}
 use Rattle.fare_book.specs.Book.{BookState}
 use Rattle.fare_book.specs.Editions.{editions_of}
 use Rattle.fare_book.specs.Migration.{Migrates}
-use Rattle.fare_book.specs.Publish.{Answer as Publication, Offers}
+use Rattle.fare_book.specs.Publish.{Answer as Publication, IsNewTo, Offers}
 use Rattle.fares.specs.declared.exit.Exit.{Exit}
 use Rattle.fares.specs.declared.exit.Exit.TheVariants as ended
 use Rattle.fares.specs.Answer.{Answer, migration_answer, publication_answer}
@@ -43,9 +43,10 @@ AnswersMigration before after answer =
     (old new : BookState) × (migration : Result ℕ RestoreFault)
     × ToldAfter before after (Migrates old new migration) × (answer ≡ migration_answer migration)
 
--- the bodies are as before, or have the canonical text of an edition at the end
-abbrev pub MayAdd : Tariff → Bodies → Bodies → Type 0
-MayAdd edition old new = BodiesStay old new ⊎ BodyAppended (canonical_text edition) old new
+-- the bodies are as before, or have the canonical text of an edition at the end that is new to some editions
+abbrev pub MayAdd : List Tariff → Tariff → Bodies → Bodies → Type 0
+MayAdd editions edition old new =
+    BodiesStay old new ⊎ (IsNewTo editions edition × BodyAppended (canonical_text edition) old new)
 
 -- an end of the publication of an edition
 abbrev pub IsEndOfOffer : Exit → Type 0

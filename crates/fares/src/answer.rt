@@ -9,7 +9,7 @@ ghost use Rattle.fares.specs.Ends.{IsRefusalOf};
 ghost use Rattle.fares.specs.Limits.{limit_of};
 ghost use Rattle.fares.specs.Outcome.{AnswersRequest};
 ghost use Rattle.fares.specs.Request.{HasText, IsWithin, LeavesDoor, LeavesSource, LeavesStore, UsesDoor};
-ghost use Rattle.fares.specs.Run.{LeavesBodies, LeavesBodiesAt, ServesNobodyAt};
+ghost use Rattle.fares.specs.Run.{LeavesBodies, LeavesBodiesAt, ReadsWell, ServesNobodyAt};
 ghost use Rattle.fares.specs.Serve.{ServesRequest};
 ghost use Rattle.fares.specs.Steps.{Answers, IsKeeping, IsReading};
 
@@ -43,6 +43,8 @@ pub fn answer<R: Threads + Sync, S: Source, P: Keeper, D: Door>(
     requires none_held { UsesDoor request.now → D.held door.old ≡ [] }
     ensures answer { IfSome (S.left src.old) (λ source.
         Answers (AnswersRequest request.now source (P.bodies store.old) (P.bodies store.new)) result) }
+    ensures unread { LeavesSource request.now →
+        Answers (AnswersRequest request.now [] (P.bodies store.old) (P.bodies store.new)) result }
     ensures text { OnOk result (HasText request.now) }
     ensures ends { IfErr result (IsRefusalOf request.now) }
 
@@ -56,6 +58,7 @@ pub fn answer<R: Threads + Sync, S: Source, P: Keeper, D: Door>(
     ensures refused { IfErr result (λ exit. LeavesBodiesAt request.now exit →
         WhereTold (P.bodies store.old) (P.bodies store.new) BodiesStay) }
     ensures keeping { IsKeeping result (P.faults store.old) (P.faults store.new) }
+    ensures keeper_last { IsErrOf result Exit.KeeperFault → IfSome (S.left src.old) (ReadsWell request.now) }
 
     ensures serving { ServesRequest request.now
         (world_of (door_state (D.waiting door.old) (D.sent door.old) (D.faults door.old) (D.cuts door.old))

@@ -1,11 +1,12 @@
 //! The command `publish`.
 
-ghost use Rattle.std.specs.Prelude.{◌≡◌, true, IfErr, IfSome, IsTrue};
+ghost use Rattle.std.specs.Prelude.{◌≡◌, true, IfErr, IfSome, IsErrOf, IsTrue};
 ghost use Rattle.fare_outside.specs.Keeper.{BodiesStay, ToldAfter, WhereTold};
+ghost use Rattle.fare_book.specs.Publish.{IsReadable};
 ghost use Rattle.fare_book.specs.Reopens.{Stay};
 ghost use Rattle.fares.specs.Ends.{IsRefusalOfPublish};
 ghost use Rattle.fares.specs.Limits.{publish_limit};
-ghost use Rattle.fares.specs.Run.{MayPublish, PublishesNothing};
+ghost use Rattle.fares.specs.Run.{HoldsTariff, MayPublish, PublishesNothing};
 ghost use Rattle.fares.specs.Steps.{Answers, IsEndOnceRead, IsKeeping, IsReading};
 ghost use Rattle.fares.specs.StoreOutcome.{AnswersPublish, AnswersTariffOver, OverStore, RefusalLeaves};
 ghost use Rattle.fares.specs.StoreSteps.{AnswersOffer, IsEndOfOffer, MayAdd};
@@ -44,6 +45,7 @@ pub fn publish<R: Threads + Sync, S: Source, P: Keeper>(
     ensures refused { IfErr result (λ exit. PublishesNothing exit →
         WhereTold (P.bodies store.old) (P.bodies store.new) BodiesStay) }
     ensures keeping { IsKeeping result (P.faults store.old) (P.faults store.new) }
+    ensures keeper_last { IsErrOf result Exit.KeeperFault → IfSome (S.left src.old) (HoldsTariff publish_limit) }
 {
     let source = source_up_to(alloc, src, PUBLISH_LIMIT)?;
     publish_of(rt, alloc, source.as_slice(), store, name)
@@ -66,6 +68,7 @@ fn publish_of<R: Threads + Sync, P: Keeper>(
     ensures refused { IfErr result (λ exit. PublishesNothing exit →
         WhereTold (P.bodies store.old) (P.bodies store.new) BodiesStay) }
     ensures keeping { IsKeeping result (P.faults store.old) (P.faults store.new) }
+    ensures keeper_last { IsErrOf result Exit.KeeperFault → IsReadable source.now }
 {
     let edition = edition_in(rt, alloc, source)?;
     let book = book_of(rt, alloc, store, name)?;
@@ -85,7 +88,7 @@ fn publish_in<R: Threads + Sync, P: Keeper>(
     requires settled { book.settled ≡ true }
     ensures answer { Answers (AnswersOffer book.editions edition (P.bodies store.old) (P.bodies store.new)) result }
     ensures ends { IfErr result IsEndOfOffer }
-    ensures bodies { ToldAfter (P.bodies store.old) (P.bodies store.new) (MayAdd edition) }
+    ensures bodies { ToldAfter (P.bodies store.old) (P.bodies store.new) (MayAdd book.editions edition) }
     ensures refused { IfErr result (λ exit. PublishesNothing exit → Stay (P.bodies store.old) (P.bodies store.new)) }
     ensures keeping { IsKeeping result (P.faults store.old) (P.faults store.new) }
 {

@@ -10,7 +10,7 @@ ghost use Rattle.fares.specs.Ends.{IsEndOf};
 ghost use Rattle.fares.specs.Limits.{limit_of};
 ghost use Rattle.fares.specs.Outcome.{IsOutcome};
 ghost use Rattle.fares.specs.Request.{asked, LeavesDoor, LeavesSource, LeavesStore, UsesDoor};
-ghost use Rattle.fares.specs.Run.{EndsIn, IsSilent, LeavesBodies, LeavesBodiesAt, ServesNobodyAt};
+ghost use Rattle.fares.specs.Run.{EndsIn, IsSilent, LeavesBodies, LeavesBodiesAt, ReadsWell, ServesNobodyAt};
 ghost use Rattle.fares.specs.Serve.{EndsServing};
 
 use crate::answer::answer;
@@ -25,7 +25,8 @@ use std::thread::Threads;
 ///
 /// Where the source tells its bytes, the run ends in the answer that the words, those bytes and the bodies of the store
 /// define, or in want of memory, `ReadFault`, `KeeperFault` or `WriteFault`; these three come only where the source's,
-/// the store's and the sink's count rose in this call. All text is built before the first write, so the sink is left
+/// the store's and the sink's count rose in this call, and `KeeperFault` only where the source is within its limit and
+/// without a fault. A command that reads no source ends so over any source. All text is built before the first write, so the sink is left
 /// alone on every end but `Done` and `WriteFault`, which leave the same store. Only `publish` changes the bodies of the
 /// store, by the text of one edition, `serve`, by the publications that it answers, and `migrate`, which spells some
 /// first ones anew and changes no edition; a run that ends in want of memory has stored nothing else.
@@ -48,6 +49,9 @@ pub fn run<R: Threads + Sync, S: Source, K: Sink, P: Keeper, D: Door, G: Gate>(
     ensures answer { IfSome (S.left src.old) (λ source.
         EndsIn (IsOutcome (map string_bytes words.now) source (P.bodies store.old) (P.bodies store.new)) result
         (K.taken out.old) (K.taken out.new)) }
+    ensures unread { LeavesSource (asked (map string_bytes words.now)) →
+        EndsIn (IsOutcome (map string_bytes words.now) [] (P.bodies store.old) (P.bodies store.new)) result
+        (K.taken out.old) (K.taken out.new) }
     ensures serving { EndsServing (asked (map string_bytes words.now))
         (world_of (door_state (D.waiting door.old) (D.sent door.old) (D.faults door.old) (D.cuts door.old))
         (P.bodies store.old) (P.faults store.old))
@@ -60,6 +64,8 @@ pub fn run<R: Threads + Sync, S: Source, K: Sink, P: Keeper, D: Door, G: Gate>(
     ensures read_fault { result ≡ Exit.ReadFault → Rose (S.faults src.old) (S.faults src.new) }
     ensures write_fault { result ≡ Exit.WriteFault → Rose (K.faults out.old) (K.faults out.new) }
     ensures keeper_fault { result ≡ Exit.KeeperFault → Rose (P.faults store.old) (P.faults store.new) }
+    ensures keeper_last { result ≡ Exit.KeeperFault →
+        IfSome (S.left src.old) (ReadsWell (asked (map string_bytes words.now))) }
     ensures door_fault { result ≡ Exit.DoorFault → Rose (D.faults door.old) (D.faults door.new) }
 
     // What is left alone.

@@ -1,10 +1,11 @@
 //! The command `quote`.
 
-ghost use Rattle.std.specs.Prelude.{IfErr, IfSome};
+ghost use Rattle.std.specs.Prelude.{IfErr, IfSome, IsErrOf};
 ghost use Rattle.fare_outside.specs.Keeper.{BodiesStay, WhereTold};
 ghost use Rattle.fares.specs.Ends.{IsRefusalOfQuote};
 ghost use Rattle.fares.specs.Limits.{quote_limit};
 ghost use Rattle.fares.specs.Request.{MayAsk};
+ghost use Rattle.fares.specs.Run.{HoldsItinerary, IsItinerary};
 ghost use Rattle.fares.specs.Steps.{Answers, IsEndOnceRead, IsKeeping, IsReading};
 ghost use Rattle.fares.specs.StoreOutcome.{AnswersItineraryOver, AnswersQuote, ReadsStore};
 
@@ -41,6 +42,7 @@ pub fn stored_quote<R: Threads + Sync, Q: Quoter, S: Source, P: Keeper>(
         (S.left src.old) (S.left src.new) (S.faults src.old) (S.faults src.new) }
     ensures bodies { WhereTold (P.bodies store.old) (P.bodies store.new) BodiesStay }
     ensures keeping { IsKeeping result (P.faults store.old) (P.faults store.new) }
+    ensures keeper_last { IsErrOf result Exit.KeeperFault → IfSome (S.left src.old) (HoldsItinerary quote_limit) }
 {
     let source = source_up_to(alloc, src, QUOTE_LIMIT)?;
     quote_of(rt, alloc, quoter, source.as_slice(), store, name, best)
@@ -64,6 +66,7 @@ fn quote_of<R: Threads + Sync, Q: Quoter, P: Keeper>(
     ensures ends { IfErr result (IsEndOnceRead IsRefusalOfQuote) }
     ensures bodies { WhereTold (P.bodies store.old) (P.bodies store.new) BodiesStay }
     ensures keeping { IsKeeping result (P.faults store.old) (P.faults store.new) }
+    ensures keeper_last { IsErrOf result Exit.KeeperFault → IsItinerary source.now }
 {
     let trip = trip_in(alloc, source)?;
     let book = book_of(rt, alloc, store, name)?;

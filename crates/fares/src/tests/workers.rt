@@ -74,10 +74,19 @@ fn drilled<R: Threads + Sync + Abort>(
         "--workers",
         workers,
     ];
+    written(rt, alloc, &words)
+}
+
+/// What words write that need no source.
+fn written<R: Threads + Sync + Abort>(
+    rt: &R,
+    alloc: Global,
+    words: &[&str],
+) -> Result<Vec<u8>, Fail> {
     let mut source = PlainSource::new(Vec::new(alloc));
     let mut sink = PlainSink::new(alloc, 4096)?;
-    let exit = ended(rt, alloc, &words, &mut source, &mut sink)?;
-    assert!(rt; exit.status() == 0, "{}", workers);
+    let exit = ended(rt, alloc, words, &mut source, &mut sink)?;
+    assert!(rt; exit.status() == 0);
     let mut text = Vec::new(alloc);
     text.extend_from_slice(sink.bytes())?;
     Ok(text)
@@ -101,5 +110,36 @@ fn sixteen_generated_sectors_are_quoted_alike(rt: HostRuntime) -> Result<(), Fai
     assert!(rt; one.starts_with(b"DRILL seed 1 sectors 16 records 2179\nTOTAL NUC "));
     assert!(rt; two.as_slice() == one.as_slice());
     assert!(rt; sixteen.as_slice() == one.as_slice());
+    Ok(())
+}
+
+/// A drill of two sectors with so many extra records, and what it writes.
+struct Extra {
+    extra: &'static str,
+    text: &'static str,
+}
+
+static EXTRAS: [Extra; 3] = [
+    Extra {
+        extra: "--extra=0",
+        text: "DRILL seed 1 sectors 2 records 23\nTOTAL NUC 461.99\nPARTS 2 UNITS 2\n",
+    },
+    Extra {
+        extra: "--extra=1",
+        text: "DRILL seed 1 sectors 2 records 700\nTOTAL NUC 461.99\nPARTS 2 UNITS 2\n",
+    },
+    Extra {
+        extra: "--extra=200000",
+        text: "DRILL seed 1 sectors 2 records 200699\nTOTAL NUC 461.99\nPARTS 2 UNITS 2\n",
+    },
+];
+
+#[test]
+fn extra_records_leave_the_price(rt: HostRuntime) -> Result<(), Fail> {
+    for case in EXTRAS.as_slice() {
+        let words = ["drill", "--seed=1", "--sectors=2", case.extra];
+        let text = written(&rt, rt.alloc(), &words)?;
+        assert!(rt; text.as_slice() == case.text.as_bytes(), "{}", case.extra);
+    }
     Ok(())
 }

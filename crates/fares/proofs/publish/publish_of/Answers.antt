@@ -7,4 +7,4 @@ returns-clause-answer g c =
 
 pub returns-clause-bodies : goal.returns-clause-bodies
 returns-clause-bodies g c =
-    may_publish _ _ _ c.args.source.now c.in_ok-edition.edition c.in_ok-edition.ensures c.in_ok-book.ensures.bodies c.publish_in.ensures.bodies
+    may_publish _ _ _ c.args.source.now c.in_ok-edition.edition c.in_ok-book.book.editions c.in_ok-edition.ensures c.in_ok-book.ensures.bodies c.in_ok-book.ensures.editions c.publish_in.ensures.bodies
