@@ -2,7 +2,9 @@
 PREFIX ?= /usr/local
 EXAMPLE ?= examples/london-rome.txt
 RECORDS ?= 200000
-PROGRAM = crates/fares/out/fares
+JOBS ?= $(shell nproc)
+# The built program. It stands beside what `rt` makes, which `make test` sets aside while it runs.
+PROGRAM = build/fares
 
 .PHONY: quote try test install speed try-store program
 
@@ -10,9 +12,9 @@ PROGRAM = crates/fares/out/fares
 quote: program
 	$(PROGRAM) price < $(EXAMPLE)
 
-# Quotes the same trip with nothing proved, in seconds.
+# Quotes the same trip with nothing proved, by a program of as few crates as serve.
 try:
-	cd crates/fares && rt try fares -- price < $(abspath $(EXAMPLE))
+	cd crates/fare_trial && rt try fare_trial < $(abspath $(EXAMPLE))
 
 # Every proof, must-fail edit, test and program.
 test:
@@ -33,5 +35,8 @@ speed: program
 try-store: program
 	examples/try-store $(PROGRAM)
 
+# JOBS crates are proved at a time; one `rt run` alone would prove them one after the other.
 program:
+	rt all check --jobs $(JOBS)
 	cd crates/fares && rt run fares -- price < $(abspath examples/london-rome.txt) > /dev/null
+	install -D crates/fares/out/fares $(PROGRAM)
