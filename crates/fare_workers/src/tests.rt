@@ -6,7 +6,7 @@ ghost use Rattle.std.specs.Prelude.{◌≤◌};
 ghost use Rattle.fare_drill.specs.declared.limits.TheConstants.{LAST_SEED};
 ghost use Rattle.fare_split.specs.declared.pieces.TheConstants.{MOST_WORKERS};
 
-use cases::{CASES, Case};
+use cases::{CASES, Case, IN_ONE_COUNTRY, Input};
 use fare_branch::BranchQuoter;
 use fare_csv::read_edition;
 use fare_drill::drill_input;
@@ -15,7 +15,7 @@ use fare_rules::Part;
 use fare_split::{MOST_WORKERS, SplitQuoter};
 use fare_tariff::Edition;
 use fare_trip::{Trip, read_trip};
-use fare_units::{Construction, Quoter};
+use fare_units::{Construction, PlainQuoter, Quoter};
 use std::alloc::Global;
 use std::process::Abort;
 use std::test::Fail;
@@ -70,27 +70,58 @@ fn is_found_by_all<R: Threads + Sync + Abort>(
     Ok(())
 }
 
+/// The edition and the trip of two texts.
+fn input_of<R: Threads + Sync>(
+    rt: &R,
+    alloc: Global,
+    tariff: &str,
+    itinerary: &str,
+) -> Result<(Edition, Trip), Fail> {
+    let edition = match read_edition(rt, alloc, tariff.as_bytes()) {
+        Ok(edition) => edition,
+        Err(_) => return Err(Fail::from("no edition")),
+    };
+    match read_trip(alloc, itinerary.as_bytes()) {
+        Ok(trip) => Ok((edition, trip)),
+        Err(_) => Err(Fail::from("no trip")),
+    }
+}
+
 /// Compares the best construction of a case with what is known.
 fn case_is_found<R: Threads + Sync + Abort>(
     rt: &R,
     alloc: Global,
     case: &Case,
 ) -> Result<(), Fail> {
-    let edition = match read_edition(rt, alloc, case.tariff.as_bytes()) {
-        Ok(edition) => edition,
-        Err(_) => return Err(Fail::from("no edition")),
-    };
-    let trip = match read_trip(alloc, case.itinerary.as_bytes()) {
-        Ok(trip) => trip,
-        Err(_) => return Err(Fail::from("no trip")),
-    };
+    let (edition, trip) = input_of(rt, alloc, case.tariff, case.itinerary)?;
     is_found_by_all(rt, alloc, &edition, &trip, case.price, case.parts)
+}
+
+/// Compares what all numbers of workers find of a trip with what a walk over all constructions does.
+fn plain_best_is_found<R: Threads + Sync + Abort>(
+    rt: &R,
+    alloc: Global,
+    input: &Input,
+) -> Result<(), Fail> {
+    let (edition, trip) = input_of(rt, alloc, input.tariff, input.itinerary)?;
+    match PlainQuoter.quote(rt, alloc, &edition, &trip)? {
+        None => Err(Fail::from("no fare")),
+        Some((best, price)) => is_found_by_all(rt, alloc, &edition, &trip, price, best.parts()),
+    }
 }
 
 #[test]
 fn trips_of_outside(rt: HostRuntime) -> Result<(), Fail> {
     for case in &CASES {
         case_is_found(&rt, rt.alloc(), case)?;
+    }
+    Ok(())
+}
+
+#[test]
+fn trips_in_one_country(rt: HostRuntime) -> Result<(), Fail> {
+    for input in &IN_ONE_COUNTRY {
+        plain_best_is_found(&rt, rt.alloc(), input)?;
     }
     Ok(())
 }

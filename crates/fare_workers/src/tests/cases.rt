@@ -66,3 +66,49 @@ pub static CASES: [Case; 2] = [
         ],
     },
 ];
+
+/// A tariff and an itinerary.
+pub struct Input {
+    /// The tariff.
+    pub tariff: &'static str,
+    /// The itinerary.
+    pub itinerary: &'static str,
+}
+
+/// Trips within one country, on which each two parts that are chained lie as an open jaw: from a hub and back again and
+/// again, and one with a surface sector.
+pub static IN_ONE_COUNTRY: [Input; 2] = [
+    Input {
+        tariff: "HEAD,1,1,2025-01-01\nCUR,AA,XAA,1.000000,2,1,U\nCITY,CAA,AA,2\nCITY,CAB,AA,2\nCITY,CAC,AA,2\n\
+                 CITY,CAD,AA,2\nFARE,CAA,CAB,EH,YY,Y,OW,,200.00\nFARE,CAA,CAB,EH,YY,Y,HR,,140.37\n\
+                 FARE,CAB,CAA,EH,YY,Y,OW,,200.74\nFARE,CAB,CAA,EH,YY,Y,HR,,140.11\n\
+                 FARE,CAA,CAC,EH,YY,Y,OW,,200.48\nFARE,CAA,CAC,EH,YY,Y,HR,,140.85\n\
+                 FARE,CAC,CAA,EH,YY,Y,OW,,200.22\nFARE,CAC,CAA,EH,YY,Y,HR,,140.59\n\
+                 FARE,CAA,CAD,EH,YY,Y,OW,,200.96\nFARE,CAA,CAD,EH,YY,Y,HR,,140.33\n\
+                 FARE,CAD,CAA,EH,YY,Y,OW,,200.70\nFARE,CAD,CAA,EH,YY,Y,HR,,140.07\nEND\n",
+        itinerary: "{\"sale\":\"2025-03-01\",\"from\":\"CAA\",\"sectors\":[\
+                    {\"to\":\"CAB\",\"carrier\":\"Q1\",\"day\":\"2025-04-01\",\"cabin\":\"Y\"},\
+                    {\"to\":\"CAA\",\"carrier\":\"Q1\",\"day\":\"2025-04-01\",\"cabin\":\"Y\"},\
+                    {\"to\":\"CAC\",\"carrier\":\"Q1\",\"day\":\"2025-04-01\",\"cabin\":\"Y\"},\
+                    {\"to\":\"CAA\",\"carrier\":\"Q1\",\"day\":\"2025-04-01\",\"cabin\":\"Y\"},\
+                    {\"to\":\"CAD\",\"carrier\":\"Q1\",\"day\":\"2025-04-01\",\"cabin\":\"Y\"}]}",
+    },
+    Input {
+        tariff: "HEAD,1,1,2025-01-01\nCUR,AA,XAA,1.000000,2,1,U\nCITY,CAA,AA,2\nCITY,CAB,AA,2\nCITY,CAC,AA,2\n\
+                 CITY,CAD,AA,2\nCITY,CAE,AA,2\nCITY,CAF,AA,2\nFARE,CAA,CAB,EH,YY,Y,OW,,200.00\n\
+                 FARE,CAA,CAB,EH,YY,Y,HR,,140.37\nFARE,CAB,CAA,EH,YY,Y,OW,,200.74\n\
+                 FARE,CAB,CAA,EH,YY,Y,HR,,140.11\nFARE,CAB,CAC,EH,YY,Y,OW,,200.48\n\
+                 FARE,CAB,CAC,EH,YY,Y,HR,,140.85\nFARE,CAC,CAB,EH,YY,Y,OW,,200.22\n\
+                 FARE,CAC,CAB,EH,YY,Y,HR,,140.59\nFARE,CAD,CAE,EH,YY,Y,OW,,200.96\n\
+                 FARE,CAD,CAE,EH,YY,Y,HR,,140.33\nFARE,CAE,CAD,EH,YY,Y,OW,,200.70\n\
+                 FARE,CAE,CAD,EH,YY,Y,HR,,140.07\nFARE,CAE,CAF,EH,YY,Y,OW,,200.44\n\
+                 FARE,CAE,CAF,EH,YY,Y,HR,,140.81\nFARE,CAF,CAE,EH,YY,Y,OW,,200.18\n\
+                 FARE,CAF,CAE,EH,YY,Y,HR,,140.55\nEND\n",
+        itinerary: "{\"sale\":\"2025-03-01\",\"from\":\"CAA\",\"sectors\":[\
+                    {\"to\":\"CAB\",\"carrier\":\"Q1\",\"day\":\"2025-04-01\",\"cabin\":\"Y\"},\
+                    {\"to\":\"CAC\",\"carrier\":\"Q1\",\"day\":\"2025-04-01\",\"cabin\":\"Y\"},\
+                    {\"to\":\"CAD\",\"carrier\":\"Q1\",\"day\":\"2025-04-01\",\"cabin\":\"Y\",\"surface\":true},\
+                    {\"to\":\"CAE\",\"carrier\":\"Q1\",\"day\":\"2025-04-01\",\"cabin\":\"Y\"},\
+                    {\"to\":\"CAF\",\"carrier\":\"Q1\",\"day\":\"2025-04-01\",\"cabin\":\"Y\"}]}",
+    },
+];
