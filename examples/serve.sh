@@ -2,7 +2,7 @@
 # The desk over HTTP, for real: examples/serve.sh [PROGRAM [PORT]]. It publishes two editions in a new file, serves seven
 # connections, asks by curl, and ends. Needs curl.
 set -eu
-program=$(realpath "${1:-crates/fares/out/fares}")
+program=$(realpath "${1:-build/fares}")
 port=${2:-8080}
 folder=$(mktemp -d)
 trap 'rm -rf "$folder"' EXIT
