@@ -4,6 +4,7 @@ pub use Rattle.fare_book.specs.Book
 pub mod Quotation
 pub mod List
 pub mod Answers
+pub mod Batching
 pub mod Routes
 pub mod Replies
 pub mod Viewing
