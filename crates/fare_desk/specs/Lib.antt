@@ -3,6 +3,7 @@ pub use Rattle.fare_tariff.specs.Tariff
 pub use Rattle.fare_book.specs.Book
 pub use Rattle.fare_answers.specs.Quotation
 pub use Rattle.fare_answers.specs.List
+pub mod Batching
 pub mod Routes
 pub mod Replies
 pub mod Viewing

@@ -5,6 +5,7 @@ ghost use Rattle.fare_desk.specs.Viewing.{IsAnswer, IsRouteReply};
 
 use crate::batch::batch_reply;
 use crate::editions::{edition_reply, list_reply};
+use crate::one_by_one::OneByOne;
 use crate::quotes::quote_reply;
 use crate::replies::{is_method, method_reply, no_route_reply};
 use crate::routes::{Route, Routes};
@@ -51,7 +52,8 @@ impl<Q: Quoter> DeskFront<'_, Q> {
                 quote_reply(rt, alloc, self.book, self.quoter, body)
             }
             Some(Route::Batch) if is_method(method, "POST") => {
-                batch_reply(rt, alloc, self.book, self.quoter, body)
+                let (book, quoter) = (self.book, self.quoter);
+                batch_reply(rt, alloc, &OneByOne { book, quoter }, body)
             }
             Some(Route::Editions | Route::Edition) => method_reply(alloc, Allow::Get),
             Some(Route::Quote | Route::Batch) => method_reply(alloc, Allow::Post),

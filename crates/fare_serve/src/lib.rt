@@ -3,6 +3,7 @@
 //!
 //! - `service`, `serve_fault`: what is asked for, and why connections aren't served to the end;
 //! - `served_desk`: the desk that connections ask, with the quoter of the program;
+//! - `served_front`: what it answers that changes nothing, the items of a batch side by side;
 //! - `rounds`: rounds of connections, one after the other;
 //! - `serving`: all of it, over the book of a store.
 #![tactic(auto)]
@@ -10,6 +11,7 @@
 mod rounds;
 mod serve_fault;
 mod served_desk;
+mod served_front;
 mod service;
 mod serving;
 #[cfg(test)]
@@ -18,5 +20,6 @@ mod tests;
 pub use rounds::serve_rounds;
 pub use serve_fault::ServeFault;
 pub use served_desk::ServedDesk;
+pub use served_front::ServedFront;
 pub use service::Service;
 pub use serving::serve;

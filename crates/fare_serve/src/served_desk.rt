@@ -3,6 +3,7 @@
 ghost use Rattle.std.specs.Prelude.{◌≡◌, ◌≤◌, IsTrue};
 ghost use Rattle.fare_split.specs.declared.pieces.TheConstants.{MOST_WORKERS};
 
+use crate::ServedFront;
 use fare_book::Book;
 use fare_counter::{Counter, CounterRoutes};
 use fare_desk::{Desk, Routes};
@@ -44,6 +45,15 @@ impl<'k, P: Keeper> ServedDesk<'k, P> {
         }
     }
 
+    /// What it answers that changes nothing.
+    pub fn front(&self) -> ServedFront<'_, 'k>
+        ensures { result.counter.desk.book.now ≡ self.now.counter.desk.book }
+    {
+        ServedFront {
+            counter: self.counter.front(),
+        }
+    }
+
     /// The keeper, handed back: the one that was lent, as the desk leaves it.
     pub fn into_keeper(self) -> &'k mut P
         ensures value { result.now ≡ self.entry.counter.desk.keeper.now }
@@ -80,7 +90,7 @@ impl<'k, P: Keeper> RoundHandler for ServedDesk<'k, P> {
         IsCounterAnswer served.counter.desk.book.editions method path body reply };
 
     fn view<R: Threads + Sync>(&self, rt: &R, alloc: Global, round: &mut Round) {
-        round.view_all(rt, alloc, &self.counter.front());
+        round.view_all(rt, alloc, &self.front());
     }
 
     ghost shows = { λ served method path body reply other answered.

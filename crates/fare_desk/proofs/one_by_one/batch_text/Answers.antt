@@ -1,6 +1,6 @@
 use Rattle.std.proofs.Common.{arith, ap, ◌+◌}
 use Rattle.fare_desk.proofs.BatchLemmas.{continues-all, continues-more}
-use Rattle.fare_desk.proofs.batch.batch_text.Goals as goal
+use Rattle.fare_desk.proofs.one_by_one.batch_text.Goals as goal
 
 pub loop-item-preserved : goal.loop-item-preserved
 loop-item-preserved g c =

@@ -1,6 +1,6 @@
 use Rattle.std.proofs.Common.{◌≡◌, ◌≤◌, ◌+◌, length}
 use Rattle.fare_desk.proofs.BatchLemmas.{Continues}
-use Rattle.fare_desk.proofs.batch.batch_text.Given as goal
+use Rattle.fare_desk.proofs.one_by_one.batch_text.Given as goal
 
 -- the text holds the items before this one
 abbrev pub invariant-loop-item : goal.invariant-loop-item
