@@ -27,6 +27,11 @@ ports() {
     sed -n "/^upstream ${1:-}/,/^}/s/^ *server 127\.0\.0\.1:\([0-9]*\) .*/\1/p" "$DESKS"
 }
 
+# The addresses of the desks.
+addresses() {
+    ports | sed 's|^|http://127.0.0.1:|'
+}
+
 # get DESK PATH FILE: what the desk answers to GET. The status is curl's: 7 where nothing listens.
 get() {
     curl --silent --show-error --fail --noproxy '*' --max-time "${PATIENCE:-120}" --output "$3" "$1/$2"
@@ -57,17 +62,11 @@ workers() {
 # there is nothing to do.
 reload() {
     [ -s "$NGINX_PID" ] || return 0
+    $RUN_NGINX -q -t || return 1
     former=$(workers)
-    $RUN_NGINX -s reload 2> /dev/null
+    kill -HUP "$(cat "$NGINX_PID")"
     for _ in $(seq 100); do
-        now=$(workers)
-        left=no
-        for worker in $former; do
-            case " $(echo $now) " in
-            *" $worker "*) left=yes ;;
-            esac
-        done
-        [ "$left" = yes ] || return 0
+        [ -n "$(printf '%s\n' "$former" "$(workers)" | sort | uniq -d)" ] || return 0
         sleep 0.1
     done
     echo "nginx hasn't taken its new configuration" >&2

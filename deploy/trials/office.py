@@ -1,12 +1,12 @@
 """Desks and an nginx on loopback, for trying the office for real: the shipped configuration and the words of the shipped unit, with
 another port and certificate, other folders and shorter time-outs. The limits are the shipped ones."""
-import configparser, http.client, os, pathlib, shutil, signal, socket, ssl, subprocess, tempfile, time
+import http.client, os, pathlib, shutil, signal, socket, ssl, subprocess, tempfile, time
 
-HERE = pathlib.Path(__file__).resolve().parent
+HERE = pathlib.Path(__file__).resolve().parent.parent
 EXAMPLES = HERE.parent / 'examples'
 QUOTATIONS, LONG = (1, 2, 3), (8, 9)
 TLS_PORT = 8443
-# How long nginx waits for an answer here, in seconds.
+# How many seconds nginx waits for an answer in most trials, of a desk of quotations and of one of what takes long.
 PATIENCE, LONG_PATIENCE = 3, 6
 
 
@@ -44,12 +44,10 @@ def told(what):
     print(what, flush=True)
 
 
-def words_of_unit(name):
-    """The settings of the desk's unit that a name stands for, as lists of words."""
-    unit = configparser.ConfigParser(strict=False, interpolation=None, comment_prefixes=('#',))
-    unit.optionxform = str
-    unit.read(HERE / 'systemd' / 'fares@.service')
-    return unit['Service'][name].split()
+def lines_of_unit(name):
+    """The values of a setting of the desk's unit, each as its words."""
+    lines = (HERE / 'systemd' / 'fares@.service').read_text().splitlines()
+    return [line.split('=', 1)[1].split() for line in lines if line.startswith(f'{name}=')]
 
 
 class Office:
@@ -77,19 +75,21 @@ class Office:
 
     def script(self, name, *words, **more):
         """Runs one of the operator's scripts."""
-        return subprocess.run([HERE / name, *map(str, words)], capture_output=True, text=True, env=self.environment, **more)
+        return subprocess.run([HERE / 'scripts' / name, *map(str, words)], capture_output=True, text=True, env=self.environment, **more)
 
-    def command(self, setting, desk):
-        """The words of one of the unit's commands, for this office."""
-        settings = dict(word.split('=') for word in words_of_unit('Environment'))
-        words = [word.lstrip('+').replace('%i', str(desk)) for word in words_of_unit(setting)]
-        words = [settings.get(word.strip('${}'), word) for word in words]
-        return [word.replace('/usr/lib/fares', str(HERE)).replace('/usr/bin/fares', self.program) for word in words]
+    def commands(self, setting, desk):
+        """The words of the unit's commands of one kind, for this office."""
+        settings = dict(word.split('=') for word in lines_of_unit('Environment')[0])
+
+        def here(word):
+            word = settings.get(word.strip('${}'), word.replace('%i', str(desk)))
+            return word.replace('/usr/lib/fares', f'{HERE}/scripts').replace('/usr/bin/fares', self.program)
+        return [[here(words[0].lstrip('+-')), *map(here, words[1:])] for words in lines_of_unit(setting)]
 
     def take_editions(self, desk):
         """What the unit does before the desk serves."""
         place = self.place(desk)
-        return subprocess.run(self.command('ExecStartPre', desk), cwd=place, env=self.environment, capture_output=True, text=True,
+        return subprocess.run(self.commands('ExecStartPre', desk)[0], cwd=place, env=self.environment, capture_output=True, text=True,
                               umask=0o077)
 
     def place(self, desk):
@@ -103,9 +103,10 @@ class Office:
             taken = self.take_editions(desk)
             assert taken.returncode == 0, taken.stderr
         log = open(self.place(desk) / 'log', 'ab')
-        self.desks[desk] = subprocess.Popen(self.command('ExecStart', desk), cwd=self.place(desk), stdout=log, stderr=log, umask=0o077)
+        self.desks[desk] = subprocess.Popen(self.commands('ExecStart', desk)[0], cwd=self.place(desk), stdout=log, stderr=log, umask=0o077)
         wait_for(port_of(desk), self.desks[desk])
-        subprocess.run(self.command('ExecStartPost', desk), env=self.environment, check=True)
+        for words in self.commands('ExecStartPost', desk):
+            subprocess.run(words, env=self.environment, check=True)
 
     def kill(self, desk):
         """Kills a desk by signal 9."""
@@ -127,14 +128,14 @@ class Office:
         for desk in desks:
             self.desks[desk].send_signal(signal.SIGCONT)
 
-    def configuration(self):
-        """The shipped configuration with the port, the certificate, the folders and the time-outs of this office."""
+    def configuration(self, patience, long_patience):
+        """The shipped configuration with the port, the certificate and the folders of this office, and its time-outs."""
         text = (HERE / 'nginx' / 'fares.conf').read_text()
         folder = self.folder
         for shipped, here in (('listen 443 ssl', f'listen 127.0.0.1:{TLS_PORT} ssl'), ('/etc/fares/', f'{folder}/'),
                               ('/usr/share/fares', str(folder)), ('/var/log/nginx/fares.log', f'{folder}/access'),
-                              ('proxy_read_timeout 60s', f'proxy_read_timeout {PATIENCE}s'),
-                              ('proxy_read_timeout 300s', f'proxy_read_timeout {LONG_PATIENCE}s')):
+                              ('proxy_read_timeout 60s', f'proxy_read_timeout {patience}s'),
+                              ('proxy_read_timeout 300s', f'proxy_read_timeout {long_patience}s')):
             text = text.replace(shipped, here)
         return f'''daemon off; pid {folder}/pid; error_log {folder}/errors; worker_processes 2; user root;
 events {{ worker_connections 1024; }}
@@ -145,13 +146,13 @@ uwsgi_temp_path {folder}/u; scgi_temp_path {folder}/s; include /etc/nginx/mime.t
 }}
 '''
 
-    def start_nginx(self):
+    def start_nginx(self, patience=PATIENCE, long_patience=LONG_PATIENCE):
         shutil.copytree(HERE / 'page', self.folder / 'page', dirs_exist_ok=True)
         key, certificate = self.folder / 'key.pem', self.folder / 'certificate.pem'
         if not key.exists():
             subprocess.run(['openssl', 'req', '-x509', '-newkey', 'rsa:2048', '-nodes', '-days', '2', '-subj', '/CN=localhost',
                             '-keyout', key, '-out', certificate], check=True, stderr=subprocess.DEVNULL)
-        (self.folder / 'nginx.conf').write_text(self.configuration())
+        (self.folder / 'nginx.conf').write_text(self.configuration(patience, long_patience))
         self.nginx = subprocess.Popen(['nginx', '-c', self.folder / 'nginx.conf'])
         wait_for(TLS_PORT, self.nginx)
 
@@ -177,7 +178,7 @@ uwsgi_temp_path {folder}/u; scgi_temp_path {folder}/s; include /etc/nginx/mime.t
 
     def publish(self, path, desks, **settings):
         """Publishes a tariff to desks by the shipped script."""
-        return subprocess.run([HERE / 'publish-everywhere', path, *map(address_of, desks)], capture_output=True, text=True,
+        return subprocess.run([HERE / 'scripts' / 'publish-everywhere', path, *map(address_of, desks)], capture_output=True, text=True,
                               env={**self.environment, 'PAUSE': '0.2', 'PATIENCE': '60', **settings})
 
     def write(self, name, text):

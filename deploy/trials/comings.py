@@ -132,7 +132,28 @@ def comes_back(office, samples):
     told('a desk with another edition of a number doesn\'t serve, and says which')
 
 
+def started_first(office, samples):
+    """A desk that is started before all that know what was published while it was away has it from the next one."""
+    first, second = QUOTATIONS[:2]
+    twelfth = office.write('12.tariff', samples.seventh.read_text().replace('HEAD,1,7,2025-01-01', 'HEAD,1,12,2030-01-01'))
+    office.kill(first)
+    others = QUOTATIONS[1:] + LONG
+    assert office.publish(twelfth, others).returncode == 0
+    for desk in others:
+        office.kill(desk)
+    office.start(first)
+    assert b'EDITION 12 ' not in ask_desk(first, 'GET', '/editions')[1]
+    office.start(second)
+    assert b'EDITION 12 ' in ask_desk(first, 'GET', '/editions')[1], 'a desk that was started first stays without an edition'
+    for desk in others[1:]:
+        office.start(desk)
+    counts = {words[words.index('--count') + 1] for desk in QUOTATIONS + LONG for words in office.commands('ExecStart', desk)}
+    assert len(counts) == 5, f'desks end together: {counts}'
+    told('a desk that was started before all others has what it lacks from the next one; no two desks end at one count')
+
+
 def run(office, samples):
     killed(office, samples)
     taken_out(office, samples)
     comes_back(office, samples)
+    started_first(office, samples)

@@ -1,11 +1,12 @@
 """How many quotations a second one, two and three desks answer behind the address. Eight clients ask by ab, each from one address
-after another, so that the shipped limit on questions of one address holds and the client isn't what takes the time."""
+after another, so that the shipped limit on questions of one address holds and the client isn't what takes the time. The
+time-outs are the shipped ones too."""
 import re, subprocess
 from concurrent.futures import ThreadPoolExecutor
 from office import QUOTATIONS, TLS_PORT, told
 
 # As many questions as one address may ask in a burst, and how many addresses a client asks from.
-BURST, ADDRESSES, CLIENTS = 400, 8, 8
+BURST, ADDRESSES, CLIENTS = 400, 4, 8
 
 
 def figure(name, text):
@@ -31,6 +32,8 @@ def client(which, count, body):
 def run(office, samples):
     body = office.folder / 'trip.json'
     body.write_bytes(samples.bodies[-1])
+    office.stop_nginx()
+    office.start_nginx(60, 300)
     for desk in QUOTATIONS[1:]:
         office.script('desk-out', desk)
     for count, desk in enumerate(QUOTATIONS, 1):
