@@ -6,7 +6,7 @@ JOBS ?= $(shell nproc)
 # The built program. It stands beside what `rt` makes, which `make test` sets aside while it runs.
 PROGRAM = build/fares
 
-.PHONY: quote try test install speed try-store program
+.PHONY: quote try test install deb speed try-store program
 
 # Proves and builds the program where it isn't built yet, and quotes an example trip.
 quote: program
@@ -24,6 +24,10 @@ test:
 install: program
 	install -D $(PROGRAM) $(DESTDIR)$(PREFIX)/bin/fares
 	install -D -m 644 docs/fares.1 $(DESTDIR)$(PREFIX)/share/man/man1/fares.1
+
+# A Debian package of the proved program, with what an office needs around it.
+deb: program
+	deploy/make-deb $(PROGRAM) .
 
 # How long a tariff of RECORDS records takes to be read and checked.
 speed: program
