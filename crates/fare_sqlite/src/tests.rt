@@ -28,8 +28,8 @@ fn opening(alloc: Global, sql: &str) -> Result<Result<(), KeepFault>, Fail> {
 }
 
 /// Opens the store, adds a body, and answers how many there are then.
-fn publish(
-    store: &mut FileKeeper<Wary>,
+fn publish<S: FoundFile>(
+    store: &mut FileKeeper<S>,
     alloc: Global,
     name: &str,
     body: &[u8],
@@ -76,8 +76,8 @@ fn put_at<P: Keeper>(
 }
 
 /// Opens the store, and answers whether its first body is that one.
-fn is_first(
-    store: &mut FileKeeper<Wary>,
+fn is_first<S: FoundFile>(
+    store: &mut FileKeeper<S>,
     alloc: Global,
     name: &str,
     body: &[u8],
@@ -136,45 +136,48 @@ fn only_a_database_of_editions_is_opened(rt: HostRuntime) -> Result<(), Fail> {
 
 #[test]
 fn a_file_keeps_bodies_for_one_keeper_at_a_time(rt: HostRuntime) -> Result<(), Fail> {
-    let alloc = rt.alloc();
     let _ = fs::remove_dir_all(&rt, FOLDER);
+    is_kept_for_one::<Wary>(&rt)?;
+    fs::remove_dir_all(&rt, FOLDER)?;
+    Ok(())
+}
+
+fn is_kept_for_one<S: FoundFile>(rt: &HostRuntime) -> Result<(), Fail> {
+    let alloc = rt.alloc();
     let name = "fare_sqlite_test/editions";
-    let mut first = FileKeeper::<Wary>::new(&rt);
+    let mut first = FileKeeper::<S>::new(rt);
     let in_no_folder = publish(&mut first, alloc, name, b"one");
     assert_eq!(rt; in_no_folder, Err(KeepFault::Failed));
-    fs::create_dir(&rt, FOLDER)?;
+    fs::create_dir(rt, FOLDER)?;
     assert_eq!(rt; publish(&mut first, alloc, name, b"one")?, 1);
-    let mut second = FileKeeper::<Wary>::new(&rt);
+    let mut second = FileKeeper::<S>::new(rt);
     let beside_the_first = publish(&mut second, alloc, name, b"two");
     assert_eq!(rt; beside_the_first, Err(KeepFault::Failed));
     drop(first);
     assert_eq!(rt; publish(&mut second, alloc, name, b"two")?, 2);
     assert!(rt; is_first(&mut second, alloc, name, b"one")?);
-    drop(second);
-    fs::remove_dir_all(&rt, FOLDER)?;
     Ok(())
 }
 
 #[test]
 fn a_file_that_is_open_is_opened_by_no_other_name(rt: HostRuntime) -> Result<(), Fail> {
-    let alloc = rt.alloc();
     let _ = fs::remove_dir_all(&rt, NAMES);
     fs::create_dir(&rt, NAMES)?;
-    let mut store = FileKeeper::<Wary>::new(&rt);
-    assert_eq!(rt;
-        publish(&mut store, alloc, "fare_sqlite_names/one", b"one")?,
-        1
-    );
-    assert_eq!(rt;
-        publish(&mut store, alloc, "fare_sqlite_names/other", b"two")?,
-        2
-    );
-    assert!(rt; fs::metadata(&rt, "fare_sqlite_names/other").is_err());
-    drop(store);
-    let mut again = FileKeeper::<Wary>::new(&rt);
-    assert!(rt; is_first(&mut again, alloc, "fare_sqlite_names/one", b"one")?);
-    assert_eq!(rt; again.len(alloc)?, 2);
-    drop(again);
+    is_opened_by_one_name::<Wary>(&rt)?;
     fs::remove_dir_all(&rt, NAMES)?;
+    Ok(())
+}
+
+fn is_opened_by_one_name<S: FoundFile>(rt: &HostRuntime) -> Result<(), Fail> {
+    let alloc = rt.alloc();
+    let (one, other) = ("fare_sqlite_names/one", "fare_sqlite_names/other");
+    let mut store = FileKeeper::<S>::new(rt);
+    assert_eq!(rt; publish(&mut store, alloc, one, b"one")?, 1);
+    assert_eq!(rt; publish(&mut store, alloc, other, b"two")?, 2);
+    assert!(rt; fs::metadata(rt, other).is_err());
+    drop(store);
+    let mut again = FileKeeper::<S>::new(rt);
+    assert!(rt; is_first(&mut again, alloc, one, b"one")?);
+    assert_eq!(rt; publish(&mut again, alloc, one, b"three")?, 3);
     Ok(())
 }

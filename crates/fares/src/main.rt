@@ -38,34 +38,44 @@ use crate::fault_line::fault_text;
 use crate::run::run;
 use fare_devices::{StdSink, StdSource, TcpDoor};
 use fare_outside::{NoMemory, OpenGate};
-use fare_sqlite::{FileKeeper, Wary};
+use fare_sqlite::{FileKeeper, FoundFile, Wary};
 use std::io::{ErrorKind, Write};
 use std::process::ExitCode;
+use std::thread::Threads;
 use std::{env, io};
 
 fn main(rt: HostRuntime) -> ExitCode {
-    let alloc = rt.alloc();
-    let mut source = StdSource::new(&rt);
-    let mut sink = StdSink::new(&rt);
-    let mut store = FileKeeper::<Wary>::new(&rt);
-    let mut door = TcpDoor::new(&rt);
     let exit = match words_after_the_first(&rt) {
-        Ok(words) => run(
-            &rt,
-            alloc,
-            words.as_slice(),
-            &mut source,
-            &mut sink,
-            &mut store,
-            &mut door,
-            &OpenGate,
-        ),
+        Ok(words) => run_over_files::<Wary, HostRuntime>(&rt, &rt, words.as_slice()),
         Err(exit) => exit,
     };
     if exit.status() != 0 {
         tell(&rt, &exit);
     }
     ExitCode::from(exit.status())
+}
+
+/// Runs the program over the real source, sink, file of editions and door. What `run` says of the bodies of its store
+/// is proved for any contents `S` of the file and its log.
+fn run_over_files<S: FoundFile, R: Threads + Sync>(
+    rt: &R,
+    host: &HostRuntime,
+    words: &[String],
+) -> Exit {
+    let mut source = StdSource::new(host);
+    let mut sink = StdSink::new(host);
+    let mut store = FileKeeper::<S>::new(host);
+    let mut door = TcpDoor::new(host);
+    run(
+        rt,
+        host.alloc(),
+        words,
+        &mut source,
+        &mut sink,
+        &mut store,
+        &mut door,
+        &OpenGate,
+    )
 }
 
 /// The words behind the program's own name. A word that isn't UTF-8 is none that the program takes.
