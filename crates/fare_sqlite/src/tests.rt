@@ -6,6 +6,7 @@ use sqlite::{Connection, Error, MemStore};
 use sqlite_disk::Wary;
 use std::alloc::Global;
 use std::fs;
+use std::process::Abort;
 use std::test::Fail;
 
 /// The folder in which the tests on files lie.
@@ -137,20 +138,20 @@ fn only_a_database_of_editions_is_opened(rt: HostRuntime) -> Result<(), Fail> {
 #[test]
 fn a_file_keeps_bodies_for_one_keeper_at_a_time(rt: HostRuntime) -> Result<(), Fail> {
     let _ = fs::remove_dir_all(&rt, FOLDER);
-    is_kept_for_one::<Wary>(&rt)?;
+    is_kept_for_one::<Wary, HostRuntime>(&rt, &rt)?;
     fs::remove_dir_all(&rt, FOLDER)?;
     Ok(())
 }
 
-fn is_kept_for_one<S: FoundFile>(rt: &HostRuntime) -> Result<(), Fail> {
-    let alloc = rt.alloc();
+fn is_kept_for_one<S: FoundFile, R: Abort>(rt: &R, host: &HostRuntime) -> Result<(), Fail> {
+    let alloc = host.alloc();
     let name = "fare_sqlite_test/editions";
-    let mut first = FileKeeper::<S>::new(rt);
+    let mut first = FileKeeper::<S>::new(host);
     let in_no_folder = publish(&mut first, alloc, name, b"one");
     assert_eq!(rt; in_no_folder, Err(KeepFault::Failed));
-    fs::create_dir(rt, FOLDER)?;
+    fs::create_dir(host, FOLDER)?;
     assert_eq!(rt; publish(&mut first, alloc, name, b"one")?, 1);
-    let mut second = FileKeeper::<S>::new(rt);
+    let mut second = FileKeeper::<S>::new(host);
     let beside_the_first = publish(&mut second, alloc, name, b"two");
     assert_eq!(rt; beside_the_first, Err(KeepFault::Failed));
     drop(first);
@@ -163,20 +164,20 @@ fn is_kept_for_one<S: FoundFile>(rt: &HostRuntime) -> Result<(), Fail> {
 fn a_file_that_is_open_is_opened_by_no_other_name(rt: HostRuntime) -> Result<(), Fail> {
     let _ = fs::remove_dir_all(&rt, NAMES);
     fs::create_dir(&rt, NAMES)?;
-    is_opened_by_one_name::<Wary>(&rt)?;
+    is_opened_by_one_name::<Wary, HostRuntime>(&rt, &rt)?;
     fs::remove_dir_all(&rt, NAMES)?;
     Ok(())
 }
 
-fn is_opened_by_one_name<S: FoundFile>(rt: &HostRuntime) -> Result<(), Fail> {
-    let alloc = rt.alloc();
+fn is_opened_by_one_name<S: FoundFile, R: Abort>(rt: &R, host: &HostRuntime) -> Result<(), Fail> {
+    let alloc = host.alloc();
     let (one, other) = ("fare_sqlite_names/one", "fare_sqlite_names/other");
-    let mut store = FileKeeper::<S>::new(rt);
+    let mut store = FileKeeper::<S>::new(host);
     assert_eq!(rt; publish(&mut store, alloc, one, b"one")?, 1);
     assert_eq!(rt; publish(&mut store, alloc, other, b"two")?, 2);
-    assert!(rt; fs::metadata(rt, other).is_err());
+    assert!(rt; fs::metadata(host, other).is_err());
     drop(store);
-    let mut again = FileKeeper::<S>::new(rt);
+    let mut again = FileKeeper::<S>::new(host);
     assert!(rt; is_first(&mut again, alloc, one, b"one")?);
     assert_eq!(rt; publish(&mut again, alloc, one, b"three")?, 3);
     Ok(())
