@@ -75,7 +75,7 @@ class Office:
 
     def script(self, name, *words, **more):
         """Runs one of the operator's scripts."""
-        return subprocess.run([HERE / 'scripts' / name, *map(str, words)], capture_output=True, text=True, env=self.environment, **more)
+        return subprocess.run([HERE / name, *map(str, words)], capture_output=True, text=True, env=self.environment, **more)
 
     def commands(self, setting, desk):
         """The words of the unit's commands of one kind, for this office."""
@@ -83,7 +83,7 @@ class Office:
 
         def here(word):
             word = settings.get(word.strip('${}'), word.replace('%i', str(desk)))
-            return word.replace('/usr/lib/fares', f'{HERE}/scripts').replace('/usr/bin/fares', self.program)
+            return word.replace('/usr/lib/fares', str(HERE)).replace('/usr/bin/fares', self.program)
         return [[here(words[0].lstrip('+-')), *map(here, words[1:])] for words in lines_of_unit(setting)]
 
     def take_editions(self, desk):
@@ -178,7 +178,7 @@ uwsgi_temp_path {folder}/u; scgi_temp_path {folder}/s; include /etc/nginx/mime.t
 
     def publish(self, path, desks, **settings):
         """Publishes a tariff to desks by the shipped script."""
-        return subprocess.run([HERE / 'scripts' / 'publish-everywhere', path, *map(address_of, desks)], capture_output=True, text=True,
+        return subprocess.run([HERE / 'publish-everywhere', path, *map(address_of, desks)], capture_output=True, text=True,
                               env={**self.environment, 'PAUSE': '0.2', 'PATIENCE': '60', **settings})
 
     def write(self, name, text):

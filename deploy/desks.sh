@@ -95,18 +95,16 @@ whole() {
     sqlite3 "$1" "vacuum into '$2'"
 }
 
-# set_aside FOLDER: a stopped desk's file gets the time into its name, and its log goes with it.
-set_aside() {
-    now=$(date +%Y%m%dT%H%M%S)
-    for end in '' -wal; do
-        [ ! -e "$1/editions$end" ] || mv "$1/editions$end" "$1/editions-before-$now$end"
-    done
+# lay FILE FOLDER: a copy of the file stands beside the desk's, with the folder's owner, and for the owner alone.
+lay() {
+    cp "$1" "$2/editions.new" && chmod 600 "$2/editions.new" && chown --reference "$2" "$2/editions.new"
 }
 
-# put_in_place FILE FOLDER: the file becomes the desk's, with the folder's owner, and for the owner alone.
-put_in_place() {
-    cp "$1" "$2/editions.new"
-    chmod 600 "$2/editions.new"
-    chown --reference "$2" "$2/editions.new"
-    mv "$2/editions.new" "$2/editions"
+# swap FOLDER: of a stopped desk, that copy becomes the file. The former one and its log get the time into their names.
+swap() {
+    now=$(date +%Y%m%dT%H%M%S)
+    for end in '' -wal; do
+        [ ! -e "$1/editions$end" ] || mv "$1/editions$end" "$1/editions-before-$now$end" || return 1
+    done
+    mv "$1/editions.new" "$1/editions"
 }
