@@ -5,6 +5,7 @@ RECORDS ?= 200000
 JOBS ?= $(shell nproc)
 # The built program. It stands beside what `rt` makes, which `make test` sets aside while it runs.
 PROGRAM = build/fares
+SOURCES = crates.txt $(shell find crates -name out -prune -o \( -name '*.rt' -o -name '*.antt' \) -print)
 
 .PHONY: quote try test install deb speed try-store program
 
@@ -40,7 +41,9 @@ try-store: program
 	examples/try-store $(PROGRAM)
 
 # JOBS crates are proved at a time; one `rt run` alone would prove them one after the other.
-program:
+program: $(PROGRAM)
+
+$(PROGRAM): $(SOURCES)
 	rt all check --jobs $(JOBS)
 	cd crates/fares && rt run fares -- price < $(abspath examples/london-rome.txt) > /dev/null
 	install -D crates/fares/out/fares $(PROGRAM)
