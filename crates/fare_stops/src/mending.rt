@@ -105,12 +105,12 @@ fn publishes_again<R: Threads + Sync, P: Keeper>(
 
 #[test]
 fn a_desk_goes_on_after_a_refused_sync(rt: HostRuntime) -> Result<(), Fail> {
-    let mut mended = 0;
+    let mut is_mended = false;
     for calls in 0..MOST_CALLS {
         if goes_on(&rt, rt.alloc(), calls)? {
-            mended += 1;
+            is_mended = true;
         }
     }
-    assert!(rt; mended > 0);
+    assert!(rt; is_mended);
     Ok(())
 }
