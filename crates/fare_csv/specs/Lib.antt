@@ -12,7 +12,7 @@ pub mod FaultText
 pub mod TariffText
 pub mod Pieces
 pub mod Joined
-pub mod Filed
+pub mod Spelled
 pub mod NameList
 pub mod CanonicalText
 pub mod ReadBack

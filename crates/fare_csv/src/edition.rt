@@ -1,7 +1,7 @@
 ghost use Rattle.fare_outside.specs.Memory.{Gives};
 ghost use Rattle.fare_csv.specs.TariffText.{edition_of};
 
-use crate::read_filed::read_filed;
+use crate::spelling::read_spelled;
 use crate::text_fault::TextFault;
 use fare_tariff::Edition;
 use std::alloc::Global;
@@ -17,6 +17,12 @@ pub fn read_edition<R: Threads + Sync>(
 ) -> Result<Edition, TextFault>
     ensures { Gives TextFault.Memory (λ edition. edition) result (edition_of bytes.now) }
 {
-    let filed = read_filed(rt, alloc, bytes)?;
-    Ok(Edition::check(rt, alloc, filed.number, filed.effective, filed.records)?)
+    let spelled = read_spelled(rt, alloc, bytes)?;
+    Ok(Edition::check(
+        rt,
+        alloc,
+        spelled.number,
+        spelled.effective,
+        spelled.records,
+    )?)
 }

@@ -4,7 +4,7 @@ ghost use Rattle.std.specs.Prelude.{◌≡◌, ◌<◌, ◌≤◌, IfOk};
 ghost use Rattle.fare_csv.specs.Head.{head_of, read_version};
 
 use crate::numbers::read_edition_number;
-use crate::read_record::counted;
+use crate::read_plain::counted;
 use crate::rows::Row;
 use crate::text_fault::TextFault;
 use fare_codes::Day;
@@ -30,8 +30,9 @@ pub struct Head {
     pub effective: Day,
 }
 
+/// The version that a field of HEAD spells; nothing where it spells none.
 #[tactic(auto, unfolding(crate::specs::Head::read_version))]
-fn read_version(bytes: &[u8]) -> Option<Version>
+pub fn read_version(bytes: &[u8]) -> Option<Version>
     ensures { result ≡ read_version bytes.now }
 {
     match bytes {
@@ -43,7 +44,7 @@ fn read_version(bytes: &[u8]) -> Option<Version>
 
 /// The HEAD record of a row that begins with `HEAD`.
 #[tactic(auto, unfolding(crate::specs::Head::head_of))]
-pub(crate) fn read_head(row: &Row) -> Result<Head, TextFault>
+pub fn read_head(row: &Row) -> Result<Head, TextFault>
     ensures value { result ≡ head_of row.now }
     ensures range { IfOk result (λ head. (0 < head.number) × (head.number ≤ LAST_EDITION)) }
 {

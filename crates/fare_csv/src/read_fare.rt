@@ -5,7 +5,7 @@ ghost use Rattle.fare_csv.specs.RecordText.{fare_key_of, fare_of, fare_one_of, f
 ghost use Rattle.fare_csv.specs.RecordText.{read_fare_rule};
 
 use crate::head::Version;
-use crate::read_record::counted;
+use crate::read_plain::counted;
 use crate::rows::Row;
 use crate::text_fault::TextFault;
 use fare_codes::{

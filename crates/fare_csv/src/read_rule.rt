@@ -5,7 +5,7 @@ ghost use Rattle.fare_outside.specs.Memory.{Gives};
 ghost use Rattle.fare_csv.specs.RecordText.{read_excess, rule_of};
 
 use crate::name_list::read_names;
-use crate::read_record::counted;
+use crate::read_plain::counted;
 use crate::rows::Row;
 use crate::text_fault::TextFault;
 use fare_codes::{RuleId, read_number};

@@ -1,15 +1,14 @@
 //! The records of a text, row by row.
 
-ghost use Rattle.std.specs.Prelude.{◌≡◌, [], ◌∷◌, ◌<◌, ◌≤◌, IfOk, Ok, codes, bytes_eq};
+ghost use Rattle.std.specs.Prelude.{◌≡◌, [], ◌∷◌, ◌<◌, ◌≤◌, IfOk, Ok};
 ghost use Rattle.fare_outside.specs.Memory.{Gives};
-ghost use Rattle.fare_csv.specs.Fields.{field};
 ghost use Rattle.fare_csv.specs.TariffText.{end_of, record_of, records_of, tariff_of};
-ghost use Rattle.fare_csv.specs.Filed.{filed_tariff};
+ghost use Rattle.fare_csv.specs.Spelled.{is_end, is_head, spelled_tariff};
 ghost use Rattle.fare_csv.specs.Rows.{rows_of};
 
 use crate::head::{Version, read_head};
 use crate::read_fare::read_fare;
-use crate::read_record::{
+use crate::read_plain::{
     counted, read_allowance, read_city, read_currency, read_mileage, read_pair,
 };
 use crate::read_rule::read_rule;
@@ -20,9 +19,9 @@ use fare_codes::Day;
 use fare_tariff::{FiledRule, LAST_EDITION, Record};
 use std::alloc::Global;
 
-/// The record of a row that isn't END, by its first field.
+/// The record of a row that isn't END, by its first field, or its fault, which has this number.
 #[tactic(auto, unfolding(crate::specs::TariffText::record_of, crate::specs::TariffText::record_of_kind))]
-pub(crate) fn read_record(
+pub fn read_record(
     alloc: Global,
     row: &Row,
     version: Version,
@@ -48,8 +47,8 @@ pub(crate) fn read_record(
 }
 
 /// Whether a row is that of END, by its first field.
-fn is_end(row: &Row) -> bool
-    ensures { result ≡ bytes_eq (field row.now 0) (codes "END") }
+pub fn is_end(row: &Row) -> bool
+    ensures { result ≡ is_end row.now }
 {
     matches!(row.field(0), b"END")
 }
@@ -90,24 +89,27 @@ pub(crate) fn read_records(
 
 /// What a text spells, before its records are checked against one another.
 #[derive(Drop)]
-pub(crate) struct Filed {
+pub struct Spelled {
+    /// The number of the edition, 1 to 99,999.
     pub number: u32,
+    /// The day from which the edition may be selected.
     pub effective: Day,
+    /// The records between HEAD and END.
     pub records: Vec<Record>,
 }
 
 /// Whether a row is that of HEAD, by its first field.
-pub(crate) fn is_head(row: &Row) -> bool
-    ensures { result ≡ bytes_eq (field row.now 0) (codes "HEAD") }
+pub fn is_head(row: &Row) -> bool
+    ensures { result ≡ is_head row.now }
 {
     matches!(row.field(0), b"HEAD")
 }
 
 /// HEAD and the records of a text, row by row.
 #[tactic(auto, unfolding(crate::specs::TariffText::headed, crate::specs::TariffText::tariff_of))]
-pub(crate) fn read_in_order(alloc: Global, bytes: &[u8]) -> Result<Filed, TextFault>
-    ensures reading { Gives TextFault.Memory filed_tariff result (tariff_of (rows_of bytes.now)) }
-    ensures range { IfOk result (λ filed. (0 < filed.number) × (filed.number ≤ LAST_EDITION)) }
+pub(crate) fn read_in_order(alloc: Global, bytes: &[u8]) -> Result<Spelled, TextFault>
+    ensures reading { Gives TextFault.Memory spelled_tariff result (tariff_of (rows_of bytes.now)) }
+    ensures range { IfOk result (λ spelled. (0 < spelled.number) × (spelled.number ≤ LAST_EDITION)) }
 {
     let mut rows = Rows::new(alloc, bytes);
     let mut row = Row::new(alloc);
@@ -116,7 +118,7 @@ pub(crate) fn read_in_order(alloc: Global, bytes: &[u8]) -> Result<Filed, TextFa
     }
     let head = read_head(&row)?;
     let records = read_records(alloc, &mut rows, head.version)?;
-    Ok(Filed {
+    Ok(Spelled {
         number: head.number,
         effective: head.effective,
         records,

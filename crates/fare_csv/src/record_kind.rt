@@ -16,7 +16,7 @@ pub enum RecordKind {
 impl RecordKind {
     /// The kind that a record's first field names.
     #[tactic(auto, unfolding(crate::specs::RecordKind::kind_named))]
-    pub(crate) fn named(name: &[u8]) -> Option<RecordKind>
+    pub fn named(name: &[u8]) -> Option<RecordKind>
         ensures { result ≡ kind_named name.now }
     {
         if name == b"CITY".as_slice() {

@@ -1,4 +1,4 @@
-use crate::read_filed::read_at_once;
+use crate::spelling::read_at_once;
 use crate::{edition_text, read_edition, text_reads_back, text_tells};
 use arrayvec::ArrayString;
 use std::alloc::Global;

@@ -7,7 +7,7 @@ use Rattle.std.proofs.lemmas.Option.{same_Some, slice_get_within, get_or_from_sl
 use Rattle.fare_codes.specs.declared.city.City.{City}
 use Rattle.fare_codes.specs.declared.indicator.Indicator.{Indicator}
 use Rattle.fare_index.specs.declared.key.Key.TheVariants.{Fares}
-use Rattle.fare_tariff.specs.declared.limits.TheConstants.{MOST_RECORDS}
+use Rattle.fare_tariff.specs.declared.limits.TheConstants.{MOST_PLACES, MOST_RECORDS}
 use Rattle.fare_tariff.specs.declared.records.record.Record.{Record}
 use Rattle.fare_tariff.specs.declared.records.record.Record.TheVariants as filed
 use Rattle.fare_tariff.specs.Check.{first_fault}
@@ -63,10 +63,10 @@ module _ (tariff : Tariff) (number : ℕ) (fare : FareRecord) (filed_there : far
   -- and it is that of a record of the list
   pub next_within : (next : Option ℕ)
       → ((d : Record) → next ≡ position_from (has_own_key (own_key (get_or tariff.records (number - 2) d))) (number - 2 + 1) (drop (number - 2 + 1) tariff.records))
-      → length tariff.records ≤ MOST_RECORDS → IfSome next (λ place. place < MOST_RECORDS)
+      → length tariff.records ≤ MOST_RECORDS → IfSome next (λ place. place < MOST_PLACES)
   next_within next found few =
       let own = own_key (get_or tariff.records (number - 2) (filed.Fare fare)) in
-      of_value next (λ place. place < MOST_RECORDS) (λ place there.
+      of_value next (λ place. place < MOST_PLACES) (λ place there.
       let at = found_from (has_own_key own) (number - 2 + 1) (drop (number - 2 + 1) tariff.records) place (sym (found (filed.Fare fare)) ∙ there) in
       omega (arith, at.within, length-drop (number - 2 + 1) tariff.records, few, fare_within))
 

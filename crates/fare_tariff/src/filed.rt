@@ -20,7 +20,7 @@ use std::thread::Threads;
 
 /// A list of records in which each is found by its key. It is seen as the list.
 #[derive(Drop)]
-pub(crate) struct Filed {
+pub struct Filed {
     records: Vec<Record>,
     index: Index,
     towns: Towns,
@@ -40,7 +40,7 @@ impl Model for Filed {
 
 impl Filed {
     /// The records with the places of their keys.
-    pub(crate) fn of<R: Threads + Sync>(
+    pub fn of<R: Threads + Sync>(
         rt: &R,
         alloc: Global,
         records: Vec<Record>,
@@ -58,7 +58,7 @@ impl Filed {
     }
 
     /// The records, in their order.
-    pub(crate) fn records(&self) -> &[Record]
+    pub fn records(&self) -> &[Record]
         ensures records { result.now ≡ self.now }
         ensures amounts { list_all has_amount_in_range self.now ≡ true }
     {

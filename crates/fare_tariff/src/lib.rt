@@ -21,12 +21,13 @@ mod records;
 mod seasons;
 mod towns;
 
-pub use check::{CheckFault, CheckKind};
+pub use check::{CheckFault, CheckKind, fault_at, is_unknown_city};
 pub use edition::Edition;
+pub use filed::Filed;
 pub use laws::{fare_of_a_day_is_one, fares_come_in_turn};
 pub use limits::{
     LAST_EDITION, MOST_DAYS, MOST_DECIMALS, MOST_FARES_BETWEEN, MOST_MILES, MOST_NAMES,
-    MOST_RECORDS, MOST_STOPS, MOST_TRANSFERS, MOST_UNIT,
+    MOST_PLACES, MOST_RECORDS, MOST_STOPS, MOST_TRANSFERS, MOST_UNIT,
 };
 pub use records::{
     CityRec, CurRec, EmaRec, FareKey, FareRec, FiledRule, MileRec, Names, PairRec, Record,

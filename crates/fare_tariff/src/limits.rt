@@ -6,6 +6,9 @@ pub const LAST_EDITION: u32 = 99_999;
 /// An edition has at most this many records between its HEAD and its END.
 pub const MOST_RECORDS: usize = 400_000;
 
+/// A list has at most this many places of which the number of each record takes four bytes.
+pub const MOST_PLACES: usize = 4_294_967_294;
+
 /// An edition has at most this many fares of one from, to and global indicator.
 pub const MOST_FARES_BETWEEN: usize = 64;
 

@@ -5,7 +5,7 @@ ghost use Rattle.fare_tariff.specs.Check.{key_of, has_key_of, first_number, over
 ghost use Rattle.fare_tariff.specs.Keyed.{before};
 
 use crate::filed::{Filed, own_key};
-use crate::limits::MOST_RECORDS;
+use crate::limits::MOST_PLACES;
 use crate::look_up::{Sought, first_fare, number_at};
 use crate::records::{FareKey, FareRec, Record};
 
@@ -48,7 +48,7 @@ fn first_of_key(filed: &Filed, one: &Record) -> Option<usize>
 /// The number of the first record before a place with the key of a record.
 #[tactic(auto, using(crate::proofs::Places::position_before))]
 pub(crate) fn duplicate_of(filed: &Filed, place: usize, one: &Record) -> Option<u32>
-    requires { place ≤ MOST_RECORDS }
+    requires { place ≤ MOST_PLACES }
     ensures { result ≡ first_number (has_key_of one.now) (take place filed.now) }
 {
     number_at(before(place, first_of_key(filed, one)))
@@ -57,7 +57,7 @@ pub(crate) fn duplicate_of(filed: &Filed, place: usize, one: &Record) -> Option<
 /// The number of the first fare before a place with a record's key whose season overlaps its season.
 #[tactic(auto, using(crate::proofs::Places::position_before))]
 pub(crate) fn overlap_of(filed: &Filed, place: usize, one: &Record) -> Option<u32>
-    requires { place ≤ MOST_RECORDS }
+    requires { place ≤ MOST_PLACES }
     ensures { result ≡ overlap_of (take place filed.now) one.now }
 {
     match one {

@@ -12,7 +12,7 @@ use crate::check::names::{
 use crate::check::numbers::{has_same_points, is_one_too_many, is_zero_mileage};
 use crate::check::{CheckFault, CheckKind};
 use crate::filed::Filed;
-use crate::limits::MOST_RECORDS;
+use crate::limits::{MOST_PLACES, MOST_RECORDS};
 use crate::records::Record;
 use rayon::prelude::*;
 use std::marker::Sync;
@@ -22,7 +22,7 @@ use std::thread::Threads;
 #[tactic(auto, unfolding(crate::specs::Check::kind_of))]
 fn kind_of(filed: &Filed, place: usize, one: &Record) -> Option<CheckKind>
     requires within { place ≤ length filed.now }
-    requires in_limit { place ≤ MOST_RECORDS }
+    requires in_limit { place ≤ MOST_PLACES }
     ensures kind { result ≡ kind_of filed.now (take place filed.now) one.now }
     ensures within { IfNone result (place < MOST_RECORDS) }
 {
@@ -87,10 +87,10 @@ fn first_faulty<R: Threads + Sync>(rt: &R, filed: &Filed) -> Option<usize>
     )
 }
 
-/// The fault of the record at a place.
-fn fault_at(filed: &Filed, place: usize) -> Option<CheckFault>
+/// The fault of the record at a place, by the least of its kinds; nothing where it has none.
+pub fn fault_at(filed: &Filed, place: usize) -> Option<CheckFault>
     requires within { place < length filed.now }
-    requires in_limit { place ≤ MOST_RECORDS }
+    requires in_limit { place < MOST_PLACES }
     ensures { result ≡ fault_of filed.now place }
 {
     let one = &filed.records()[place];

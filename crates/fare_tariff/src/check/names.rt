@@ -32,7 +32,7 @@ fn has_no_place(filed: &Filed, city: City) -> bool
 }
 
 /// Whether a city has no record.
-fn is_unknown_city(filed: &Filed, city: City) -> bool
+pub fn is_unknown_city(filed: &Filed, city: City) -> bool
     ensures { result ≡ is_unknown_city filed.now city }
 {
     if is_guessed(filed, city) {

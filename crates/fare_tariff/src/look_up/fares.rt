@@ -9,7 +9,7 @@ ghost use Rattle.fare_tariff.specs.Lookup.{fare_number, fare_at, nth_fare, next_
 
 use crate::edition::Edition;
 use crate::filed::Filed;
-use crate::limits::{MOST_FARES_BETWEEN, MOST_RECORDS};
+use crate::limits::{MOST_FARES_BETWEEN, MOST_PLACES, MOST_RECORDS};
 use crate::look_up::seek::{Sought, first_fare};
 use crate::records::{FareKey, FareRec, Record, same_rules};
 use fare_codes::{City, FARE_LIMIT, Indicator, MonthDay};
@@ -101,7 +101,7 @@ pub(crate) fn has_key(key: &FareKey, fare: &FareRec) -> bool
 
 /// The record number of the record at a place.
 pub(crate) fn number_at(place: Option<usize>) -> Option<u32>
-    requires { IfSome place (λ at. at < MOST_RECORDS) }
+    requires { IfSome place (λ at. at < MOST_PLACES) }
     ensures { result ≡ option_map number_at place }
 {
     match place {

@@ -1,5 +1,5 @@
 -- the fault is that at the first place
-use Rattle.std.proofs.Common.{ap, sym, ◌∙◌, option_and_then}
+use Rattle.std.proofs.Common.{arith, ap, sym, ◌∙◌, option_and_then}
 use Rattle.fare_tariff.specs.Faulty.{fault_of}
 use Rattle.fare_tariff.proofs.FaultPlaces.{fault_of_first, faulty_within, faulty_in_limit}
 use Rattle.fare_tariff.proofs.check.kind.first_fault.Goals as goal
@@ -8,7 +8,7 @@ pub fault_at-requires-clause-within : goal.fault_at-requires-clause-within
 fault_at-requires-clause-within g c = faulty_within c.args.filed.now c.in-Some.place (sym c.in-Some.ensures)
 
 pub fault_at-requires-clause-in_limit : goal.fault_at-requires-clause-in_limit
-fault_at-requires-clause-in_limit g c = faulty_in_limit c.args.filed.now c.in-Some.place (sym c.in-Some.ensures)
+fault_at-requires-clause-in_limit g c = omega (arith, faulty_in_limit c.args.filed.now c.in-Some.place (sym c.in-Some.ensures))
 
 pub returns-in-None : goal.returns-in-None
 returns-in-None g c = ap (option_and_then (fault_of c.args.filed.now)) c.in-None.ensures ∙ sym (fault_of_first c.args.filed.now)

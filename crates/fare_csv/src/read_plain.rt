@@ -12,7 +12,7 @@ use fare_tariff::{CityRec, CurRec, EmaRec, MOST_MILES, MileRec, PairRec};
 
 /// Refuses a row that has another count of fields.
 #[tactic(auto, unfolding(crate::specs::Fields::counted))]
-pub(crate) fn counted(row: &Row, number: u32, count: usize) -> Result<(), TextFault>
+pub fn counted(row: &Row, number: u32, count: usize) -> Result<(), TextFault>
     ensures { result ≡ counted number count row.now }
 {
     if row.len() == count {

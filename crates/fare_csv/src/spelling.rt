@@ -3,7 +3,7 @@
 
 ghost use Rattle.std.specs.Prelude.{◌≡◌, ◌<◌, ◌≤◌, IfOk, Ok};
 ghost use Rattle.fare_outside.specs.Memory.{Gives};
-ghost use Rattle.fare_csv.specs.Filed.{filed_tariff};
+ghost use Rattle.fare_csv.specs.Spelled.{spelled_tariff};
 ghost use Rattle.fare_csv.specs.Pieces.{IsHeadAlone};
 ghost use Rattle.fare_csv.specs.Rows.{rows_of};
 ghost use Rattle.fare_csv.specs.TariffText.{tariff_of};
@@ -11,7 +11,7 @@ ghost use Rattle.fare_csv.specs.TariffText.{tariff_of};
 use crate::head::{Head, read_head};
 use crate::pieces::{NotInPieces, behind_line, is_whole};
 use crate::read_pieces::read_body;
-use crate::read_text::{Filed, is_head, read_in_order};
+use crate::read_text::{Spelled, is_head, read_in_order};
 use crate::rows::{Row, Rows};
 use crate::text_fault::TextFault;
 use fare_tariff::LAST_EDITION;
@@ -45,9 +45,9 @@ pub(crate) fn read_at_once<R: Threads + Sync>(
     rt: &R,
     alloc: Global,
     text: &[u8],
-) -> Result<Filed, NotInPieces>
-    ensures reading { IfOk result (λ filed. tariff_of (rows_of text.now) ≡ Ok (filed_tariff filed)) }
-    ensures range { IfOk result (λ filed. (0 < filed.number) × (filed.number ≤ LAST_EDITION)) }
+) -> Result<Spelled, NotInPieces>
+    ensures reading { IfOk result (λ spelled. tariff_of (rows_of text.now) ≡ Ok (spelled_tariff spelled)) }
+    ensures range { IfOk result (λ spelled. (0 < spelled.number) × (spelled.number ≤ LAST_EDITION)) }
 {
     if text.len() < LONG {
         return Err(NotInPieces);
@@ -58,7 +58,7 @@ pub(crate) fn read_at_once<R: Threads + Sync>(
     }
     let head = read_head_alone(alloc, first)?;
     let records = read_body(rt, alloc, body, head.version)?;
-    Ok(Filed {
+    Ok(Spelled {
         number: head.number,
         effective: head.effective,
         records,
@@ -66,16 +66,16 @@ pub(crate) fn read_at_once<R: Threads + Sync>(
 }
 
 /// HEAD and the records of a text, or its first fault.
-pub(crate) fn read_filed<R: Threads + Sync>(
+pub fn read_spelled<R: Threads + Sync>(
     rt: &R,
     alloc: Global,
     text: &[u8],
-) -> Result<Filed, TextFault>
-    ensures reading { Gives TextFault.Memory filed_tariff result (tariff_of (rows_of text.now)) }
-    ensures range { IfOk result (λ filed. (0 < filed.number) × (filed.number ≤ LAST_EDITION)) }
+) -> Result<Spelled, TextFault>
+    ensures reading { Gives TextFault.Memory spelled_tariff result (tariff_of (rows_of text.now)) }
+    ensures range { IfOk result (λ spelled. (0 < spelled.number) × (spelled.number ≤ LAST_EDITION)) }
 {
     match read_at_once(rt, alloc, text) {
-        Ok(filed) => Ok(filed),
+        Ok(spelled) => Ok(spelled),
         Err(_) => read_in_order(alloc, text),
     }
 }
