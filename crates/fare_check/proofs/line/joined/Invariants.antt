@@ -1,0 +1,7 @@
+-- the fields before this one, joined
+use Rattle.std.proofs.Common.{◌≡◌, take}
+use Rattle.std.specs.List.{join_with_byte}
+use Rattle.fare_check.proofs.line.joined.Given as goal
+
+abbrev pub invariant-loop-i : goal.invariant-loop-i
+invariant-loop-i l = l.text.items ≡ join_with_byte 44 (take l.i l.row)

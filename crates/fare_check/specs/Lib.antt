@@ -1,0 +1,10 @@
+pub use Rattle.fare_csv.specs.Rows
+pub use Rattle.fare_csv.specs.TariffText
+pub use Rattle.fare_csv.specs.FaultText
+pub use Rattle.fare_tariff.specs.Check
+pub mod Faults
+pub mod FieldNames
+pub mod Shapes
+pub mod Sentences
+pub mod CheckText
+pub mod Reports

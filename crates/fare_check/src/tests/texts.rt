@@ -1,0 +1,70 @@
+//! Tariff texts with their check texts.
+
+/// A tariff text, and its check text.
+pub(super) struct Case {
+    pub text: &'static [u8],
+    pub answer: &'static [u8],
+}
+
+/// Broken tariffs, and one without a fault.
+pub(super) static WORKED: [Case; 5] = [
+    // Six records that can't be read, and no END.
+    Case {
+        text: b"HEAD,1,1,2025-01-01\nCUR,GB,GBP,0.750000,0,1\nCITY,LON,GB,2\nCITY,ROM,IT,4\nfare,LON,ROM,EH,YY,Y,OW,,400.00\nFARE,LON,ROM,EH,YY,W,OW,,400.00\nFARE,LON,ROM,EH,YY,Y,OW,,400\nRULE,FLEX,5,5,0,3,365,Y,*,A  B\n",
+        answer: b"TARIFF 2 BadRecord 0  CUR,GB,GBP,0.750000,0,1  the number of fields is 6, and for CUR it is 7\nTARIFF 4 BadRecord 4  CITY,ROM,IT,4  field 4 (area) has to be 1, 2 or 3\nTARIFF 5 UnknownRecord  fare,LON,ROM,EH,YY,Y,OW,,400.00  field 1 is none of CUR, CITY, RULE, FARE, MPM, TPM, EMA and END\nTARIFF 6 BadRecord 6  FARE,LON,ROM,EH,YY,W,OW,,400.00  field 6 (class) has to be F, C or Y\nTARIFF 7 BadRecord 9  FARE,LON,ROM,EH,YY,Y,OW,,400  field 9 (amount) has to be an amount from 0.00 to 9999999.99 with two decimals\nTARIFF 8 BadRecord 10  RULE,FLEX,5,5,0,3,365,Y,*,A  B  field 10 (ends) has to be *, or empty, or 1 to 64 names with one space between, a name being a rule's id or -\nTARIFF 9 NoEnd  the text has no END record\n",
+    },
+    // Records that can be read, of which five have no place beside the others.
+    Case {
+        text: b"HEAD,1,1,2025-01-01\nCUR,GB,GBP,0.750000,0,1,U\nCUR,FR,EUR,0.900000,2,1,N\nCUR,IT,EUR,0.900000,2,1,N\nCITY,LON,GB,2\nCITY,ROM,IT,2\nFARE,LON,ROM,EH,YY,Y,OW,FLEX,400.00\nTPM,LON,PAR,300\nTPM,PAR,ROM,700\nTPM,PAR,LON,300\nTPM,ROM,ROM,0\nMPM,LON,ROM,EH,1000\nEND\n",
+        answer: b"TARIFF 7 UnknownRule  FARE,LON,ROM,EH,YY,Y,OW,FLEX,400.00  the rule FLEX has no RULE record\nTARIFF 8 UnknownCity  TPM,LON,PAR,300  the city PAR has no CITY record\nTARIFF 9 UnknownCity  TPM,PAR,ROM,700  the city PAR has no CITY record\nTARIFF 10 Duplicate 8  TPM,PAR,LON,300  its key is that of record 8\nTARIFF 11 SamePoint  TPM,ROM,ROM,0  its two cities are equal\n",
+    },
+    // A record that can't be read, beside two of one key.
+    Case {
+        text: b"HEAD,1,1,2025-01-01\nCUR,GB,GBP,0.750000,0,1,U\nCUR,FR,EUR,0.900000,2,1,N\nCUR,IT,EUR,0.900000,2,1,N\nCITY,LON,GB,2\nCITY,PAR,FR,2\nCITY,ROM,IT,2\nFARE,LON,ROM,EH,YY,Y,OW,,400\nTPM,LON,PAR,300\nTPM,PAR,LON,700\nMPM,LON,ROM,EH,1000\nEND\n",
+        answer: b"TARIFF 8 BadRecord 9  FARE,LON,ROM,EH,YY,Y,OW,,400  field 9 (amount) has to be an amount from 0.00 to 9999999.99 with two decimals\n",
+    },
+    // An edition.
+    Case {
+        text: b"HEAD,1,7,2025-01-01\nCUR,GB,GBP,0.750000,0,1,U\nCUR,DE,EUR,0.900000,2,1,N\nCUR,JP,JPY,110.000000,0,100,U\nCUR,US,USD,1.000000,2,1,N\nCITY,LON,GB,2\nCITY,FRA,DE,2\nCITY,TYO,JP,3\nCITY,LAX,US,1\nCITY,NYC,US,1\nRULE,FLEX,5,5,0,3,365,Y,*,*\nFARE,LON,TYO,EH,YY,Y,HR,FLEX,1200.00\nFARE,LON,TYO,AP,YY,Y,HR,FLEX,1500.00\nFARE,LON,LAX,PA,YY,Y,HR,FLEX,1300.00\nFARE,LON,NYC,PA,YY,Y,HR,FLEX,1400.00\nFARE,LON,LAX,AT,YY,Y,HR,FLEX,900.00\nFARE,LON,NYC,AT,YY,Y,HR,FLEX,700.00\nTPM,LON,FRA,400\nTPM,FRA,TYO,5900\nTPM,TYO,LAX,5450\nTPM,LAX,NYC,2470\nTPM,NYC,LON,3450\nMPM,LON,TYO,EH,7400\nMPM,LON,TYO,AP,11000\nEND\n",
+        answer: b"CHECKED 7 2025-01-01 23\n",
+    },
+    // A text that is no tariff.
+    Case {
+        text: b"junk\n",
+        answer: b"TARIFF 1 NoHeader  junk  the first record isn't HEAD\nTARIFF 2 NoEnd  the text has no END record\n",
+    },
+];
+
+/// One tariff for each further kind of fault, answered by another program.
+pub(super) static OTHERS: [Case; 6] = [
+    // A version that is left open, so each FARE is read by its own count of fields.
+    Case {
+        text: b"HEAD,,49,2025-01-01\nFARE,PAR,LYS,EH,YY,Y,OW,,443.93\nTPM,MIL,PAR,1016\nRULE,A,16,16,0,0,365,N,*,*\nCITY,LYS,FR,2\nFARE,MIL,LYS,EH,Q1,Y,OW,,350.00\nFARE,PAR,MIL,EH,Q1,Y,OW,,100.00\nFARE,MIL,PAR,EH,Q1,Y,OW,,200.00\nTPM,LYS,PAR,3291\nRULE,SAVER21,16,16,21,0,30,Y,*,*\nFARE,MIL,LYS,EH,YY,Y,HR,,250.00\nFARE,PAR,MIL,EH,YY,Y,OW,,100.00\nFARE,PAR,MIL,EH,YY,Y,HR,,150.00\nHEAD,1\nFARE,MIL,LYS,EH,Q1,Y,HR,,431.99\nFARE,LYS,MIL,EH,Q1,Y,HR,,238.75\nFARE,PAR,MIL,EH,Q1,Y,HR,,139.53\nFARE,MIL,PAR,EH,YY,Y,HR,,100.00\nMPM,MIL,LYS,EH,4541\nFARE,LYS,MIL,EH,YY,Y,HR,,219.38\nFARE,PAR,MIL,AP,YY,Y,HR,,160.23\nFARE,MIL,LYS,EH,YY,Y,OW,,350.00\nFARE,LYS,PAR,EH,Q1,Y,HR,,444.07\nFARE,MIL,PAR,EH,YY,Y,OW,,200.00\nFARE,PAR,MIL,PA,Q1,Y,HR,,207.60\nFARE,MIL,PAR,EH,Q1,Y,HR,,150.00\nFARE,PAR,LYS,,EH,Q1,Y,OW,,300.00\nEMA,LYS,MIL,EH,XXX,430\nCUR,IT,EUR,1234567.654321,1,1,U\n,TPM,MIL,LYS,2309\nCITY,MIL,IT,2\nFARE,MIL,LYS,PA,Q1,Y,HR,,300.00\nFARE,PAR,LYS,EH,Q1,Y,HR,,463.80\nCITY,PAR,FR,2\nRULE,FLEX,2,2,0,3,999,Y,*,*\nFARE,PAR,LYS,AP,YY,Y,OW,,576.38\nFARE,LYS,MIL,EH, ,Y,OW,,250.00\nMPM,PAR,MIL,EH,4546\nFARE,LYS,MIL,EH,Q1,Y,OW,,300.00\nFARE,LYS,PAR,EH,YY,Y,HR,,450.00\nEND\n",
+        answer: b"TARIFF 1 BadRecord 2  HEAD,,49,2025-01-01  field 2 (version) has to be 1 or 2\nTARIFF 14 UnknownRecord  HEAD,1  field 1 is none of CUR, CITY, RULE, FARE, MPM, TPM, EMA and END\nTARIFF 27 BadRecord 0  FARE,PAR,LYS,,EH,Q1,Y,OW,,300.00  the number of fields is 10, and for FARE it is 9 or 11\nTARIFF 30 UnknownRecord  ,TPM,MIL,LYS,2309  field 1 is none of CUR, CITY, RULE, FARE, MPM, TPM, EMA and END\nTARIFF 37 BadRecord 5  FARE,LYS,MIL,EH, ,Y,OW,,250.00  field 5 (carrier) has to be two characters A to Z or 0 to 9\n",
+    },
+    // A second END.
+    Case {
+        text: b"HEAD,2,70,2025-01-01\r\nCITY,OSA,JP,3\r\nCUR,AU,AUD,1.000000,2,10000,N\r\nCUR,JP,JPY,0.750000,2,10,U\r\nFARE,YYZ,OSA,AT,YY,Y,OW,,10-24,10-11,150.00\r\nFARE,YYZ,OSA,PA,YY,Y,HR,,10-25,06-12,150.00\r\nTPM,YYZ,SYD,142\r\nCITY,YYZ,CA,1\r\nFARE,OSA,YYZ,PA,YY,Y,HR,FLEX,01-01,12-31,102.67\r\nCITY,SYD,AU,3\r\nFARE,YYZ,OSA,PA,YY,Y,HR,,06-13,10-24,124.06\r\nFARE,OSA,YYZ,PA,YY,Y,OW,,01-01,12-31,100.00\r\nRULE,A,2,16,3,6,365,Y,,*\r\nFARE,OSA,YYZ,AT,YY,Y,HR,,01-01,12-31,138.36\r\nTPM,YYZ,LYS,1252\r\nCITY,LYS,FR,2\r\nRULE,SAVER21,1,2,0,3,15,Y,*,SAVER21 -\r\nFARE,YYZ,OSA,AT,YY,Y,HR,,01-01,12-31,150.00\r\nCITY,ROM,IT,2\r\nCUR,FR,EUR,1234567.654321,1,10000,U\r\nCUR,CA,CAD,1.000000,1,1,N\r\nCUR,IT,EUR,1234567.654321,2,10,N\r\nTPM,ROM,LYS,1350\r\nEND\r\nEND\r\n",
+        answer: b"TARIFF 25 AfterEnd  END  the record stands behind END\n",
+    },
+    // Two fares whose seasons share a day.
+    Case {
+        text: b"HEAD,2,35,2025-01-01\rCUR,FR,EUR,110.000000,1,1,N\rCUR,GB,GBP,110.000000,1,10,N\rCUR,IT,\"EUR\",0.750000,0,100,N\rCITY,LYS,FR,3\rCITY,MAN,GB,2\rCITY,MIL,IT,2\rRULE,FLEX,2,16,0,0,7,Y,SAVER21 A GHOST,*\rRULE,A,16,16,3,0,30,Y,*,GHOST SAVER21 FLEX A\rRULE,SAVER21,16,16,0,1,7,\"Y\",- SAVER21,*\rFARE,MAN,LYS,EH,Q2,Y,HR,A,11-10,05-11,350.00\rFARE,LYS,MAN,EH,YY,Y,OW,,10-14,11-12,300.00\rFARE,LYS,MAN,EH,YY,Y,OW,,11-13,11-27,334.58\rFARE,LYS,MAN,EH,YY,Y,OW,,11-28,10-13,500.00\rFARE,LYS,MAN,EH,YY,Y,HR,,11-07,10-01,246.42\rFARE,MAN,LYS,EH,YY,Y,HR,,06-28,09-07,\"320.39\"\rFARE,LYS,MAN,EH,Q2,Y,OW,FLEX,01-01,12-31,588.89\rFARE,LYS,MAN,EH,Q2,Y,HR,FLEX,01-01,12-31,450.00\rFARE,MAN,LYS,EH,Q2,Y,HR,FLEX,01-01,12-31,550.00\rFARE,LYS,MAN,EH,Q2,Y,OW,A,\"01-01\",12-31,411.88\rFARE,LYS,MAN,EH,Q2,Y,HR,A,04-05,11-04,400.00\rFARE,LYS,MAN,EH,Q2,Y,HR,A,11-05,04-04,393.11\rFARE,MAN,LYS,EH,Q2,Y,HR,A,01-01,12-31,350.00\rFARE,MAN,LYS,EH,YY,Y,OW,,12-06,12-15,450.00\rFARE,MAN,LYS,EH,YY,Y,OW,,12-16,12-05,350.00\rFARE,MAN,LYS,EH,Q2,Y,OW,FLEX,12-12,12-20,\"504.71\"\rFARE,MAN,LYS,EH,Q2,Y,OW,FLEX,12-21,12-11,550.00\rFARE,\"MAN\",LYS,EH,Q2,Y,OW,A,01-01,12-31,476.29\rFARE,MIL,LYS,AP,Q2,Y,OW,FLEX,01-01,12-31,200.00\rTPM,LYS,MAN,2573\rEND\r",
+        answer: b"TARIFF 23 Overlap 11  FARE,MAN,LYS,EH,Q2,Y,HR,A,01-01,12-31,350.00  its season shares a day with that of record 11, whose key is the same but for the season\n",
+    },
+    // A FARE of version 2 without a field.
+    Case {
+        text: b"HEAD,2,36,2025-01-01\r\r\rCUR,DE,EUR,1234567.654321,1,1,N\r\r\rCUR,GB,GBP,1.000000,2,5,U\rCUR,IT,EUR,1.000000,2,1,N\rCITY,FRA,DE,2\rCITY,LON,GB,2\rCITY,MAN,GB,2\rCITY,ROM,IT,2\r\"FARE\",FRA,ROM,EH,YY,Y,OW,,02-14,03-31,250.00\rFARE,FRA,\"ROM\",EH,YY,Y,OW,,04-01,02-13,240.68\rFARE,FRA,ROM,EH,YY,Y,HR,,01-01,12-31,215.92\rFARE,FRA,ROM,EH,YY,Y,OW,A,07-07,11-22,350.00\rFARE,ROM,FRA,EH,YY,\"Y\",HR,A,09-28,356.84\r\"FARE\",ROM,FRA,EH,YY,*,HR,A,09-29,05-08,250.00\rFARE,FRA,ROM,EH,Q1,F,HR,A,01-01,12-31,899.90\rFARE,ROM,FRA,EH,Q1,F,HR,A,02-19,04-19,513.10\rFARE,ROM,FRA,EH,Q1,F,HR,A,04-20,01-12,\"600.00\"\rFARE,ROM,FRA,EH,YY,Y,OW,,01-01,12-31,250.00\rFARE,ROM,FRA,EH,YY,Y,HR,,01-01,12-31,236.31\rFARE,FRA,ROM,EH,YY,Y,HR,A,01-01,12-31,200.00\rFARE,ROM,FRA,EH,Q1,F,OW,A,08-30,09-04,750.00\rFARE,LON,ROM,WH,YY,Y,OW,,04-05,12-06,266.98\rFARE,LON,ROM,\"WH\",YY,Y,OW,\"\",12-07,04-04,242.07\rTPM,FRA,LON,2977\rTPM,\"FRA\",ROM,1600\r\"END\"\r",
+        answer: b"TARIFF 13 BadRecord 0  FARE,ROM,FRA,EH,YY,Y,HR,A,09-28,356.84  the number of fields is 10, and for FARE in version 2 it is 11\nTARIFF 14 BadRecord 6  FARE,ROM,FRA,EH,YY,*,HR,A,09-29,05-08,250.00  field 6 (class) has to be F, C or Y\n",
+    },
+    // A city whose country has no currency.
+    Case {
+        text: b"HEAD,2,5,\"2025-01-01\"\nFARE,FRA,LON,EH,YY,Y,OW,,07-26,04-19,150.00\nTPM,MAN,LON,2029\nTPM,MAN,LYS,891\nCUR,FR,EUR,1234567.654321,2,10,U\nFARE,LON,FRA,EH,YY,Y,HR,,08-01,02-12,200.00\nCITY,PAR,FR,2\nFARE,LYS,MAN,EH,YY,Y,HR,\"\",01-19,07-19,102.47\nFARE,FRA,LON,EH,YY,Y,OW,,04-20,07-25,\"250.00\"\nCITY,\"FRA\",DE,2\nCITY,MAN,GB,2\nTPM,FRA,LON,1402\nFARE,\"MAN\",LYS,EH,YY,F,OW,A,10-04,05-13,\"391.10\"\nCUR,GB,\"GBP\",1.000000,0,\"10000\",N\nFARE,FRA,LON,EH,YY,Y,HR,,07-08,03-09,150.00\nCITY,ROM,IT,2\nCITY,LON,GB,2\nRULE,SAVER21,5,0,0,0,999,Y,*,*\nTPM,MAN,ROM,406\nRULE,A,5,2,3,0,30,Y,*,\nFARE,LYS,MAN,EH,\"YY\",F,HR,A,01-01,12-31,409.85\nCITY,LYS,FR,2\nFARE,MAN,\"LYS\",EH,YY,F,OW,A,06-24,10-03,350.00\nTPM,FRA,MAN,\"1880\"\nCUR,DE,\"EUR\",1.000000,1,1,U\nTPM,PAR,\"LON\",1821\nFARE,FRA,LON,EH,YY,F,HR,A,\"01-01\",12-31,446.83\nTPM,LYS,ROM,1295\nFARE,MAN,LYS,EH,YY,Y,OW,,01-01,12-31,136.26\n\"FARE\",MAN,LYS,EH,YY,F,OW,A,05-14,06-23,436.61\nFARE,FRA,LON,EH,YY,Y,HR,,03-10,07-07,200.00\nTPM,FRA,LYS,2730\nEND\n",
+        answer: b"TARIFF 16 UnknownCurrency  CITY,ROM,IT,2  the country IT has no CUR record\n",
+    },
+    // Miles of 0, a rule that is not filed, and two equal pairs, one of them turned round.
+    Case {
+        text: b"HEAD,1,82,2025-01-01\r\nMPM,TYO,OSA,EH,1764\r\nCUR,AU,AUD,1234567.654321,2,10000,N\r\nCUR,JP,JPY,0.000001,0,5,N\r\nCITY,TYO,JP,3\r\nCITY,OSA,JP,3\r\nCITY,SYD,AU,2\r\nRULE,FLEX,0,16,0,1,365,Y,*,*\r\nFARE,TYO,OSA,EH,YY,Y,OW,,300.00\r\nFARE,TYO,OSA,EH,YY,Y,HR,,308.33\r\nFARE,OSA,TYO,EH,YY,Y,HR,,317.73\r\nFARE,TYO,OSA,EH,Q1,Y,OW,,350.00\r\nFARE,TYO,OSA,EH,Q1,Y,HR,,305.55\r\nFARE,OSA,TYO,EH,Q1,Y,HR,,436.71\r\nFARE,TYO,SYD,EH,YY,Y,OW,,250.00\r\nFARE,TYO,SYD,EH,YY,Y,HR,,280.79\r\nFARE,SYD,TYO,EH,YY,Y,HR,,200.00\r\nTPM,OSA,SYD,0\r\nFARE,TYO,SYD,EH,Q1,Y,OW,,250.00\r\nFARE,TYO,SYD,EH,Q1,Y,HR,,250.00\r\nFARE,SYD,TYO,EH,Q1,Y,HR,,332.48\r\nFARE,OSA,SYD,EH,YY,Y,HR,,100.00\r\nFARE,SYD,OSA,EH,YY,Y,HR,,50.00\r\nFARE,OSA,SYD,EH,Q1,Y,OW,,50.00\r\nFARE,OSA,SYD,EH,Q1,Y,HR,,100.00\r\nFARE,SYD,OSA,EH,Q1,Y,HR,,100.00\r\nFARE,OSA,TYO,EH,YY,Y,OW,,300.00\r\nFARE,OSA,TYO,EH,Q1,Y,OW,,396.80\r\nFARE,SYD,TYO,EH,YY,Y,OW,,300.00\r\nFARE,OSA,TYO,WH,Q1,Y,OW,,328.69\r\nFARE,SYD,TYO,AT,YY,Y,OW,A,342.93\r\nFARE,TYO,SYD,AT,YY,Y,OW,,200.00\r\nMPM,OSA,TYO,EH,1764\r\nTPM,TYO,OSA,2181\r\nTPM,TYO,SYD,1779\r\nTPM,OSA,SYD,427\r\nEND",
+        answer: b"TARIFF 18 ZeroMileage  TPM,OSA,SYD,0  its miles are 0\nTARIFF 31 UnknownRule  FARE,SYD,TYO,AT,YY,Y,OW,A,342.93  the rule A has no RULE record\nTARIFF 33 Duplicate 2  MPM,OSA,TYO,EH,1764  its key is that of record 2\nTARIFF 36 Duplicate 18  TPM,OSA,SYD,427  its key is that of record 18\n",
+    },
+];
