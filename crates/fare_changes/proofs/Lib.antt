@@ -1,0 +1,10 @@
+pub mod SameRecords
+pub mod Held
+pub mod Shuffled
+pub mod Once
+pub mod Counted
+pub mod Outcomes
+pub mod ItemLines
+pub mod Answered
+pub mod Rows
+pub mod MissingLines

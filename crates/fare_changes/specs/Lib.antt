@@ -1,0 +1,11 @@
+pub use Rattle.fare_trip.specs.Itinerary
+pub use Rattle.fare_tariff.specs.Tariff
+pub use Rattle.fare_csv.specs.CanonicalText
+pub mod SameRecord
+pub mod Diff
+pub mod Known
+pub mod DiffText
+pub mod Items
+pub mod Compared
+pub mod SideBySide
+pub mod CompareText

@@ -1,0 +1,89 @@
+//! The lines of the records that one edition alone has.
+
+ghost use Rattle.std.specs.Prelude.{◌≡◌, ◌+◌, ◌<◌, ◌≤◌, [], ◌++◌, length, IfOk, OnOk, if◌then◌else◌};
+ghost use Rattle.std.specs.List.{flat_map};
+ghost use Rattle.fare_changes.specs.Diff.{is_missing, only_in};
+ghost use Rattle.fare_changes.specs.DiffText.{marked};
+ghost use Rattle.fare_changes.specs.Known.{IsKnown};
+
+use crate::known::{Known, known_of, place_of};
+use crate::record_line::push_record;
+use fare_outside::NoMemory;
+use fare_tariff::{MOST_RECORDS, Record};
+use std::alloc::Global;
+
+/// The lines of some records behind a sign, and how many they are.
+#[derive(Drop)]
+pub(crate) struct Lines {
+    /// One line a record.
+    pub text: Vec<u8>,
+    /// How many records.
+    pub count: u32,
+    /// Where the next record may stand among the others.
+    pub near: usize,
+}
+
+/// Adds the line of a record, where others don't hold it.
+fn add_missing(
+    lines: &mut Lines,
+    alloc: Global,
+    sign: &[u8],
+    others: &Known<'_>,
+    one: &Record,
+) -> Result<(), NoMemory>
+    requires known { IsKnown others.now }
+    requires few { lines.old.count < MOST_RECORDS }
+    ensures text { OnOk result (lines.new.text.items ≡ lines.old.text.items
+        ++ (if is_missing others.now.records.now one.now then marked sign.now one.now else [])) }
+    ensures count { OnOk result (lines.new.count
+        ≡ lines.old.count + (if is_missing others.now.records.now one.now then 1 else 0)) }
+{
+    if let Some(place) = place_of(others, one, lines.near) {
+        lines.near = place.saturating_add(1);
+        return Ok(());
+    }
+    lines.text.extend_from_slice(sign)?;
+    push_record(&mut lines.text, alloc, one)?;
+    lines.count += 1;
+    Ok(())
+}
+
+/// The lines of the records of a list that others don't hold, in the order of the list.
+fn add_each(
+    alloc: Global,
+    sign: &[u8],
+    records: &[Record],
+    others: &Known<'_>,
+) -> Result<Lines, NoMemory>
+    requires known { IsKnown others.now }
+    requires few { length records.now ≤ MOST_RECORDS }
+    ensures text { IfOk result (λ lines. lines.text.items
+        ≡ flat_map (marked sign.now) (only_in records.now others.now.records.now)) }
+    ensures count { IfOk result (λ lines. lines.count ≡ length (only_in records.now others.now.records.now)) }
+{
+    let mut lines = Lines {
+        text: Vec::new(alloc),
+        count: 0,
+        near: 0,
+    };
+    for one in records {
+        add_missing(&mut lines, alloc, sign, others, one)?;
+    }
+    Ok(lines)
+}
+
+/// The lines of the records of a list that others aren't, behind a sign.
+pub(crate) fn lines_of_missing(
+    alloc: Global,
+    sign: &[u8],
+    records: &[Record],
+    others: &[Record],
+) -> Result<Lines, NoMemory>
+    requires { length records.now ≤ MOST_RECORDS }
+    ensures text { IfOk result (λ lines. lines.text.items
+        ≡ flat_map (marked sign.now) (only_in records.now others.now)) }
+    ensures count { IfOk result (λ lines. lines.count ≡ length (only_in records.now others.now)) }
+{
+    let others = known_of(alloc, others)?;
+    add_each(alloc, sign, records, &others)
+}

@@ -1,0 +1,6 @@
+//! What changed between editions, and what trips cost in them.
+
+mod changes;
+mod compares;
+mod costs;
+mod diffs;
