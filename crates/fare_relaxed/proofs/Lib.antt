@@ -1,0 +1,9 @@
+pub mod LookUps
+pub mod Untouched
+pub mod Asked
+pub mod RulesKept
+pub mod KindsKept
+pub mod Breaks
+pub mod SamePrice
+pub mod NoFault
+pub mod RangeLemmas

@@ -1,0 +1,9 @@
+pub use Rattle.fare_trip.specs.Itinerary
+pub use Rattle.fare_tariff.specs.Record
+pub use Rattle.fare_tariff.specs.Tariff
+pub use Rattle.fare_rules.specs.Best
+pub use Rattle.fare_rules.specs.Lawful
+pub mod Terms
+pub mod Relax
+pub mod Ranges
+pub mod Own

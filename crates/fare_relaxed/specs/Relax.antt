@@ -1,0 +1,44 @@
+-- Relax: an edition in which the rules ask for nothing by one kind of condition.
+use Rattle.std.specs.Prelude.{ℕ, List, map, true}
+use Rattle.fare_tariff.specs.declared.limits.TheConstants.{MOST_DAYS, MOST_STOPS, MOST_TRANSFERS}
+use Rattle.fare_tariff.specs.declared.records.names.Names.TheVariants.{All}
+use Rattle.fare_tariff.specs.declared.records.record.Record.{Record}
+use Rattle.fare_tariff.specs.declared.records.record.Record.TheVariants as filed
+use Rattle.fare_tariff.specs.Record.{RuleRecord}
+use Rattle.fare_tariff.specs.Tariff.{Tariff}
+use Rattle.fare_relaxed.specs.declared.term.Term.{Term}
+use Rattle.fare_relaxed.specs.declared.term.Term.TheVariants.{Advance, Stay, Stopovers, Transfers, Surcharge, Units, Ends}
+
+-- a rule that asks for as little by a kind of condition as a record can: no days of advance, any stay of up to 999
+-- days, 16 stopovers, 16 transfers, every surcharge, or every rule in a unit or end on end
+abbrev pub relaxed_rule : Term → RuleRecord → RuleRecord
+relaxed_rule Advance r = record r { advance = 0 }
+relaxed_rule Stay r = record r { min_stay = 0; max_stay = MOST_DAYS }
+relaxed_rule Stopovers r = record r { stops = MOST_STOPS }
+relaxed_rule Transfers r = record r { transfers = MOST_TRANSFERS }
+relaxed_rule Surcharge r = record r { excess = true }
+relaxed_rule Units r = record r { units = All }
+relaxed_rule Ends r = record r { ends = All }
+
+-- a record, in which only a rule has conditions
+abbrev pub relaxed_record : Term → Record → Record
+relaxed_record term (filed.Rule r) = filed.Rule (relaxed_rule term r)
+relaxed_record term (filed.City r) = filed.City r
+relaxed_record term (filed.Cur r) = filed.Cur r
+relaxed_record term (filed.Fare r) = filed.Fare r
+relaxed_record term (filed.Mpm r) = filed.Mpm r
+relaxed_record term (filed.Tpm r) = filed.Tpm r
+relaxed_record term (filed.Ema r) = filed.Ema r
+
+-- the records, each in its place
+abbrev pub relaxed_records : Term → List Record → List Record
+relaxed_records term records = map (relaxed_record term) records
+
+-- the edition of the same number and effective day in which each rule is relaxed by a kind of condition
+unfoldable pub relax : Term → Tariff → Tariff
+relax term tariff =
+    record {
+      number = tariff.number;
+      effective = tariff.effective;
+      records = relaxed_records term tariff.records;
+    }

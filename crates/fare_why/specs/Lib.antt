@@ -1,0 +1,12 @@
+pub use Rattle.fare_trip.specs.Itinerary
+pub use Rattle.fare_tariff.specs.Tariff
+pub use Rattle.fare_rules.specs.Best
+pub use Rattle.fare_rules.specs.Lawful
+pub use Rattle.fare_book.specs.Book
+pub use Rattle.fare_answers.specs.Quotation
+pub use Rattle.fare_relaxed.specs.Terms
+pub use Rattle.fare_relaxed.specs.Relax
+pub mod Explanation
+pub mod Reasons
+pub mod Asked
+pub mod WhyText
