@@ -1,0 +1,10 @@
+pub mod TextLemmas
+pub mod SectorLemmas
+pub mod QuotationLemmas
+pub mod BestLemmas
+pub mod EntryLemmas
+pub mod ListLemmas
+pub mod AuditLemmas
+pub mod FaultLemmas
+pub mod PlainLemmas
+pub mod ReadLemmas

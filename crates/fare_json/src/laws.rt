@@ -1,0 +1,57 @@
+//! Laws of the answers, with nothing to run: the plain text is made of the members of the JSON answer.
+
+ghost use Rattle.std.specs.Prelude.{◌≡◌, ◌++◌, ℕ, List, None, Some};
+ghost use Rattle.fare_trip.specs.Itinerary.{Itinerary};
+ghost use Rattle.fare_tariff.specs.Tariff.{Tariff};
+ghost use Rattle.fare_rules.specs.declared.part.Part.{Part};
+ghost use Rattle.fare_rules.specs.FirstK.{Priced};
+ghost use Rattle.fare_rules.specs.Lawful.{first_broken};
+ghost use Rattle.fare_line.specs.Line.{CalculationLine};
+ghost use Rattle.fare_calc.specs.Answer.{answer_text, edition_line};
+ghost use Rattle.fare_answers.specs.BestText.{first_text};
+ghost use Rattle.fare_answers.specs.List.{list_text};
+ghost use Rattle.fare_audit.specs.declared.verdict.Verdict.{Verdict};
+ghost use Rattle.fare_audit.specs.VerdictText.{verdict_text};
+ghost use Rattle.fare_json.specs.AuditData.{audit_data};
+ghost use Rattle.fare_json.specs.BestData.{first_data};
+ghost use Rattle.fare_json.specs.ListData.{list_data};
+ghost use Rattle.fare_json.specs.QuotationData.{quotation_data};
+ghost use Rattle.fare_json.specs.FaultData.{refusal_data};
+ghost use Rattle.fare_json.specs.ReadBack.{IsReadBack};
+ghost use Rattle.fare_json.specs.Plain.{plain_audit, plain_first_answer, plain_list, plain_quotation};
+
+/// The members of a quotation make its plain text: the edition, the line and the worksheet of a lawful construction, or
+/// that there is no fare.
+#[tactic(auto, using(crate::proofs::PlainLemmas::lawful_is_plain, crate::proofs::PlainLemmas::none_is_plain))]
+pub fn quotation_is_plain()
+    ensures lawful { (tariff : Tariff) (trip : Itinerary) (parts : List Part) → first_broken tariff trip parts ≡ None →
+        plain_quotation (quotation_data tariff trip (Some parts)) ≡ answer_text tariff trip (Some parts) }
+    ensures none { (tariff : Tariff) (trip : Itinerary) →
+        plain_quotation (quotation_data tariff trip None) ≡ answer_text tariff trip None }
+{}
+
+/// The members of the answer of the first constructions make their plain text.
+#[tactic(auto, using(crate::proofs::PlainLemmas::first_is_plain))]
+pub fn first_are_plain()
+    ensures { (tariff : Tariff) (trip : Itinerary) (first : List Priced) →
+        plain_first_answer (first_data tariff trip first) ≡ edition_line tariff ++ first_text tariff trip first }
+{}
+
+/// The members of a list make its plain text.
+#[tactic(auto, using(crate::proofs::PlainLemmas::list_is_plain))]
+pub fn list_is_plain()
+    ensures { (editions : List Tariff) → plain_list (list_data editions) ≡ list_text editions }
+{}
+
+/// The members of the answer of an audit make its plain text.
+#[tactic(auto, using(crate::proofs::PlainLemmas::audit_is_plain))]
+pub fn audit_is_plain()
+    ensures { (tariff : Tariff) (line : CalculationLine) (verdict : Verdict) →
+        plain_audit (audit_data tariff line verdict) ≡ verdict_text verdict }
+{}
+
+/// The JSON answer of a refusal is read back from its text as its value.
+#[tactic(auto, using(crate::proofs::ReadLemmas::refusal_reads_back))]
+pub fn refusal_is_read_back()
+    ensures { (text : List ℕ) (words : List ℕ) → IsReadBack (refusal_data text words) }
+{}

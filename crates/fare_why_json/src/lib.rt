@@ -1,0 +1,14 @@
+//! The answer for programs of what would make a trip cheaper, as JSON: the compact text of a JSON value, and LF. The
+//! value is defined in `specs/WhyData` by what the plain text is defined by.
+//!
+//! - `telling`: the reasons as they are spelled (`specs/Spelled`);
+//! - `answering`: the answer over a book.
+#![tactic(auto)]
+
+mod answering;
+mod telling;
+
+pub use answering::why_json;
+
+#[cfg(test)]
+mod tests;
