@@ -8,13 +8,13 @@ use Rattle.matchit.specs.Router.{RouteOf}
 use Rattle.matchit.specs.Rows.{RowsOf}
 use Rattle.matchit.specs.Seek.{first}
 use Rattle.fare_desk.specs.declared.routes.Route.{Route}
-use Rattle.fare_desk.specs.declared.routes.Route.TheVariants.{Editions, Edition, Quote, Batch}
+use Rattle.fare_desk.specs.declared.routes.Route.TheVariants.{Editions, Edition, Listing, Quote, Batch}
 use Rattle.fare_desk.specs.Routes.{desk_rows, route_of}
 use Rattle.fare_counter.proofs.WalkLemmas.{Has, are_plain, seek-has}
 
 -- the row is that of the list of editions
 is_editions : RouteOf Route → Bool
-is_editions row = elim row.value [ Editions ↦ true | Edition ↦ false | Quote ↦ false | Batch ↦ false ]
+is_editions row = elim row.value [ Editions ↦ true | Edition ↦ false | Listing ↦ false | Quote ↦ false | Batch ↦ false ]
 
 -- the rows of the list of editions spell its path
 only_editions : RowsOf (RouteOf Route) → Bool

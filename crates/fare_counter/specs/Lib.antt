@@ -4,4 +4,7 @@ pub use Rattle.fare_answers.specs.BestText
 pub mod Routes
 pub mod BestReply
 pub mod AuditReply
+pub mod WhyReply
+pub mod CheckReply
+pub mod DiffReply
 pub mod Counter

@@ -1,15 +1,13 @@
 //! The reply to a line that is presented for a trip.
 
 ghost use Rattle.std.specs.Prelude.{◌≡◌, Err, IfOk};
-ghost use Rattle.fare_audit.specs.AuditText.{fault_text};
-ghost use Rattle.fare_desk.specs.Replies.{line, says};
-ghost use Rattle.fare_counter.specs.AuditReply.{IsAuditOver, IsAuditReply, IsVerdictReply};
+ghost use Rattle.fare_counter.specs.AuditReply.{IsAuditOver, IsAuditReply, IsVerdictReply, unread_reply, verdict_body};
 
 use fare_answers::edition_for;
-use fare_audit::{AuditFault, audit, read_audit, verdict_text};
-use fare_book::Book;
-use fare_desk::{line_reply, refusal_reply, text_reply};
-use fare_http::{Reply, Status};
+use fare_audit::{AuditFault, Verdict, audit, read_audit, verdict_text};
+use fare_desk::{Clerk, body_reply, line_reply, refusal_reply, refused_reply};
+use fare_http::{Form, Reply, Status};
+use fare_json::{audit_json, fault_of_audit};
 use fare_line::Line;
 use fare_outside::NoMemory;
 use fare_tariff::Edition;
@@ -22,40 +20,50 @@ use std::thread::Threads;
 pub(crate) fn audit_reply<R: Threads + Sync, Q: Quoter>(
     rt: &R,
     alloc: Global,
-    book: &Book,
-    quoter: &Q,
+    clerk: &Clerk<'_, Q>,
     body: &[u8],
 ) -> Result<Reply, NoMemory>
-    ensures { IfOk result (IsAuditReply book.now.editions body.now) }
+    ensures { IfOk result (IsAuditReply clerk.now.form clerk.now.book.now.editions body.now) }
 {
     match read_audit(alloc, body) {
-        Ok((line, trip)) => audit_over(rt, alloc, book, quoter, &trip, &line),
+        Ok((line, trip)) => audit_over(rt, alloc, clerk, &trip, &line),
         Err(AuditFault::Memory) => Err(NoMemory),
-        Err(fault) => fault_reply(alloc, &fault),
+        Err(fault) => unread_reply(alloc, clerk.form, body, &fault),
     }
 }
 
-/// The reply to a text that asks for no audit.
-fn fault_reply(alloc: Global, fault: &AuditFault) -> Result<Reply, NoMemory>
-    ensures { IfOk result (λ reply. reply ≡ says Status.BadRequest (line (fault_text fault.now))) }
+/// The reply to a text that asks for no audit, by its first fault.
+fn unread_reply(
+    alloc: Global,
+    form: Form,
+    body: &[u8],
+    fault: &AuditFault,
+) -> Result<Reply, NoMemory>
+    ensures { IfOk result (λ reply. reply ≡ unread_reply form body.now fault.now) }
 {
-    line_reply(alloc, Status::BadRequest, fault.text().as_str().as_bytes())
+    let status = Status::BadRequest;
+    match form {
+        Form::Text => line_reply(alloc, status, fault.text().as_str().as_bytes()),
+        Form::Json => {
+            let found = fault_of_audit(alloc, body, fault)?;
+            refused_reply(alloc, form, status, &found)
+        }
+    }
 }
 
 /// The reply to a line with its trip: the verdict in the edition for the trip, or why there is none.
 fn audit_over<R: Threads + Sync, Q: Quoter>(
     rt: &R,
     alloc: Global,
-    book: &Book,
-    quoter: &Q,
+    clerk: &Clerk<'_, Q>,
     trip: &Trip,
     line: &Line,
 ) -> Result<Reply, NoMemory>
-    ensures { IfOk result (IsAuditOver book.now.editions trip.now line.now) }
+    ensures { IfOk result (IsAuditOver clerk.now.form clerk.now.book.now.editions trip.now line.now) }
 {
-    match edition_for(book, trip) {
-        Ok(edition) => verdict_reply(rt, alloc, edition, quoter, trip, line),
-        Err(fault) => refusal_reply(alloc, &fault),
+    match edition_for(clerk.book, trip) {
+        Ok(edition) => verdict_reply(rt, alloc, clerk, edition, trip, line),
+        Err(fault) => refusal_reply(alloc, clerk.form, &fault),
     }
 }
 
@@ -63,14 +71,30 @@ fn audit_over<R: Threads + Sync, Q: Quoter>(
 fn verdict_reply<R: Threads + Sync, Q: Quoter>(
     rt: &R,
     alloc: Global,
+    clerk: &Clerk<'_, Q>,
     edition: &Edition,
-    quoter: &Q,
     trip: &Trip,
     line: &Line,
 ) -> Result<Reply, NoMemory>
-    ensures { IfOk result (IsVerdictReply edition.now trip.now line.now) }
+    ensures { IfOk result (IsVerdictReply clerk.now.form edition.now trip.now line.now) }
 {
-    let verdict = audit(rt, alloc, quoter, edition, trip, line)?;
-    let text = verdict_text(alloc, &verdict)?;
-    Ok(text_reply(Status::Okay, text))
+    let verdict = audit(rt, alloc, clerk.quoter, edition, trip, line)?;
+    let body = verdict_body(alloc, clerk.form, edition, line, &verdict)?;
+    Ok(body_reply(clerk.form, Status::Okay, body))
+}
+
+/// The verdict on a line in an edition: its line of text, or the JSON answer.
+fn verdict_body(
+    alloc: Global,
+    form: Form,
+    edition: &Edition,
+    line: &Line,
+    verdict: &Verdict,
+) -> Result<Vec<u8>, NoMemory>
+    ensures { IfOk result (λ body. body.items ≡ verdict_body form edition.now line.now verdict.now) }
+{
+    match form {
+        Form::Text => verdict_text(alloc, verdict),
+        Form::Json => audit_json(alloc, edition, line, verdict),
+    }
 }

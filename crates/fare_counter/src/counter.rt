@@ -3,6 +3,7 @@
 ghost use Rattle.std.specs.Prelude.{◌≡◌};
 
 use crate::counter_front::CounterFront;
+use crate::reasoner::Reasoner;
 use crate::routes::CounterRoutes;
 use fare_desk::Desk;
 use fare_http::{Handler, Reply};
@@ -62,7 +63,7 @@ impl<'k, P: Keeper, Q: Quoter + Drop> Counter<'k, P, Q> {
     }
 }
 
-impl<'k, P: Keeper, Q: Quoter + Drop> Handler for Counter<'k, P, Q> {
+impl<'k, P: Keeper, Q: Reasoner + Drop> Handler for Counter<'k, P, Q> {
     ghost use Rattle.std.specs.Prelude.{◌≡◌};
     ghost use Rattle.fare_desk.specs.Publishing.{state};
     ghost use Rattle.fare_counter.specs.Counter.{IsCounterStep};

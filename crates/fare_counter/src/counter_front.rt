@@ -1,15 +1,17 @@
 //! The front of a counter: what is answered without a change.
 
 ghost use Rattle.std.specs.Prelude.{IfOk};
-ghost use Rattle.fare_counter.specs.Counter.{IsCounterAnswer, IsOwnReply};
+ghost use Rattle.fare_counter.specs.Counter.{IsCounterAnswer, IsOwnReply, IsReplyAt};
 
 use crate::audit_replies::audit_reply;
 use crate::best_replies::best_reply;
+use crate::reasoner::Reasoner;
 use crate::routes::{CounterRoute, CounterRoutes};
-use fare_desk::{DeskFront, is_method, method_reply};
-use fare_http::{Allow, Front, Reply};
+use crate::tariff_replies::{check_reply, diff_reply};
+use crate::why_replies::why_reply;
+use fare_desk::{DeskFront, form_of, is_method, method_reply};
+use fare_http::{Form, Front, Reply};
 use fare_outside::NoMemory;
-use fare_units::Quoter;
 use http::Method;
 use std::alloc::Global;
 use std::thread::Threads;
@@ -24,7 +26,7 @@ pub struct CounterFront<'c, Q> {
     pub routes: &'c CounterRoutes,
 }
 
-impl<Q: Quoter> CounterFront<'_, Q> {
+impl<Q: Reasoner> CounterFront<'_, Q> {
     /// The reply to a request whose path takes a route of the counter.
     pub(crate) fn own_reply<R: Threads + Sync>(
         &self,
@@ -38,19 +40,38 @@ impl<Q: Quoter> CounterFront<'_, Q> {
         ensures { IfOk result
             (IsOwnReply self.now.desk.book.now.editions route method.now path.now body.now) }
     {
+        let form = form_of(path);
+        if is_method(method, route.method()) {
+            return self.reply_at(rt, alloc, form, route, path, body);
+        }
+        method_reply(alloc, form, route.method())
+    }
+
+    /// The reply of a route that is asked by its method.
+    fn reply_at<R: Threads + Sync>(
+        &self,
+        rt: &R,
+        alloc: Global,
+        form: Form,
+        route: CounterRoute,
+        path: &str,
+        body: &[u8],
+    ) -> Result<Reply, NoMemory>
+        ensures { IfOk result
+            (IsReplyAt form self.now.desk.book.now.editions route path.now body.now) }
+    {
+        let book = self.desk.book;
         match route {
-            CounterRoute::Best if is_method(method, "POST") => {
-                best_reply(alloc, self.desk.book, path, body)
-            }
-            CounterRoute::Audit if is_method(method, "POST") => {
-                audit_reply(rt, alloc, self.desk.book, self.desk.quoter, body)
-            }
-            CounterRoute::Best | CounterRoute::Audit => method_reply(alloc, Allow::Post),
+            CounterRoute::Best => best_reply(alloc, form, book, path, body),
+            CounterRoute::Audit => audit_reply(rt, alloc, &self.desk.clerk(form), body),
+            CounterRoute::Why => why_reply(rt, alloc, &self.desk.clerk(form), body),
+            CounterRoute::Check => check_reply(rt, alloc, body),
+            CounterRoute::Diff => diff_reply(alloc, book, path),
         }
     }
 }
 
-impl<Q: Quoter + Sync> Front for CounterFront<'_, Q> {
+impl<Q: Reasoner + Sync> Front for CounterFront<'_, Q> {
     ghost reply = { λ front method path body reply.
         IsCounterAnswer front.desk.book.now.editions method path body reply };
 

@@ -1,8 +1,9 @@
 //! The routes that a counter answers itself, and which of them a path takes.
 
 ghost use Rattle.std.specs.Prelude.{◌≡◌, OnOk};
-ghost use Rattle.fare_counter.specs.Routes.{counter_route_of, counter_rows, with_pattern};
+ghost use Rattle.fare_counter.specs.Routes.{counter_route_of, counter_rows, method_of, with_pattern};
 
+use fare_json::OneMethod;
 use fare_outside::NoMemory;
 use matchit::Router;
 use std::alloc::Global;
@@ -10,10 +11,30 @@ use std::alloc::Global;
 /// A route that a counter answers itself.
 #[derive(Clone, Copy, Debug, PartialEq, Eq)]
 pub enum CounterRoute {
-    /// `/best/{k}`
+    /// `/best/{k}`, `/json/best/{k}`
     Best,
-    /// `/audit`
+    /// `/audit`, `/json/audit`
     Audit,
+    /// `/why`, `/json/why`
+    Why,
+    /// `/check`
+    Check,
+    /// `/editions/{n}/diff/{m}`
+    Diff,
+}
+
+impl CounterRoute {
+    /// Its one method.
+    pub fn method(self) -> OneMethod
+        ensures { result ≡ method_of self }
+    {
+        match self {
+            CounterRoute::Best | CounterRoute::Audit | CounterRoute::Why | CounterRoute::Check => {
+                OneMethod::Post
+            }
+            CounterRoute::Diff => OneMethod::Get,
+        }
+    }
 }
 
 /// The counter's own routes.
@@ -24,11 +45,17 @@ pub struct CounterRoutes {
 }
 
 impl CounterRoutes {
-    /// Both of them.
+    /// All of them.
     pub fn new(alloc: Global) -> Result<CounterRoutes, NoMemory> {
         let mut router = Router::new(alloc);
         put(&mut router, "/best/{k}", CounterRoute::Best)?;
         put(&mut router, "/audit", CounterRoute::Audit)?;
+        put(&mut router, "/why", CounterRoute::Why)?;
+        put(&mut router, "/check", CounterRoute::Check)?;
+        put(&mut router, "/editions/{n}/diff/{m}", CounterRoute::Diff)?;
+        put(&mut router, "/json/best/{k}", CounterRoute::Best)?;
+        put(&mut router, "/json/audit", CounterRoute::Audit)?;
+        put(&mut router, "/json/why", CounterRoute::Why)?;
         Ok(CounterRoutes { router })
     }
 

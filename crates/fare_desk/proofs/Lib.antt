@@ -1,3 +1,3 @@
-pub mod BatchLemmas
+pub mod ItemLemmas
 pub mod PublishingLemmas
 pub mod ReplyLemmas

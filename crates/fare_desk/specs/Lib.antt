@@ -3,8 +3,11 @@ pub use Rattle.fare_tariff.specs.Tariff
 pub use Rattle.fare_book.specs.Book
 pub use Rattle.fare_answers.specs.Quotation
 pub use Rattle.fare_answers.specs.List
-pub mod Batching
+pub use Rattle.fare_sentences.specs.FaultWords
+pub use Rattle.fare_json.specs.FaultData
 pub mod Routes
 pub mod Replies
+pub mod Quoting
+pub mod Batching
 pub mod Viewing
 pub mod Publishing

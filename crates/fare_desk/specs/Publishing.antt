@@ -11,6 +11,7 @@ use Rattle.fare_book.specs.Stands.{KeepsStanding}
 use Rattle.fare_book.specs.declared.publish_fault.PublishFault.TheVariants.{Memory, Malformed, Differs, Full}
 use Rattle.fare_book.specs.declared.publish_fault.PublishFault.TheVariants.{KeeperFault, Damaged}
 use Rattle.fare_book.specs.declared.published.Published.TheVariants.{Already, New}
+use Rattle.fare_http.specs.declared.reply.Form.TheVariants.{Text}
 use Rattle.fare_http.specs.declared.reply.Reply.{Reply}
 use Rattle.fare_http.specs.declared.reply.Status.TheVariants.{BadRequest, Conflict, Created, InternalServerError}
 use Rattle.fare_http.specs.declared.reply.Status.TheVariants.{Okay, ServiceUnavailable}
@@ -21,14 +22,14 @@ use Rattle.fare_desk.specs.declared.routes.Route.TheVariants.{Editions}
 
 -- the reply to a publication; want of memory has none
 abbrev pub publication_reply : Answer → Option Reply
-publication_reply (Ok (New number)) = Some (says Created (line (codes "PUBLISHED " ++ decimal number)))
-publication_reply (Ok (Already number)) = Some (says Okay (line (codes "ALREADY " ++ decimal number)))
-publication_reply (Err (Malformed fault)) = Some (says BadRequest (line (fault_text fault)))
-publication_reply (Err (Differs number)) = Some (says Conflict (line (codes "DIFFERS " ++ decimal number)))
-publication_reply (Err Full) = Some (says Conflict (line (codes "BOOK FULL")))
-publication_reply (Err KeeperFault) = Some (says ServiceUnavailable (line (codes "KEEPER FAULT")))
+publication_reply (Ok (New number)) = Some (says Text Created (line (codes "PUBLISHED " ++ decimal number)))
+publication_reply (Ok (Already number)) = Some (says Text Okay (line (codes "ALREADY " ++ decimal number)))
+publication_reply (Err (Malformed fault)) = Some (says Text BadRequest (line (fault_text fault)))
+publication_reply (Err (Differs number)) = Some (says Text Conflict (line (codes "DIFFERS " ++ decimal number)))
+publication_reply (Err Full) = Some (says Text Conflict (line (codes "BOOK FULL")))
+publication_reply (Err KeeperFault) = Some (says Text ServiceUnavailable (line (codes "KEEPER FAULT")))
 publication_reply (Err (Damaged place damage)) =
-    Some (says InternalServerError (line (codes "DAMAGED " ++ decimal place ++ codes " " ++ damage_text damage)))
+    Some (says Text InternalServerError (line (codes "DAMAGED " ++ decimal place ++ codes " " ++ damage_text damage)))
 publication_reply (Err Memory) = None
 
 -- the state of a desk: its book, the bodies of its keeper, where they are told, and the keeper's count of failures

@@ -6,8 +6,10 @@ use Rattle.matchit.specs.Router.{RouteOf, route_from}
 use Rattle.matchit.specs.Rows.{RowsOf}
 use Rattle.matchit.specs.Seek.{first}
 use Rattle.matchit.specs.declared.error.InsertError.{InsertError}
+use Rattle.fare_sentences.specs.declared.fault.OneMethod.{OneMethod}
+use Rattle.fare_sentences.specs.declared.fault.OneMethod.TheVariants.{Get, Post}
 use Rattle.fare_desk.specs.declared.routes.Route.{Route}
-use Rattle.fare_desk.specs.declared.routes.Route.TheVariants.{Editions, Edition, Quote, Batch}
+use Rattle.fare_desk.specs.declared.routes.Route.TheVariants.{Editions, Edition, Listing, Quote, Batch}
 
 -- the rows of a router of these routes
 abbrev pub RouteRows : Type 0
@@ -25,11 +27,22 @@ with_pattern pattern route rows = with_scan (parse_route pattern) route rows
 -- the rows of the desk
 unfoldable pub desk_rows : RouteRows
 desk_rows =
-    with_pattern (codes "/batch") Batch
+    with_pattern (codes "/json/batch") Batch
+    (with_pattern (codes "/json/quote") Quote
+    (with_pattern (codes "/json/editions") Listing
+    (with_pattern (codes "/batch") Batch
     (with_pattern (codes "/quote") Quote
     (with_pattern (codes "/editions/{n}") Edition
-    (with_pattern (codes "/editions") Editions [])))
+    (with_pattern (codes "/editions") Editions []))))))
 
 -- the route that a path takes among the desk's
 abbrev pub route_of : List ℕ → Option Route
 route_of path = option_map (λ row. row.value) (first desk_rows path)
+
+-- the method of a route, where it is said to take one. A publication is asked for at `/editions` too
+abbrev pub method_of : Route → OneMethod
+method_of Editions = Get
+method_of Edition = Get
+method_of Listing = Get
+method_of Quote = Post
+method_of Batch = Post

@@ -2,9 +2,9 @@
 
 ghost use Rattle.std.specs.Prelude.{◌≤◌, IfOk, length};
 ghost use Rattle.std.specs.Thread.{IsSync};
-ghost use Rattle.serde_json.specs.View.{items_view};
-ghost use Rattle.fare_desk.specs.Viewing.{IsBatchText};
+ghost use Rattle.fare_desk.specs.Batching.{AreReplied};
 
+use fare_http::{Form, Reply};
 use fare_outside::NoMemory;
 use serde_json::Value;
 use std::alloc::Global;
@@ -21,14 +21,16 @@ pub trait Batcher {
     /// The editions over which it answers.
     ghost editions: { Self → List Tariff };
 
-    /// The texts of the items, one after the other. Its one refusal is want of memory.
-    fn text<R: Threads + Sync>(
+    /// The reply to each item, in order. One that isn't there found memory wanting. The call's one refusal is want of
+    /// memory.
+    fn replies<R: Threads + Sync>(
         &self,
         rt: &R,
         alloc: Global,
+        form: Form,
         items: &[Value],
-    ) -> Result<Vec<u8>, NoMemory>
+    ) -> Result<Vec<Option<Reply>>, NoMemory>
         requires row { IsSync R.row }
         requires few { length items.now ≤ MOST_ITEMS }
-        ensures { IfOk result (λ text. IsBatchText (editions self.now) 1 (items_view items.now) text.items) };
+        ensures { IfOk result (λ replies. AreReplied form (editions self.now) items.now replies.items) };
 }

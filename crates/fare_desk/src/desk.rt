@@ -8,6 +8,7 @@ use crate::replies::is_method;
 use crate::routes::{Route, Routes};
 use fare_book::Book;
 use fare_http::{Handler, Reply};
+use fare_json::OneMethod;
 use fare_outside::{Keeper, NoMemory};
 use fare_units::Quoter;
 use http::Method;
@@ -146,7 +147,7 @@ impl<'k, P: Keeper, Q: Quoter + Drop> Handler for Desk<'k, P, Q> {
         body: &[u8],
     ) -> Result<Reply, NoMemory> {
         let route = self.routes.find(path);
-        if route == Some(Route::Editions) && is_method(method, "POST") {
+        if route == Some(Route::Editions) && is_method(method, OneMethod::Post) {
             return self.publish(rt, alloc, body);
         }
         self.front().reply(rt, alloc, route, method, path, body)

@@ -2,7 +2,7 @@
 
 use crate::Desk;
 use fare_book::Book;
-use fare_http::{Allow, Front, Handler};
+use fare_http::{Allow, Form, Front, Handler};
 use fare_outside::{Bodies, FailAt, Keeper, MemKeeper};
 use fare_units::PlainQuoter;
 use http::Method;
@@ -49,6 +49,21 @@ const TWO_ITEMS: &str =
 const TWO_REPLIES: &str =
     "ITEM 1 200\nEDITION 1 2025-01-01\nLON Q1 PAR Q1 ROM M400.00 YYYOW/1 NUC400.00END ROE0.750000\nPART 1 LON-ROM UNIT 1 OUT\nFARE 8 YYYOW 400.00\nMILES TPM 1000 EMA 0 NET 1000 MPM 1000 M\nHIP NONE\nAF 400.00\nUNIT 1 OW SUM 400.00 CHECK NONE PRICE 400.00\nTOTAL NUC 400.00\nROE 0.750000\nLOCAL GBP 300\nITEM 2 400\nTRIP Missing sale 0\n";
 
+/// A batch of a trip from a city that the edition doesn't know, and an object without members.
+const UNKNOWN_ITEMS: &str =
+    "[{\"sale\":\"2025-03-01\",\"from\":\"XXX\",\"sectors\":[{\"to\":\"PAR\",\"carrier\":\"Q1\",\"day\":\"2025-04-10\",\"cabin\":\"Y\"},{\"to\":\"ROM\",\"carrier\":\"Q1\",\"day\":\"2025-04-12\",\"cabin\":\"Y\"}]},{}]";
+
+/// What these two are answered in JSON.
+const UNKNOWN_REPLIES: &str =
+    "{\"items\":[{\"answer\":{\"fault\":{\"text\":\"UNKNOWN PLACE XXX\",\"words\":\"the edition has no record of the city XXX\"}},\"status\":422},{\"answer\":{\"fault\":{\"text\":\"TRIP Missing sale 0\",\"words\":\"the itinerary has no member sale\"}},\"status\":400}]}\n";
+
+/// What a trip to Milan is answered in JSON.
+const NO_MILAN: &str =
+    "{\"fault\":{\"text\":\"UNKNOWN PLACE MIL\",\"words\":\"the edition has no record of the city MIL\"}}\n";
+
+/// What a path under `/json/` is answered where nothing is.
+const NOTHING: &str = "{\"fault\":{\"text\":\"NO ROUTE\",\"words\":\"nothing is at this path\"}}\n";
+
 /// Requests one after the other, by method, path and body, each with the status and the text of its reply.
 static CASES: [(&str, &str, &str, u16, &str); 29] = [
     ("GET", "/editions", "", 200, ""),
@@ -82,6 +97,44 @@ static CASES: [(&str, &str, &str, u16, &str); 29] = [
     ("GET", "/", "", 404, "NO ROUTE\n"),
 ];
 
+/// Requests for JSON over the first edition, in the same way.
+static JSON_CASES: [(&str, &str, &str, u16, &str); 10] = [
+    ("POST", "/json/quote", TO_MILAN, 422, NO_MILAN),
+    ("POST", "/json/batch", UNKNOWN_ITEMS, 200, UNKNOWN_REPLIES),
+    ("POST", "/json/batch", "[]", 200, "{\"items\":[]}\n"),
+    (
+        "POST",
+        "/json/batch",
+        "{}",
+        400,
+        "{\"fault\":{\"text\":\"TRIP Bad trip 0\",\"words\":\"the batch isn't a JSON array\"}}\n",
+    ),
+    (
+        "GET",
+        "/json/editions",
+        "",
+        200,
+        "{\"editions\":[{\"effective\":\"2025-01-01\",\"number\":1,\"records\":10}]}\n",
+    ),
+    (
+        "POST",
+        "/json/editions",
+        SECOND,
+        405,
+        "{\"fault\":{\"text\":\"METHOD\",\"words\":\"this path takes GET alone\"}}\n",
+    ),
+    (
+        "GET",
+        "/json/quote",
+        "",
+        405,
+        "{\"fault\":{\"text\":\"METHOD\",\"words\":\"this path takes POST alone\"}}\n",
+    ),
+    ("POST", "/json/fares", "", 404, NOTHING),
+    ("GET", "/json/editions/1", "", 404, NOTHING),
+    ("GET", "/json/", "", 404, NOTHING),
+];
+
 /// A request to a desk: the number of its reply's status, and its text.
 fn asked<R: Threads + Sync>(
     rt: &R,
@@ -108,6 +161,26 @@ fn each_status_has_its_text(rt: HostRuntime) -> Result<(), Fail> {
         let (status, text) = asked(&rt, alloc, &mut desk, case.0, case.1, case.2.as_bytes())?;
         assert_eq!(rt; status, case.3);
         assert!(rt; text.as_slice() == case.4.as_bytes());
+    }
+    Ok(())
+}
+
+#[test]
+fn each_status_has_its_answer_in_json(rt: HostRuntime) -> Result<(), Fail> {
+    let alloc = rt.alloc();
+    let mut bodies = Bodies::new(alloc);
+    bodies.push(CANONICAL.as_bytes())?;
+    let mut keeper = MemKeeper::new(bodies, Vec::new(alloc));
+    keeper.open(alloc, "editions")?;
+    let book = Book::restore(&rt, alloc, &mut keeper)?;
+    let desk = Desk::new(&rt, alloc, book, &mut keeper, PlainQuoter)?;
+    for case in &JSON_CASES {
+        let method = Method::from_bytes(alloc, case.0.as_bytes())?;
+        let reply = desk
+            .front()
+            .view(&rt, alloc, &method, case.1, case.2.as_bytes())?;
+        assert!(rt; reply.form == Form::Json && reply.status.number() == case.3);
+        assert!(rt; reply.body.as_slice() == case.4.as_bytes());
     }
     Ok(())
 }

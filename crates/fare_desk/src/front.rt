@@ -1,16 +1,17 @@
 //! The front of a desk: what is answered without a change.
 
-ghost use Rattle.std.specs.Prelude.{IfOk};
-ghost use Rattle.fare_desk.specs.Viewing.{IsAnswer, IsRouteReply};
+ghost use Rattle.std.specs.Prelude.{◌≡◌, IfOk};
+ghost use Rattle.fare_desk.specs.Replies.{form_of};
+ghost use Rattle.fare_desk.specs.Viewing.{IsAnswer, IsReplyAt, IsRouteReply};
 
 use crate::batch::batch_reply;
+use crate::clerk::Clerk;
 use crate::editions::{edition_reply, list_reply};
 use crate::one_by_one::OneByOne;
-use crate::quotes::quote_reply;
-use crate::replies::{is_method, method_reply, no_route_reply};
+use crate::replies::{form_of, is_method, method_reply, no_route_reply};
 use crate::routes::{Route, Routes};
 use fare_book::Book;
-use fare_http::{Allow, Front, Reply};
+use fare_http::{Form, Front, Reply};
 use fare_outside::NoMemory;
 use fare_units::Quoter;
 use http::Method;
@@ -30,6 +31,15 @@ pub struct DeskFront<'d, Q> {
 }
 
 impl<Q: Quoter> DeskFront<'_, Q> {
+    /// What answers itineraries in this form.
+    pub fn clerk(&self, form: Form) -> Clerk<'_, Q>
+        ensures book { result.book.now ≡ self.now.book.now }
+        ensures form { result.form ≡ form }
+    {
+        let (book, quoter) = (self.book, self.quoter);
+        Clerk { book, quoter, form }
+    }
+
     /// The reply to a request whose path takes a route, or none.
     pub(crate) fn reply<R: Threads + Sync>(
         &self,
@@ -40,23 +50,39 @@ impl<Q: Quoter> DeskFront<'_, Q> {
         path: &str,
         body: &[u8],
     ) -> Result<Reply, NoMemory>
-        ensures { IfOk result (IsRouteReply self.now.book.now.editions route method.now path.now body.now) }
+        ensures { IfOk result
+            (IsRouteReply (form_of path.now) self.now.book.now.editions route method.now path.now body.now) }
+    {
+        let form = form_of(path);
+        match route {
+            None => no_route_reply(alloc, form),
+            Some(route) if is_method(method, route.method()) => {
+                self.reply_at(rt, alloc, form, route, path, body)
+            }
+            Some(route) => method_reply(alloc, form, route.method()),
+        }
+    }
+
+    /// The reply of a route that is asked by its method.
+    fn reply_at<R: Threads + Sync>(
+        &self,
+        rt: &R,
+        alloc: Global,
+        form: Form,
+        route: Route,
+        path: &str,
+        body: &[u8],
+    ) -> Result<Reply, NoMemory>
+        ensures { IfOk result (IsReplyAt form self.now.book.now.editions route path.now body.now) }
     {
         match route {
-            None => no_route_reply(alloc),
-            Some(Route::Editions) if is_method(method, "GET") => list_reply(alloc, self.book),
-            Some(Route::Edition) if is_method(method, "GET") => {
-                edition_reply(alloc, self.book, path)
-            }
-            Some(Route::Quote) if is_method(method, "POST") => {
-                quote_reply(rt, alloc, self.book, self.quoter, body)
-            }
-            Some(Route::Batch) if is_method(method, "POST") => {
+            Route::Editions | Route::Listing => list_reply(alloc, form, self.book),
+            Route::Edition => edition_reply(alloc, self.book, path),
+            Route::Quote => self.clerk(form).quote_reply(rt, alloc, body),
+            Route::Batch => {
                 let (book, quoter) = (self.book, self.quoter);
-                batch_reply(rt, alloc, &OneByOne { book, quoter }, body)
+                batch_reply(rt, alloc, form, &OneByOne { book, quoter }, body)
             }
-            Some(Route::Editions | Route::Edition) => method_reply(alloc, Allow::Get),
-            Some(Route::Quote | Route::Batch) => method_reply(alloc, Allow::Post),
         }
     }
 }

@@ -1,17 +1,13 @@
 //! The items of a batch, answered one after the other.
 
-ghost use Rattle.std.specs.Prelude.{◌≤◌, IfOk, length};
-ghost use Rattle.serde_json.specs.View.{items_view, view};
-ghost use Rattle.fare_trip.specs.ItineraryText.{trip_of};
-ghost use Rattle.fare_desk.specs.Viewing.{IsBatchText, IsQuoteReply};
+ghost use Rattle.std.specs.Prelude.{IfOk};
+ghost use Rattle.fare_desk.specs.Batching.{AreReplied};
 
-use crate::batch::push_item;
-use crate::batcher::{Batcher, MOST_ITEMS};
-use crate::quotes::{fault_reply, trip_reply};
+use crate::batcher::Batcher;
+use crate::clerk::Clerk;
 use fare_book::Book;
-use fare_http::Reply;
+use fare_http::{Form, Reply};
 use fare_outside::NoMemory;
-use fare_trip::trip_of;
 use fare_units::Quoter;
 use serde_json::Value;
 use std::alloc::Global;
@@ -29,49 +25,31 @@ pub(crate) struct OneByOne<'b, Q> {
 impl<Q: Quoter> Batcher for OneByOne<'_, Q> {
     ghost editions = { λ batcher. batcher.book.now.editions };
 
-    fn text<R: Threads + Sync>(
+    fn replies<R: Threads + Sync>(
         &self,
         rt: &R,
         alloc: Global,
+        form: Form,
         items: &[Value],
-    ) -> Result<Vec<u8>, NoMemory> {
-        batch_text(rt, alloc, self.book, self.quoter, items)
+    ) -> Result<Vec<Option<Reply>>, NoMemory> {
+        let (book, quoter) = (self.book, self.quoter);
+        replies_in_turn(rt, alloc, &Clerk { book, quoter, form }, items)
     }
 }
 
-/// The texts of the items, which are answered one after the other.
-fn batch_text<R: Threads + Sync, Q: Quoter>(
+/// The replies of a clerk to the items, one after the other.
+fn replies_in_turn<R: Threads + Sync, Q: Quoter>(
     rt: &R,
     alloc: Global,
-    book: &Book,
-    quoter: &Q,
+    clerk: &Clerk<'_, Q>,
     items: &[Value],
-) -> Result<Vec<u8>, NoMemory>
-    requires { length items.now ≤ MOST_ITEMS }
-    ensures { IfOk result (λ text. IsBatchText book.now.editions 1 (items_view items.now) text.items) }
+) -> Result<Vec<Option<Reply>>, NoMemory>
+    ensures { IfOk result (λ replies. AreReplied clerk.now.form clerk.now.book.now.editions items.now replies.items) }
 {
-    let mut text = Vec::new(alloc);
-    let mut number = 1;
+    let mut replies = Vec::new(alloc);
     for item in items {
-        let reply = item_reply(rt, alloc, book, quoter, item)?;
-        push_item(&mut text, number, &reply)?;
-        number += 1;
+        let reply = clerk.item_reply(rt, alloc, item)?;
+        replies.push(Some(reply))?;
     }
-    Ok(text)
-}
-
-/// The reply to one item.
-pub(crate) fn item_reply<R: Threads + Sync, Q: Quoter>(
-    rt: &R,
-    alloc: Global,
-    book: &Book,
-    quoter: &Q,
-    item: &Value,
-) -> Result<Reply, NoMemory>
-    ensures { IfOk result (IsQuoteReply book.now.editions (trip_of (view item.now))) }
-{
-    match trip_of(alloc, item) {
-        Ok(trip) => trip_reply(rt, alloc, book, quoter, &trip),
-        Err(fault) => fault_reply(alloc, &fault),
-    }
+    Ok(replies)
 }

@@ -7,11 +7,11 @@ ghost use Rattle.fare_book.specs.DamageText.{damage_text};
 ghost use Rattle.fare_desk.specs.Publishing.{publication_reply};
 ghost use Rattle.fare_desk.specs.Replies.{line, says};
 
-use crate::replies::text_reply;
+use crate::replies::body_reply;
 use arrayvec::ArrayString;
 use fare_book::{Damage, PublishFault, Published};
 use fare_codes::number_text;
-use fare_http::{Reply, Status};
+use fare_http::{Form, Reply, Status};
 use fare_outside::NoMemory;
 use fare_text::{push_short_number, short_text};
 
@@ -63,18 +63,18 @@ fn numbered(words: &str, number: u32) -> ArrayString<64>
 fn said(mut room: Vec<u8>, status: Status, words: &ArrayString<64>) -> Reply
     requires empty { room.items ≡ [] }
     requires room { MOST_WORDS ≤ vec_capacity room }
-    ensures { result ≡ says status (line words.now.bytes) }
+    ensures { result ≡ says Form.Text status (line words.now.bytes) }
 {
     room.extend_from_slice(words.as_str().as_bytes()).unwrap();
     room.push(b'\n').unwrap();
-    text_reply(status, room)
+    body_reply(Form::Text, status, room)
 }
 
 /// The reply that tells the first damage of the stored bodies, in this room.
 fn damaged(mut room: Vec<u8>, place: u32, damage: &Damage) -> Reply
     requires empty { room.items ≡ [] }
     requires room { MOST_WORDS ≤ vec_capacity room }
-    ensures { result ≡ says Status.InternalServerError
+    ensures { result ≡ says Form.Text Status.InternalServerError
         (line (codes "DAMAGED " ++ decimal place ++ codes " " ++ damage_text damage.now)) }
 {
     room.extend_from_slice(b"DAMAGED ").unwrap();
@@ -84,5 +84,5 @@ fn damaged(mut room: Vec<u8>, place: u32, damage: &Damage) -> Reply
     room.extend_from_slice(damage.text().as_str().as_bytes())
         .unwrap();
     room.push(b'\n').unwrap();
-    text_reply(Status::InternalServerError, room)
+    body_reply(Form::Text, Status::InternalServerError, room)
 }

@@ -1,8 +1,9 @@
 //! The routes of requests, and which of them a path takes.
 
 ghost use Rattle.std.specs.Prelude.{◌≡◌, OnOk};
-ghost use Rattle.fare_desk.specs.Routes.{desk_rows, route_of, with_pattern};
+ghost use Rattle.fare_desk.specs.Routes.{desk_rows, method_of, route_of, with_pattern};
 
+use fare_json::OneMethod;
 use fare_outside::NoMemory;
 use matchit::Router;
 use std::alloc::Global;
@@ -14,10 +15,24 @@ pub enum Route {
     Editions,
     /// `/editions/{n}`
     Edition,
-    /// `/quote`
+    /// `/json/editions`
+    Listing,
+    /// `/quote`, `/json/quote`
     Quote,
-    /// `/batch`
+    /// `/batch`, `/json/batch`
     Batch,
+}
+
+impl Route {
+    /// Its method, where it is said to take one. A publication is asked for at `/editions` too.
+    pub fn method(self) -> OneMethod
+        ensures { result ≡ method_of self }
+    {
+        match self {
+            Route::Editions | Route::Edition | Route::Listing => OneMethod::Get,
+            Route::Quote | Route::Batch => OneMethod::Post,
+        }
+    }
 }
 
 /// The desk's routes.
@@ -35,6 +50,9 @@ impl Routes {
         put(&mut router, "/editions/{n}", Route::Edition)?;
         put(&mut router, "/quote", Route::Quote)?;
         put(&mut router, "/batch", Route::Batch)?;
+        put(&mut router, "/json/editions", Route::Listing)?;
+        put(&mut router, "/json/quote", Route::Quote)?;
+        put(&mut router, "/json/batch", Route::Batch)?;
         Ok(Routes { router })
     }
 

@@ -5,6 +5,8 @@ use Rattle.fare_http.specs.declared.reply.Status.TheVariants.{Okay, Created, Bad
 use Rattle.fare_http.specs.declared.reply.Status.TheVariants.{MethodNotAllowed, Conflict, ContentTooLarge}
 use Rattle.fare_http.specs.declared.reply.Status.TheVariants.{UnprocessableContent, InternalServerError}
 use Rattle.fare_http.specs.declared.reply.Status.TheVariants.{ServiceUnavailable, InsufficientStorage}
+use Rattle.fare_http.specs.declared.reply.Form.{Form}
+use Rattle.fare_http.specs.declared.reply.Form.TheVariants.{Text, Json}
 use Rattle.fare_http.specs.declared.reply.Allow.{Allow}
 use Rattle.fare_http.specs.declared.reply.Allow.TheVariants.{Unsaid, Get, Post}
 use Rattle.fare_http.specs.declared.reply.Reply.{Reply}
@@ -37,6 +39,15 @@ status_text InternalServerError = codes "500 Internal Server Error"
 status_text ServiceUnavailable = codes "503 Service Unavailable"
 status_text InsufficientStorage = codes "507 Insufficient Storage"
 
+-- the line of a status
+abbrev pub status_line : Status → List ℕ
+status_line status = codes "HTTP/1.1 " ++ status_text status ++ codes "\r\n"
+
+-- the line that says what a body is
+abbrev pub form_line : Form → List ℕ
+form_line Text = codes "Content-Type: text/plain\r\n"
+form_line Json = codes "Content-Type: application/json\r\n"
+
 -- the line that says which method is allowed, where the reply says so
 abbrev pub allow_line : Allow → List ℕ
 allow_line Unsaid = []
@@ -44,18 +55,18 @@ allow_line Get = codes "Allow: GET\r\n"
 allow_line Post = codes "Allow: POST\r\n"
 
 -- an answer: the status line, the fields, an empty line and the body
-abbrev pub answer : Status → Allow → List ℕ → List ℕ
-answer status allow body =
-    codes "HTTP/1.1 " ++ status_text status ++ codes "\r\nContent-Type: text/plain\r\nContent-Length: "
-    ++ decimal (length body) ++ codes "\r\n" ++ allow_line allow ++ codes "Connection: close\r\n\r\n" ++ body
+abbrev pub answer : Status → Form → Allow → List ℕ → List ℕ
+answer status form allow body =
+    status_line status ++ form_line form ++ codes "Content-Length: " ++ decimal (length body) ++ codes "\r\n"
+    ++ allow_line allow ++ codes "Connection: close\r\n\r\n" ++ body
 
 -- the bytes of a reply
 abbrev pub reply_bytes : Reply → List ℕ
-reply_bytes reply = answer reply.status reply.allow reply.body
+reply_bytes reply = answer reply.status reply.form reply.allow reply.body
 
 -- the answer where memory was wanting
 abbrev pub no_memory_bytes : List ℕ
-no_memory_bytes = answer InsufficientStorage Unsaid (codes "NO MEMORY\n")
+no_memory_bytes = answer InsufficientStorage Text Unsaid (codes "NO MEMORY\n")
 
 -- the bytes of a reply, or of the answer where memory was wanting
 abbrev pub answer_bytes : Option Reply → List ℕ

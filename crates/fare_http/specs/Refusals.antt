@@ -3,6 +3,7 @@ use Rattle.std.specs.Prelude.{◌≡◌, ◌⊎◌, ℕ, List, Option, Err, code
 use Rattle.httparse.specs.Grammar.{NeverHasRequest}
 use Rattle.fare_http.specs.declared.reply.Status.{Status}
 use Rattle.fare_http.specs.declared.reply.Status.TheVariants.{BadRequest, ContentTooLarge}
+use Rattle.fare_http.specs.declared.reply.Form.TheVariants.{Text}
 use Rattle.fare_http.specs.declared.reply.Allow.TheVariants.{Unsaid}
 use Rattle.fare_http.specs.declared.reply.Reply.{Reply}
 use Rattle.fare_http.specs.declared.request.Request.{Request}
@@ -34,9 +35,10 @@ OnCut (Fixed reply) fact = ⊤
 OnCut NoMemory fact = ⊤
 OnCut Cut fact = fact
 
--- a reply with this status and text, and no word of what is allowed
+-- a reply with this status and plain text, and no word of what is allowed
 pub record Says (status : Status) (text : List ℕ) (reply : Reply) : Type 0 where
   pub status_is : reply.status ≡ status
+  pub form_is : reply.form ≡ Text
   pub allow_is : reply.allow ≡ Unsaid
   pub text_is : reply.body ≡ text
 

@@ -36,7 +36,7 @@ pub use laws::{fault_is_told, head_is_found, short_request_is_cut_off, whole_req
 pub use lengths::{BodyFault, MOST_BODY, body_length};
 pub use path_text::PathText;
 pub use piece::NoPiece;
-pub use reply::{Allow, Reply, Status};
+pub use reply::{Allow, Form, Reply, Status};
 pub use request::{NoRequest, Request, read_whole};
 pub use sending::{Exchange, send};
 pub use taken::{Taken, read_request};

@@ -1,5 +1,5 @@
 ghost use Rattle.std.specs.Prelude.{◌≡◌};
-ghost use Rattle.fare_http.specs.Answers.{allow_line, status_number, status_text};
+ghost use Rattle.fare_http.specs.Answers.{allow_line, form_line, status_number, status_text};
 
 use fare_outside::Bytes;
 
@@ -8,9 +8,11 @@ use fare_outside::Bytes;
 pub struct Reply {
     /// How the request ended.
     pub status: Status,
+    /// What its body is.
+    pub form: Form,
     /// The method that is said to be allowed, if one is.
     pub allow: Allow,
-    /// The text of the answer.
+    /// The body of the answer.
     pub body: Bytes,
 }
 
@@ -77,6 +79,27 @@ impl Status {
             Status::InternalServerError => b"500 Internal Server Error",
             Status::ServiceUnavailable => b"503 Service Unavailable",
             Status::InsufficientStorage => b"507 Insufficient Storage",
+        }
+    }
+}
+
+/// What the body of a reply is.
+#[derive(Clone, Copy, Debug, PartialEq, Eq)]
+pub enum Form {
+    /// Plain text.
+    Text,
+    /// A JSON value.
+    Json,
+}
+
+impl Form {
+    /// The line of the answer's head that says it.
+    pub fn line(self) -> &'static [u8]
+        ensures { result.now ≡ form_line self }
+    {
+        match self {
+            Form::Text => b"Content-Type: text/plain\r\n",
+            Form::Json => b"Content-Type: application/json\r\n",
         }
     }
 }

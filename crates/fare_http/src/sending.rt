@@ -1,10 +1,10 @@
 ghost use Rattle.std.specs.Prelude.{◌≡◌, ◌≤◌, None, option_copied, OnOk, OnErr};
 ghost use Rattle.fare_outside.specs.Cause.{Rose};
-ghost use Rattle.fare_http.specs.Answers.{reply_bytes, answer_bytes};
+ghost use Rattle.fare_http.specs.Answers.{answer_bytes, reply_bytes, status_line};
 ghost use Rattle.fare_http.specs.Sending.{sent_more, Sends, SendsPrefix, SentPrefix};
 
-use crate::Reply;
 use crate::send_all::send_all;
+use crate::{Reply, Status};
 use fare_outside::{Door, Failed};
 use itoa::Buffer;
 
@@ -77,12 +77,29 @@ fn send_reply<D: Door>(door: &mut D, reply: &Reply) -> Result<(), Failed>
 {
     let body = reply.body.as_slice();
     let mut digits = Buffer::new();
-    send_all(door, b"HTTP/1.1 ")?;
-    send_all(door, reply.status.text())?;
-    send_all(door, b"\r\nContent-Type: text/plain\r\nContent-Length: ")?;
+    send_status(door, reply.status)?;
+    send_all(door, reply.form.line())?;
+    send_all(door, b"Content-Length: ")?;
     send_all(door, digits.format(body.len()).as_bytes())?;
     send_all(door, b"\r\n")?;
     send_all(door, reply.allow.line())?;
     send_all(door, b"Connection: close\r\n\r\n")?;
     send_all(door, body)
+}
+
+/// Sends the line of a status.
+fn send_status<D: Door>(door: &mut D, status: Status) -> Result<(), Failed>
+    ensures whole { OnOk result (Sends (D.current door.old) (D.current door.new)
+        (D.sent door.old) (D.sent door.new) (status_line status)) }
+    ensures prefix { OnErr result (SendsPrefix (D.current door.old) (D.current door.new)
+        (D.sent door.old) (D.sent door.new) (status_line status)) }
+    ensures waiting { D.waiting door.new ≡ D.waiting door.old }
+    ensures held { D.held door.new ≡ D.held door.old }
+    ensures faults { D.faults door.new ≡ D.faults door.old }
+    ensures never_falls { D.cuts door.old ≤ D.cuts door.new }
+    ensures cause { OnErr result (Rose (D.cuts door.old) (D.cuts door.new)) }
+{
+    send_all(door, b"HTTP/1.1 ")?;
+    send_all(door, status.text())?;
+    send_all(door, b"\r\n")
 }

@@ -4,7 +4,9 @@ ghost use Rattle.fare_http.specs.Heads.{Takes};
 ghost use Rattle.fare_http.specs.Requests.{IsWhole};
 ghost use Rattle.fare_http.specs.Refusals.{IfWhole, IfFixed, OnCut, IsRefused, EndsInside, IsFixed};
 
-use crate::{Allow, BodyFault, NoHead, NoPiece, NoRequest, Reply, Request, Status, read_whole};
+use crate::{
+    Allow, BodyFault, Form, NoHead, NoPiece, NoRequest, Reply, Request, Status, read_whole,
+};
 use fare_outside::{Bytes, Door, NoMemory};
 use std::alloc::Global;
 
@@ -59,7 +61,7 @@ pub fn read_request<D: Door>(alloc: Global, door: &mut D) -> Taken
     }
 }
 
-/// A fixed answer with this status and text, and no word of what is allowed.
+/// A fixed answer with this status and plain text, and no word of what is allowed.
 fn fixed(alloc: Global, status: Status, text: &[u8]) -> Taken
     ensures { IsFixed status text.now result }
 {
@@ -67,6 +69,7 @@ fn fixed(alloc: Global, status: Status, text: &[u8]) -> Taken
     match body.extend(text) {
         Ok(()) => Taken::Fixed(Reply {
             status,
+            form: Form::Text,
             allow: Allow::Unsaid,
             body,
         }),

@@ -129,16 +129,17 @@ fn a_reply_is_sent(rt: HostRuntime) -> Result<(), Fail> {
     let alloc = rt.alloc();
     let mut door = door_with(alloc, b"")?;
     let mut body = Bytes::new(alloc);
-    body.extend(b"METHOD\n")?;
+    body.extend(b"[405]\n")?;
     let reply = Reply {
         status: Status::MethodNotAllowed,
+        form: Form::Json,
         allow: Allow::Post,
         body,
     };
     assert_eq!(rt; send(&mut door, Some(&reply)), Exchange::Served);
     let answer =
-        b"HTTP/1.1 405 Method Not Allowed\r\nContent-Type: text/plain\r\nContent-Length: 7\r\n\
-Allow: POST\r\nConnection: close\r\n\r\nMETHOD\n";
+        b"HTTP/1.1 405 Method Not Allowed\r\nContent-Type: application/json\r\nContent-Length: 6\r\n\
+Allow: POST\r\nConnection: close\r\n\r\n[405]\n";
     assert_eq!(rt; door.sent.as_slice(), answer.as_slice());
     Ok(())
 }
@@ -165,6 +166,7 @@ impl Handler for Echo {
         text.extend(body)?;
         Ok(Reply {
             status: Status::Okay,
+            form: Form::Text,
             allow: Allow::Unsaid,
             body: text,
         })

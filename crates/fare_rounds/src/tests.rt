@@ -1,7 +1,7 @@
 ghost use Rattle.std.specs.Prelude.{◌≡◌, ◌≤◌, [], IfOk, ⊤};
 
 use crate::*;
-use fare_http::{Allow, Front, Handler, Reply, Status};
+use fare_http::{Allow, Form, Front, Handler, Reply, Status};
 use fare_outside::{Bodies, Bytes, MemDoor, NoMemory};
 use http::Method;
 use std::alloc::Global;
@@ -60,6 +60,7 @@ fn reply(alloc: Global, status: Status, allow: Allow, text: &[u8]) -> Result<Rep
     body.extend(text)?;
     Ok(Reply {
         status,
+        form: Form::Text,
         allow,
         body,
     })
@@ -321,6 +322,23 @@ Connection: close\r\n\r\nEDITION 18 2025-01-01 29\nEDITION 59 2025-01-01 68\n";
 Content-Length: 7\r\nAllow: POST\r\nConnection: close\r\n\r\nMETHOD\n"
         )
     );
+    Ok(())
+}
+
+#[test]
+fn a_connection_that_ends_early_is_cut_off_alone(rt: HostRuntime) -> Result<(), Fail> {
+    let alloc = rt.alloc();
+    let mut clerk = clerk_with(alloc, b"EDITION 7 2025-01-01 23\n")?;
+    let early = b"POST /editions HTTP/1.1\r\nContent-Length: 3\r\n\r\nHE";
+    let mut door = door_of(alloc, &[LIST, early, LIST])?;
+    let (end, counts) = serve(&rt, alloc, &mut door, &mut clerk, 8);
+    assert_eq!(rt; end, DoorEnd::Open);
+    assert_eq!(rt; counts, Counts { served: 2, cut: 1 });
+    let listed = b"HTTP/1.1 200 OK\r\nContent-Type: text/plain\r\nContent-Length: 24\r\n\
+Connection: close\r\n\r\nEDITION 7 2025-01-01 23\n";
+    assert!(rt; was_sent(&door, 0, listed));
+    assert!(rt; was_sent(&door, 1, b""));
+    assert!(rt; was_sent(&door, 2, listed));
     Ok(())
 }
 

@@ -7,8 +7,9 @@ ghost use Rattle.fare_desk.specs.Routes.{route_of};
 ghost use Rattle.fare_desk.specs.declared.routes.Route.TheVariants.{Batch};
 
 use fare_counter::CounterFront;
-use fare_desk::{Batcher, Route, SideBySide, batch_reply, is_method};
-use fare_http::{Front, Reply};
+use fare_desk::{Batcher, Clerk, Route, SideBySide, batch_reply, form_of, is_method};
+use fare_http::{Form, Front, Reply};
+use fare_json::OneMethod;
 use fare_outside::{NoMemory, OpenGate};
 use fare_split::SplitQuoter;
 use http::Method;
@@ -25,43 +26,45 @@ pub struct ServedFront<'s, 'k> {
 }
 
 impl ServedFront<'_, '_> {
-    /// Whether a request is a batch that is asked by the route's method.
+    /// Whether a request is a batch, plain or in JSON, that is asked by the route's method.
     fn is_batch(&self, method: &Method, path: &str) -> bool
         ensures { IsTrue result ↔
             ((counter_route_of path.now ≡ None) × (route_of path.now ≡ Some Batch) × (method.now ≡ codes "POST")) }
     {
         self.counter.routes.find(path).is_none()
             && self.counter.desk.routes.find(path) == Some(Route::Batch)
-            && is_method(method, "POST")
+            && is_method(method, OneMethod::Post)
     }
 }
 
 impl Batcher for ServedFront<'_, '_> {
     ghost editions = { λ front. front.counter.desk.book.now.editions };
 
-    fn text<R: Threads + Sync>(
+    fn replies<R: Threads + Sync>(
         &self,
         rt: &R,
         alloc: Global,
+        form: Form,
         items: &[Value],
-    ) -> Result<Vec<u8>, NoMemory> {
+    ) -> Result<Vec<Option<Reply>>, NoMemory> {
         let book = self.counter.desk.book;
         let all = self.counter.desk.quoter;
         if items.len() == 1 {
-            let batcher = SideBySide {
+            let clerk = Clerk {
                 book,
                 quoter: all,
-                threads: 1,
+                form,
             };
-            return batcher.text(rt, alloc, items);
+            return SideBySide { clerk, threads: 1 }.replies(rt, alloc, items);
         }
         let one = SplitQuoter::new(1, all.gate);
-        let batcher = SideBySide {
+        let clerk = Clerk {
             book,
             quoter: &one,
-            threads: all.workers as usize,
+            form,
         };
-        batcher.text(rt, alloc, items)
+        let threads = all.workers as usize;
+        SideBySide { clerk, threads }.replies(rt, alloc, items)
     }
 }
 
@@ -79,7 +82,7 @@ impl Front for ServedFront<'_, '_> {
         body: &[u8],
     ) -> Result<Reply, NoMemory> {
         if self.is_batch(method, path) {
-            return batch_reply(rt, alloc, self, body);
+            return batch_reply(rt, alloc, form_of(path), self, body);
         }
         self.counter.view(rt, alloc, method, path, body)
     }

@@ -3,12 +3,14 @@
 ghost use Rattle.std.specs.Prelude.{◌≡◌, [], IfOk};
 
 mod computed;
+mod further;
 mod worked;
 
 use crate::{Service, serve};
 use computed::COMPUTED;
 use fare_book::Book;
 use fare_outside::{Bodies, Keeper, MemDoor, MemKeeper};
+use further::{FURTHER, IN_JSON};
 use std::alloc::Global;
 use std::process::Abort;
 use std::test::Fail;
@@ -86,6 +88,22 @@ fn worked_rows_are_sent(rt: HostRuntime) -> Result<(), Fail> {
 #[test]
 fn computed_answers_are_sent(rt: HostRuntime) -> Result<(), Fail> {
     for case in &COMPUTED {
+        sends(&rt, rt.alloc(), case)?;
+    }
+    Ok(())
+}
+
+#[test]
+fn answers_in_json_are_sent(rt: HostRuntime) -> Result<(), Fail> {
+    for case in &IN_JSON {
+        sends(&rt, rt.alloc(), case)?;
+    }
+    Ok(())
+}
+
+#[test]
+fn checks_differences_and_reasons_are_sent(rt: HostRuntime) -> Result<(), Fail> {
+    for case in &FURTHER {
         sends(&rt, rt.alloc(), case)?;
     }
     Ok(())

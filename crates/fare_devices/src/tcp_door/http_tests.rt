@@ -2,7 +2,7 @@ ghost use Rattle.std.specs.Prelude.{⊤};
 
 use super::tests::{dialed, listening, taken};
 use super::*;
-use fare_http::{Allow, Exchange, Handler, Reply, Status, exchange, send};
+use fare_http::{Allow, Exchange, Form, Handler, Reply, Status, exchange, send};
 use fare_outside::{Bytes, NoMemory};
 use http::Method;
 use std::alloc::Global;
@@ -39,6 +39,7 @@ impl Handler for OneEdition {
         text.extend(b"EDITION 7 2025-01-01 23\n")?;
         Ok(Reply {
             status: Status::Okay,
+            form: Form::Text,
             allow: Allow::Unsaid,
             body: text,
         })
@@ -83,6 +84,7 @@ fn a_slow_peer_gets_a_long_answer_whole(rt: HostRuntime) -> Result<(), Fail> {
     assert!(rt; taken(&mut door));
     let answer = Reply {
         status: Status::Okay,
+        form: Form::Text,
         allow: Allow::Unsaid,
         body: Bytes::from(Vec::from_elem(rt.alloc(), b'.', LONG_ANSWER)?),
     };
