@@ -1,8 +1,8 @@
 -- Each command from the options that its definition found, where every value is in its form.
 use Rattle.std.specs.Prelude.{List, Option, Some}
 use Rattle.clap.specs.Words.{Row}
-use Rattle.fare_words.specs.Values.{best_in, count_in, edition_in, extra_in, port_in, round_in, sectors_in, seed_in}
-use Rattle.fare_words.specs.Values.{store_in, workers_in}
+use Rattle.fare_words.specs.Values.{asked_in, count_in, edition_in, extra_in, from_in, json_in, port_in, round_in}
+use Rattle.fare_words.specs.Values.{sectors_in, seed_in, store_in, to_in, workers_in}
 use Rattle.fare_words.specs.Steps.{◌>>=◌}
 use Rattle.fare_words.specs.declared.command.Command.{Command}
 use Rattle.fare_words.specs.declared.command.Command.TheVariants as command
@@ -13,8 +13,8 @@ use Rattle.fare_words.specs.declared.name.CommandName.TheVariants as named
 unfoldable pub price_of : List Row → Option Command
 price_of options = do
   workers ← workers_in options
-  best ← best_in options
-  Some (command.Price workers best)
+  asked ← asked_in options
+  Some (command.Price workers asked (json_in options))
 
 -- `publish`
 unfoldable pub publish_of : List Row → Option Command
@@ -26,7 +26,7 @@ publish_of options = do
 unfoldable pub list_of : List Row → Option Command
 list_of options = do
   store ← store_in options
-  Some (command.List store)
+  Some (command.List store (json_in options))
 
 -- `export`
 unfoldable pub export_of : List Row → Option Command
@@ -40,8 +40,8 @@ unfoldable pub quote_of : List Row → Option Command
 quote_of options = do
   store ← store_in options
   workers ← workers_in options
-  best ← best_in options
-  Some (command.Quote store workers best)
+  asked ← asked_in options
+  Some (command.Quote store workers asked (json_in options))
 
 -- `serve`
 unfoldable pub serve_of : List Row → Option Command
@@ -68,6 +68,23 @@ migrate_of options = do
   store ← store_in options
   Some (command.Migrate store)
 
+-- `diff`
+unfoldable pub diff_of : List Row → Option Command
+diff_of options = do
+  store ← store_in options
+  from ← from_in options
+  to ← to_in options
+  Some (command.Diff store from to)
+
+-- `compare`
+unfoldable pub compare_of : List Row → Option Command
+compare_of options = do
+  store ← store_in options
+  from ← from_in options
+  to ← to_in options
+  workers ← workers_in options
+  Some (command.Compare store from to workers)
+
 -- the command of this name
 unfoldable pub command_in : CommandName → List Row → Option Command
 command_in named.Price options = price_of options
@@ -78,3 +95,6 @@ command_in named.Quote options = quote_of options
 command_in named.Serve options = serve_of options
 command_in named.Drill options = drill_of options
 command_in named.Migrate options = migrate_of options
+command_in named.Check options = Some command.Check
+command_in named.Diff options = diff_of options
+command_in named.Compare options = compare_of options

@@ -1,5 +1,6 @@
--- The options that a definition in `clap` finds in words, and the texts of their values.
-use Rattle.std.specs.Prelude.{ℕ, List, Option, Some, None, if◌then◌else◌, nat_le, option_and_then}
+-- The options and flags that a definition in `clap` finds in words, and the texts of their values.
+use Rattle.std.specs.Prelude.{ℕ, Bool, false, List, Option, Some, None, if◌then◌else◌, nat_le, option_and_then}
+use Rattle.std.specs.Prelude.{bytes_eq, codes}
 use Rattle.std.specs.Option.{option_map_or}
 use Rattle.clap.specs.Words.{App, Row, Text, fault_of, first_of, matches_of}
 use Rattle.clap.specs.Walk.{is_empty}
@@ -8,6 +9,10 @@ use Rattle.fare_codes.specs.Numbers.{read_number}
 -- the options that the definition finds in the words after the first, where it takes those words
 unfoldable pub options_of : App → List Text → Option (List Row)
 options_of app words = if is_empty (fault_of app words) then Some (matches_of app words) else None
+
+-- a flag stands: its value, which words can't write, is then `true`, and else `false`
+unfoldable pub has_flag : Text → List Row → Bool
+has_flag name options = option_map_or (λ value. bytes_eq value (codes "true")) (first_of name options) false
 
 -- the number, from the least to the most, that the text writes without a sign and with no zero in front
 unfoldable pub number_between : ℕ → ℕ → Text → Option ℕ

@@ -1,11 +1,14 @@
 -- The value of each option.
-use Rattle.std.specs.Prelude.{ℕ, List, Option, Some, None, codes, if◌then◌else◌, option_and_then, option_map}
+use Rattle.std.specs.Prelude.{ℕ, Bool, true, false, List, Option, Some, None, codes, if◌then◌else◌, option_and_then}
+use Rattle.std.specs.Prelude.{option_map}
 use Rattle.std.specs.Option.{option_map_or}
 use Rattle.clap.specs.Words.{Row, Text, first_of}
 use Rattle.clap.specs.Walk.{is_empty}
 use Rattle.fare_words.specs.Limits.{default_extra, default_round, default_workers, most_best, most_count, most_edition}
 use Rattle.fare_words.specs.Limits.{most_extra, most_port, most_round, most_sectors, most_seed, most_workers}
-use Rattle.fare_words.specs.Options.{number_between, number_in, number_or}
+use Rattle.fare_words.specs.Options.{has_flag, number_between, number_in, number_or}
+use Rattle.fare_words.specs.declared.asked.Asked.{Asked}
+use Rattle.fare_words.specs.declared.asked.Asked.TheVariants as ask
 
 -- a store's name is any text that isn't empty
 abbrev pub store_name_of : Text → Option Text
@@ -24,9 +27,32 @@ unfoldable pub best_in : List Row → Option (Option ℕ)
 best_in options = option_map_or
     (λ text. option_map (λ n. Some n) (number_between 1 most_best text)) (first_of (codes "best") options) (Some None)
 
+-- what `--why` and `--best` ask of a trip; they can't be asked for together
+unfoldable pub asked_by : Bool → Option ℕ → Option Asked
+asked_by true None = Some ask.Why
+asked_by true (Some k) = None
+asked_by false None = Some ask.Quotation
+asked_by false (Some k) = Some (ask.Best k)
+
+-- what is asked of a trip
+unfoldable pub asked_in : List Row → Option Asked
+asked_in options = option_and_then (asked_by (has_flag (codes "why") options)) (best_in options)
+
+-- whether the answer is wanted in JSON
+unfoldable pub json_in : List Row → Bool
+json_in options = has_flag (codes "json") options
+
 -- the number of an edition
 unfoldable pub edition_in : List Row → Option ℕ
 edition_in options = number_in (codes "edition") 1 most_edition options
+
+-- the number of the edition from which two are compared
+unfoldable pub from_in : List Row → Option ℕ
+from_in options = number_in (codes "from") 1 most_edition options
+
+-- the number of the edition with which it is compared
+unfoldable pub to_in : List Row → Option ℕ
+to_in options = number_in (codes "to") 1 most_edition options
 
 -- the port on which connections come in
 unfoldable pub port_in : List Row → Option ℕ

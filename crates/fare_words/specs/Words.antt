@@ -20,6 +20,9 @@ name_of word =
     else if bytes_eq word (codes "serve") then Some named.Serve
     else if bytes_eq word (codes "drill") then Some named.Drill
     else if bytes_eq word (codes "migrate") then Some named.Migrate
+    else if bytes_eq word (codes "check") then Some named.Check
+    else if bytes_eq word (codes "diff") then Some named.Diff
+    else if bytes_eq word (codes "compare") then Some named.Compare
     else None
 
 -- the command that the words give: the first names it, its definition takes the others, and each value is in its form

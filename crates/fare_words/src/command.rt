@@ -1,3 +1,4 @@
+use crate::asked::Asked;
 use crate::store_name::StoreName;
 
 /// What the words ask for, with the values of the options, also of those that were left out.
@@ -6,7 +7,8 @@ pub enum Command<'a> {
     /// Quotes an itinerary by a tariff, both of the source.
     Price {
         workers: u32,
-        best: Option<u32>,
+        asked: Asked,
+        json: bool,
     },
     /// Puts the source's tariff into the store.
     Publish {
@@ -15,6 +17,7 @@ pub enum Command<'a> {
     /// Lists the editions of the store.
     List {
         store: StoreName<'a>,
+        json: bool,
     },
     /// Writes an edition of the store.
     Export {
@@ -25,7 +28,8 @@ pub enum Command<'a> {
     Quote {
         store: StoreName<'a>,
         workers: u32,
-        best: Option<u32>,
+        asked: Asked,
+        json: bool,
     },
     /// Answers so many connections by the store, in rounds.
     Serve {
@@ -45,5 +49,20 @@ pub enum Command<'a> {
     /// Writes each edition of the store in its canonical text.
     Migrate {
         store: StoreName<'a>,
+    },
+    /// Tells every fault of the source's tariff.
+    Check,
+    /// Tells which records of two editions of the store differ.
+    Diff {
+        store: StoreName<'a>,
+        from: u32,
+        to: u32,
+    },
+    /// Compares what the source's itineraries cost in two editions of the store.
+    Compare {
+        store: StoreName<'a>,
+        from: u32,
+        to: u32,
+        workers: u32,
     },
 }

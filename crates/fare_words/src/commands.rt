@@ -2,16 +2,18 @@
 
 ghost use Rattle.std.specs.Prelude.{◌≡◌, IfSome};
 ghost use Rattle.fare_words.specs.Commands.{command_in, price_of, publish_of, list_of, export_of};
-ghost use Rattle.fare_words.specs.Commands.{quote_of, serve_of, drill_of, migrate_of};
+ghost use Rattle.fare_words.specs.Commands.{quote_of, serve_of, drill_of, migrate_of, diff_of, compare_of};
 ghost use Rattle.fare_words.specs.WithinLimits.{IsWithinLimits};
 
 use crate::command::Command;
 use crate::name::CommandName;
 use crate::options::Options;
-use crate::values::{best, count, edition, extra, port, round, sectors, seed, store, workers};
+use crate::values::{
+    asked, count, edition, extra, from, json, port, round, sectors, seed, store, to, workers,
+};
 
 /// The command of this name; nothing where a value isn't in its form.
-#[tactic(auto, unfolding(crate::specs::Commands::command_in))]
+#[tactic(auto, unfolding(crate::specs::Commands::command_in, crate::specs::WithinLimits::IsWithinLimits))]
 pub(crate) fn command_in<'a>(name: CommandName, options: &Options<'a>) -> Option<Command<'a>>
     ensures value { result ≡ command_in name options.now }
     ensures limits { IfSome result IsWithinLimits }
@@ -25,6 +27,9 @@ pub(crate) fn command_in<'a>(name: CommandName, options: &Options<'a>) -> Option
         CommandName::Serve => serve(options),
         CommandName::Drill => drill(options),
         CommandName::Migrate => migrate(options),
+        CommandName::Check => Some(Command::Check),
+        CommandName::Diff => diff(options),
+        CommandName::Compare => compare(options),
     }
 }
 
@@ -35,7 +40,8 @@ fn price<'a>(options: &Options<'a>) -> Option<Command<'a>>
 {
     Some(Command::Price {
         workers: workers(options)?,
-        best: best(options)?,
+        asked: asked(options)?,
+        json: json(options),
     })
 }
 
@@ -56,6 +62,7 @@ fn list<'a>(options: &Options<'a>) -> Option<Command<'a>>
 {
     Some(Command::List {
         store: store(options)?,
+        json: json(options),
     })
 }
 
@@ -78,7 +85,8 @@ fn quote<'a>(options: &Options<'a>) -> Option<Command<'a>>
     Some(Command::Quote {
         store: store(options)?,
         workers: workers(options)?,
-        best: best(options)?,
+        asked: asked(options)?,
+        json: json(options),
     })
 }
 
@@ -116,5 +124,30 @@ fn migrate<'a>(options: &Options<'a>) -> Option<Command<'a>>
 {
     Some(Command::Migrate {
         store: store(options)?,
+    })
+}
+
+#[tactic(auto, unfolding(crate::specs::Commands::diff_of, crate::specs::WithinLimits::IsWithinLimits))]
+fn diff<'a>(options: &Options<'a>) -> Option<Command<'a>>
+    ensures value { result ≡ diff_of options.now }
+    ensures limits { IfSome result IsWithinLimits }
+{
+    Some(Command::Diff {
+        store: store(options)?,
+        from: from(options)?,
+        to: to(options)?,
+    })
+}
+
+#[tactic(auto, unfolding(crate::specs::Commands::compare_of, crate::specs::WithinLimits::IsWithinLimits))]
+fn compare<'a>(options: &Options<'a>) -> Option<Command<'a>>
+    ensures value { result ≡ compare_of options.now }
+    ensures limits { IfSome result IsWithinLimits }
+{
+    Some(Command::Compare {
+        store: store(options)?,
+        from: from(options)?,
+        to: to(options)?,
+        workers: workers(options)?,
     })
 }

@@ -1,11 +1,13 @@
-//! Each command's definition in `clap`: its name, and its options, each of which takes one value and may stand once.
+//! Each command's definition in `clap`: its name, its options, each of which takes one value, and its flags, which take
+//! none. Each may stand once.
 
 ghost use Rattle.std.specs.Prelude.{◌≡◌, [], ◌∷◌, IfOk, codes, false};
 ghost use Rattle.clap.specs.Words.{app_of, rule_of, with_rule};
-ghost use Rattle.fare_words.specs.Definitions.{command_with, definition_of, optional, required};
+ghost use Rattle.fare_words.specs.Definitions.{command_with, definition_of, flag, optional, required};
 ghost use Rattle.fare_words.specs.Definitions.{price_definition, publish_definition, list_definition};
 ghost use Rattle.fare_words.specs.Definitions.{export_definition, quote_definition, serve_definition};
-ghost use Rattle.fare_words.specs.Definitions.{drill_definition, migrate_definition};
+ghost use Rattle.fare_words.specs.Definitions.{drill_definition, migrate_definition, check_definition};
+ghost use Rattle.fare_words.specs.Definitions.{diff_definition, compare_definition};
 
 use crate::name::CommandName;
 use clap::{Arg, ArgAction, Command as Definition};
@@ -28,6 +30,9 @@ pub(crate) fn definition_of<'a>(
         CommandName::Serve => serve(alloc),
         CommandName::Drill => drill(alloc),
         CommandName::Migrate => migrate(alloc),
+        CommandName::Check => check(alloc),
+        CommandName::Diff => diff(alloc),
+        CommandName::Compare => compare(alloc),
     }
 }
 
@@ -47,7 +52,15 @@ fn required<'a>(alloc: Global, name: &'a str) -> Arg<'a>
     optional(alloc, name).required(true)
 }
 
-/// The definition with one more option.
+/// A flag.
+fn flag<'a>(alloc: Global, name: &'a str) -> Arg<'a>
+    ensures rule { rule_of result ≡ flag name.entry.now }
+    ensures local { result.global ≡ false }
+{
+    Arg::new(alloc, name).long(name).action(ArgAction::SetTrue)
+}
+
+/// The definition with one more option or flag.
 fn with_option<'a>(
     definition: Definition<'a>,
     option: Arg<'a>,
@@ -65,14 +78,16 @@ fn with_store<'a>(alloc: Global, name: &'a str) -> Result<Definition<'a>, AllocE
     with_option(Definition::new(alloc, name), required(alloc, "store"))
 }
 
-/// `price [--workers W] [--best K]`.
+/// `price [--workers W] [--best K] [--why] [--json]`.
 #[tactic(auto, unfolding(crate::specs::Definitions::price_definition))]
 fn price<'a>(alloc: Global) -> Result<Definition<'a>, AllocError>
     ensures { IfOk result (λ made. app_of made ≡ price_definition) }
 {
     let definition = Definition::new(alloc, "price");
     let definition = with_option(definition, optional(alloc, "workers"))?;
-    with_option(definition, optional(alloc, "best"))
+    let definition = with_option(definition, optional(alloc, "best"))?;
+    let definition = with_option(definition, flag(alloc, "why"))?;
+    with_option(definition, flag(alloc, "json"))
 }
 
 /// `publish --store NAME`.
@@ -83,12 +98,13 @@ fn publish<'a>(alloc: Global) -> Result<Definition<'a>, AllocError>
     with_store(alloc, "publish")
 }
 
-/// `list --store NAME`.
+/// `list --store NAME [--json]`.
 #[tactic(auto, unfolding(crate::specs::Definitions::list_definition))]
 fn list<'a>(alloc: Global) -> Result<Definition<'a>, AllocError>
     ensures { IfOk result (λ made. app_of made ≡ list_definition) }
 {
-    with_store(alloc, "list")
+    let definition = with_store(alloc, "list")?;
+    with_option(definition, flag(alloc, "json"))
 }
 
 /// `export --store NAME --edition N`.
@@ -100,14 +116,16 @@ fn export<'a>(alloc: Global) -> Result<Definition<'a>, AllocError>
     with_option(definition, required(alloc, "edition"))
 }
 
-/// `quote --store NAME [--workers W] [--best K]`.
+/// `quote --store NAME [--workers W] [--best K] [--why] [--json]`.
 #[tactic(auto, unfolding(crate::specs::Definitions::quote_definition))]
 fn quote<'a>(alloc: Global) -> Result<Definition<'a>, AllocError>
     ensures { IfOk result (λ made. app_of made ≡ quote_definition) }
 {
     let definition = with_store(alloc, "quote")?;
     let definition = with_option(definition, optional(alloc, "workers"))?;
-    with_option(definition, optional(alloc, "best"))
+    let definition = with_option(definition, optional(alloc, "best"))?;
+    let definition = with_option(definition, flag(alloc, "why"))?;
+    with_option(definition, flag(alloc, "json"))
 }
 
 /// `serve --store NAME --port P --count N [--workers W] [--round R]`.
@@ -140,4 +158,33 @@ fn migrate<'a>(alloc: Global) -> Result<Definition<'a>, AllocError>
     ensures { IfOk result (λ made. app_of made ≡ migrate_definition) }
 {
     with_store(alloc, "migrate")
+}
+
+/// `check`.
+#[tactic(auto, unfolding(crate::specs::Definitions::check_definition))]
+fn check<'a>(alloc: Global) -> Result<Definition<'a>, AllocError>
+    ensures { IfOk result (λ made. app_of made ≡ check_definition) }
+{
+    Ok(Definition::new(alloc, "check"))
+}
+
+/// `diff --store NAME --from N --to M`.
+#[tactic(auto, unfolding(crate::specs::Definitions::diff_definition))]
+fn diff<'a>(alloc: Global) -> Result<Definition<'a>, AllocError>
+    ensures { IfOk result (λ made. app_of made ≡ diff_definition) }
+{
+    let definition = with_store(alloc, "diff")?;
+    let definition = with_option(definition, required(alloc, "from"))?;
+    with_option(definition, required(alloc, "to"))
+}
+
+/// `compare --store NAME --from N --to M [--workers W]`.
+#[tactic(auto, unfolding(crate::specs::Definitions::compare_definition))]
+fn compare<'a>(alloc: Global) -> Result<Definition<'a>, AllocError>
+    ensures { IfOk result (λ made. app_of made ≡ compare_definition) }
+{
+    let definition = with_store(alloc, "compare")?;
+    let definition = with_option(definition, required(alloc, "from"))?;
+    let definition = with_option(definition, required(alloc, "to"))?;
+    with_option(definition, optional(alloc, "workers"))
 }

@@ -12,6 +12,9 @@ pub(crate) enum CommandName {
     Serve,
     Drill,
     Migrate,
+    Check,
+    Diff,
+    Compare,
 }
 
 impl CommandName {
@@ -29,6 +32,9 @@ impl CommandName {
             "serve" => Some(CommandName::Serve),
             "drill" => Some(CommandName::Drill),
             "migrate" => Some(CommandName::Migrate),
+            "check" => Some(CommandName::Check),
+            "diff" => Some(CommandName::Diff),
+            "compare" => Some(CommandName::Compare),
             _ => None,
         }
     }

@@ -23,7 +23,7 @@ impl<'a> Options<'a> {
     ghost use Rattle.std.specs.Prelude.{◌≡◌, ◌≤◌, IfOk, IfSome, map, option_map, string_bytes, true};
     ghost use Rattle.clap.specs.Words.{app_of, first_of, is_simple_and_free};
     ghost use Rattle.fare_words.specs.Limits.{IsBetween};
-    ghost use Rattle.fare_words.specs.Options.{number_in, number_or, options_of};
+    ghost use Rattle.fare_words.specs.Options.{has_flag, number_in, number_or, options_of};
 
     /// The options that the definition finds in the words after the first; nothing where it doesn't take them.
     pub(crate) fn read(
@@ -46,6 +46,17 @@ impl<'a> Options<'a> {
         ensures { option_map (λ text. text.now) result ≡ first_of name.now self.now }
     {
         self.found.get_str(name)
+    }
+
+    /// Whether a flag stands.
+    #[tactic(auto, unfolding(crate::specs::Options::has_flag))]
+    pub(crate) fn flag(&self, name: &str) -> bool
+        ensures { result ≡ has_flag name.now self.now }
+    {
+        match self.text(name) {
+            Some(text) => text == "true",
+            None => false,
+        }
     }
 
     /// The number of an option that has to stand; nothing where its text is no number from the least to the most.

@@ -11,18 +11,18 @@ struct Case {
     given: &'static str,
 }
 
-static TAKEN: [Case; 15] = [
+static TAKEN: [Case; 25] = [
     Case {
         words: &["price"],
-        given: "Some(Price { workers: 1, best: None })",
+        given: "Some(Price { workers: 1, asked: Quotation, json: false })",
     },
     Case {
         words: &["price", "--"],
-        given: "Some(Price { workers: 1, best: None })",
+        given: "Some(Price { workers: 1, asked: Quotation, json: false })",
     },
     Case {
         words: &["price", "--best", "9"],
-        given: "Some(Price { workers: 1, best: Some(9) })",
+        given: "Some(Price { workers: 1, asked: Best(9), json: false })",
     },
     Case {
         words: &["publish", "--store", "-"],
@@ -34,15 +34,15 @@ static TAKEN: [Case; 15] = [
     },
     Case {
         words: &["list", "--store=-x"],
-        given: "Some(List { store: StoreName { text: \"-x\" } })",
+        given: "Some(List { store: StoreName { text: \"-x\" }, json: false })",
     },
     Case {
         words: &["list", "--store==x"],
-        given: "Some(List { store: StoreName { text: \"=x\" } })",
+        given: "Some(List { store: StoreName { text: \"=x\" }, json: false })",
     },
     Case {
         words: &["list", "--store=é"],
-        given: "Some(List { store: StoreName { text: \"é\" } })",
+        given: "Some(List { store: StoreName { text: \"é\" }, json: false })",
     },
     Case {
         words: &["export", "--edition", "99999", "--store", "s"],
@@ -50,7 +50,7 @@ static TAKEN: [Case; 15] = [
     },
     Case {
         words: &["quote", "--best=10", "--store", "a b", "--workers", "16"],
-        given: "Some(Quote { store: StoreName { text: \"a b\" }, workers: 16, best: Some(10) })",
+        given: "Some(Quote { store: StoreName { text: \"a b\" }, workers: 16, asked: Best(10), json: false })",
     },
     Case {
         words: &["serve", "--count=1", "--port=65535", "--store=x"],
@@ -86,9 +86,49 @@ static TAKEN: [Case; 15] = [
         words: &["migrate", "--store", "a b"],
         given: "Some(Migrate { store: StoreName { text: \"a b\" } })",
     },
+    Case {
+        words: &["list", "--store=--json"],
+        given: "Some(List { store: StoreName { text: \"--json\" }, json: false })",
+    },
+    Case {
+        words: &["check", "--"],
+        given: "Some(Check)",
+    },
+    Case {
+        words: &["price", "--workers=16", "--why"],
+        given: "Some(Price { workers: 16, asked: Why, json: false })",
+    },
+    Case {
+        words: &["price", "--json", "--"],
+        given: "Some(Price { workers: 1, asked: Quotation, json: true })",
+    },
+    Case {
+        words: &["quote", "--best", "1", "--store=a b", "--json"],
+        given: "Some(Quote { store: StoreName { text: \"a b\" }, workers: 1, asked: Best(1), json: true })",
+    },
+    Case {
+        words: &["quote", "--json", "--why", "--store", "-"],
+        given: "Some(Quote { store: StoreName { text: \"-\" }, workers: 1, asked: Why, json: true })",
+    },
+    Case {
+        words: &["list", "--json", "--store", "s"],
+        given: "Some(List { store: StoreName { text: \"s\" }, json: true })",
+    },
+    Case {
+        words: &["diff", "--store", "=x", "--to=1", "--from", "7"],
+        given: "Some(Diff { store: StoreName { text: \"=x\" }, from: 7, to: 1 })",
+    },
+    Case {
+        words: &["compare", "--from", "99999", "--to=1", "--store==x"],
+        given: "Some(Compare { store: StoreName { text: \"=x\" }, from: 99999, to: 1, workers: 1 })",
+    },
+    Case {
+        words: &["compare", "--from=1", "--to=2", "--store=s", "--workers=16"],
+        given: "Some(Compare { store: StoreName { text: \"s\" }, from: 1, to: 2, workers: 16 })",
+    },
 ];
 
-static REFUSED: [&[&str]; 28] = [
+static REFUSED: [&[&str]; 42] = [
     &[],
     &[""],
     &["Price"],
@@ -117,6 +157,28 @@ static REFUSED: [&[&str]; 28] = [
     &["serve", "--store=s", "--port=80", "--count=1000001"],
     &["serve", "--store=s", "--port=80", "--count=1", "--round=9"],
     &["drill", "--seed=2147483648", "--sectors=1"],
+    &["price", "--json", "--json"],
+    &["price", "--json="],
+    &["price", "--json", "true"],
+    &["price", "--json=true"],
+    &["price", "--why", "--best=1"],
+    &["list", "--why", "--store=s"],
+    &["check", "--json"],
+    &["check", "x"],
+    &["diff", "--store=s", "--from=1"],
+    &["diff", "--store=s", "--from=0", "--to=1"],
+    &["quote", "--store", "--json"],
+    &["compare", "--store=s", "--from=1", "--to=100000"],
+    &["price", "json", "--why", "--workers=01", "--best=1"],
+    &[
+        "quote",
+        "--json",
+        "--why",
+        "--workers",
+        "1",
+        "--best=10",
+        "--store=-",
+    ],
 ];
 
 /// What the words give, as it is shown.

@@ -3,9 +3,11 @@
 ghost use Rattle.std.specs.Prelude.{◌≡◌, IfSome};
 ghost use Rattle.fare_words.specs.Limits.{IsBetween, most_best, most_count, most_edition, most_extra, most_port};
 ghost use Rattle.fare_words.specs.Limits.{most_round, most_sectors, most_seed, most_workers};
-ghost use Rattle.fare_words.specs.Values.{best_in, count_in, edition_in, extra_in, port_in, round_in, sectors_in};
-ghost use Rattle.fare_words.specs.Values.{seed_in, store_in, workers_in};
+ghost use Rattle.fare_words.specs.Values.{asked_by, asked_in, best_in, count_in, edition_in, extra_in, from_in, json_in};
+ghost use Rattle.fare_words.specs.Values.{port_in, round_in, sectors_in, seed_in, store_in, to_in, workers_in};
+ghost use Rattle.fare_words.specs.WithinLimits.{IsFew};
 
+use crate::asked::Asked;
 use crate::limits::{
     DEFAULT_EXTRA, DEFAULT_ROUND, DEFAULT_WORKERS, MOST_BEST, MOST_COUNT, MOST_EDITION, MOST_EXTRA,
     MOST_PORT, MOST_ROUND, MOST_SECTORS, MOST_SEED, MOST_WORKERS,
@@ -36,7 +38,7 @@ pub(crate) fn workers(options: &Options<'_>) -> Option<u32>
 
 /// How many of the best quotations are asked for, where any number is.
 #[tactic(auto, unfolding(crate::specs::Values::best_in))]
-pub(crate) fn best(options: &Options<'_>) -> Option<Option<u32>>
+fn best(options: &Options<'_>) -> Option<Option<u32>>
     ensures value { result ≡ best_in options.now }
     ensures limits { IfSome result (λ asked. IfSome asked (IsBetween 1 most_best)) }
 {
@@ -46,6 +48,39 @@ pub(crate) fn best(options: &Options<'_>) -> Option<Option<u32>>
     }
 }
 
+/// What is asked of a trip; nothing where `--why` and `--best` both stand.
+#[tactic(auto, unfolding(crate::specs::Values::asked_in))]
+pub(crate) fn asked(options: &Options<'_>) -> Option<Asked>
+    ensures value { result ≡ asked_in options.now }
+    ensures limits { IfSome result IsFew }
+{
+    let best = best(options)?;
+    asked_by(options.flag("why"), best)
+}
+
+/// What the flag and the number ask of a trip.
+#[tactic(auto, unfolding(crate::specs::Values::asked_by, crate::specs::WithinLimits::IsFew))]
+fn asked_by(why: bool, best: Option<u32>) -> Option<Asked>
+    requires { IfSome best (IsBetween 1 most_best) }
+    ensures value { result ≡ asked_by why best }
+    ensures limits { IfSome result IsFew }
+{
+    match (why, best) {
+        (true, None) => Some(Asked::Why),
+        (true, Some(_)) => None,
+        (false, None) => Some(Asked::Quotation),
+        (false, Some(k)) => Some(Asked::Best(k)),
+    }
+}
+
+/// Whether the answer is wanted in JSON.
+#[tactic(auto, unfolding(crate::specs::Values::json_in))]
+pub(crate) fn json(options: &Options<'_>) -> bool
+    ensures { result ≡ json_in options.now }
+{
+    options.flag("json")
+}
+
 /// The number of an edition.
 #[tactic(auto, unfolding(crate::specs::Values::edition_in))]
 pub(crate) fn edition(options: &Options<'_>) -> Option<u32>
@@ -53,6 +88,24 @@ pub(crate) fn edition(options: &Options<'_>) -> Option<u32>
     ensures limits { IfSome result (IsBetween 1 most_edition) }
 {
     options.number("edition", 1, MOST_EDITION)
+}
+
+/// The number of the edition from which two are compared.
+#[tactic(auto, unfolding(crate::specs::Values::from_in))]
+pub(crate) fn from(options: &Options<'_>) -> Option<u32>
+    ensures value { result ≡ from_in options.now }
+    ensures limits { IfSome result (IsBetween 1 most_edition) }
+{
+    options.number("from", 1, MOST_EDITION)
+}
+
+/// The number of the edition with which it is compared.
+#[tactic(auto, unfolding(crate::specs::Values::to_in))]
+pub(crate) fn to(options: &Options<'_>) -> Option<u32>
+    ensures value { result ≡ to_in options.now }
+    ensures limits { IfSome result (IsBetween 1 most_edition) }
+{
+    options.number("to", 1, MOST_EDITION)
 }
 
 /// The port on which connections come in.

@@ -1,44 +1,14 @@
-//! The fares desk: quotes air itineraries by mileage fare construction. `run` is the whole program over any source,
-//! sink, store, door and gate; `main` calls it over the real ones. What it answers is defined in `specs/` (`Outcome`).
-//!
-//! - `words`: what the words of the command line ask for;
-//! - `source`, `input`: the bytes of the source, and the itinerary and the tariff in them;
-//! - `store`: the book of a store; `quote`: the quotation of a trip over a book;
-//! - `price`, `publish`, `list`, `export`, `stored_quote`, `drill`, `serve`, `migrate`: the commands, a file each, and
-//!   `numbered_line`, the line that two of them answer;
-//! - `answer`, `run`: what a request is answered, and the whole program, from its words to what it ends in;
-//! - `exit`, `refused`, `fault_line`: what a run ends in, the ends for what the crates below refuse, and the status and
-//!   the line on standard error of each.
+//! The fares desk: quotes air itineraries by mileage fare construction. `main` calls `fare_run::run`, the whole program,
+//! over the real source, sink, file of editions and door; `progress` shows on a terminal how much of a batch is done.
 #![tactic(auto)]
 
-mod answer;
-mod drill;
-mod exit;
-mod export;
-mod fault_line;
-mod input;
-mod list;
-mod migrate;
-mod numbered_line;
-mod price;
-mod publish;
-mod quote;
-mod refused;
-mod run;
-mod serve;
-mod source;
-mod store;
-mod stored_quote;
-#[cfg(test)]
-mod tests;
-mod words;
+mod progress;
 
-use crate::exit::Exit;
-use crate::fault_line::fault_text;
-use crate::run::run;
 use fare_devices::{StdSink, StdSource, TcpDoor};
 use fare_outside::{NoMemory, OpenGate};
+use fare_run::{Exit, fault_text, run};
 use fare_sqlite::{FileKeeper, FoundFile, Wary};
+use progress::Progress;
 use std::io::{ErrorKind, Write};
 use std::process::ExitCode;
 use std::thread::Threads;
@@ -75,6 +45,7 @@ fn run_over_files<S: FoundFile, R: Threads + Sync>(
         &mut store,
         &mut door,
         &OpenGate,
+        &mut Progress::new(host),
     )
 }
 

@@ -1,0 +1,5 @@
+pub mod MigrationLemmas
+pub mod PublicationLemmas
+pub mod ToldLemmas
+pub mod ProgramLemmas
+pub mod WithinLemmas

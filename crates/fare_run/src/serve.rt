@@ -1,0 +1,54 @@
+//! The command `serve`.
+
+ghost use Rattle.std.specs.Prelude.{◌≡◌, ◌≤◌, [], IfErr, IfOk, IsErrOf};
+ghost use Rattle.fare_outside.specs.Cause.{Rose};
+ghost use Rattle.fare_split.specs.declared.pieces.TheConstants.{MOST_WORKERS};
+ghost use Rattle.fare_serve.specs.Desk.{world_of};
+ghost use Rattle.fare_serve.specs.Service.{door_state};
+ghost use Rattle.fare_run.specs.Answer.{IsDone};
+ghost use Rattle.fare_run.specs.Ends.{IsRefusalOfServe};
+ghost use Rattle.fare_run.specs.Run.{ServesNobodyAt};
+ghost use Rattle.fare_run.specs.Serve.{ServesStore};
+ghost use Rattle.fare_run.specs.Steps.{IsKeeping};
+
+use crate::exit::Exit;
+use crate::outcome::Outcome;
+use crate::store::book_of;
+use fare_outside::{Door, Keeper};
+use fare_serve::{Service, serve as serve_book};
+use std::alloc::Global;
+use std::thread::Threads;
+
+/// Serves connections over the book of a store, and answers how many were served and cut off. The store is opened
+/// before the door is asked to listen.
+pub fn serve<R: Threads + Sync, P: Keeper, D: Door>(
+    rt: &R,
+    alloc: Global,
+    store: &mut P,
+    door: &mut D,
+    name: &str,
+    service: Service,
+) -> Result<Outcome, Exit>
+    requires some { 1 ≤ service.round }
+    requires few { service.round ≤ 8 }
+    requires some_workers { 1 ≤ service.workers }
+    requires few_workers { service.workers ≤ MOST_WORKERS }
+    requires none_held { D.held door.old ≡ [] }
+    ensures serves { ServesStore service.count service.round
+        (world_of (door_state (D.waiting door.old) (D.sent door.old) (D.faults door.old) (D.cuts door.old))
+        (P.bodies store.old) (P.faults store.old))
+        (world_of (door_state (D.waiting door.new) (D.sent door.new) (D.faults door.new) (D.cuts door.new))
+        (P.bodies store.new) (P.faults store.new))
+        result }
+    ensures done { IfOk result IsDone }
+    ensures ends { IfErr result IsRefusalOfServe }
+    ensures nobody { IfErr result (λ exit. ServesNobodyAt exit → door.new ≡ door.old) }
+    ensures cause { IsErrOf result Exit.DoorFault → Rose (D.faults door.old) (D.faults door.new) }
+    ensures faults { D.faults door.old ≤ D.faults door.new }
+    ensures cuts { D.cuts door.old ≤ D.cuts door.new }
+    ensures keeping { IsKeeping result (P.faults store.old) (P.faults store.new) }
+{
+    let book = book_of(rt, alloc, store, name)?;
+    let text = serve_book(rt, alloc, book, store, door, service)?;
+    Ok(Outcome::done(text))
+}

@@ -1,2 +1,0 @@
-pub mod MigrationLemmas
-pub mod PublicationLemmas
