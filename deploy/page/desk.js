@@ -2,8 +2,8 @@
 
 import { byId, make, refusal, withClass } from "./elements.js";
 import { addSector, clearMarks, fillForm, part, removeSector, rows, tripText } from "./form.js";
-import { quotation, tenCheapest, verdict } from "./answers.js";
-import { refusalOf } from "./refusals.js";
+import { audited, quotation, reasons, tenCheapest } from "./answers.js";
+import { refusalOfFault, refusalOfStatus } from "./refusals.js";
 
 // The newest question, and how often what it is about was changed: an answer to another question is never shown, and one to what
 // the form no longer says is greyed.
@@ -14,6 +14,8 @@ let leave = new AbortController();
 
 // What the answer on the screen is about; null where there is none.
 let shownFor = null;
+
+const AUDIT = "/json/audit";
 
 const STALE = "The form has changed since this was asked.";
 
@@ -47,6 +49,16 @@ function wait() {
   return setInterval(() => { seconds.textContent = `${Math.round((Date.now() - begun) / 1000)} s`; }, 1000);
 }
 
+// The value of a desk's answer; null for what isn't its own, as a page of nginx.
+function valueOf(answer, text) {
+  if (!(answer.headers.get("Content-Type") ?? "").startsWith("application/json")) return null;
+  try {
+    return JSON.parse(text);
+  } catch {
+    return null;
+  }
+}
+
 // What makes the box that a question is answered by: it marks the form, so it is called for the newest question alone.
 async function boxOf(path, body, boxOfAnswer, signal) {
   let answer, text;
@@ -56,8 +68,9 @@ async function boxOf(path, body, boxOfAnswer, signal) {
   } catch {
     return () => refusal("The desk can't be reached", "no answer", "See that this computer is connected, and try again.");
   }
-  const isPlain = (answer.headers.get("Content-Type") ?? "").startsWith("text/plain");
-  return () => (answer.status === 200 ? boxOfAnswer(text) : refusalOf(answer.status, text, isPlain));
+  const value = valueOf(answer, text);
+  if (value === null) return () => refusalOfStatus(answer.status);
+  return () => (answer.status === 200 ? boxOfAnswer(value, text) : refusalOfFault(value.fault));
 }
 
 // Asks one question. The one before it is left, and its answer, if it still comes, isn't shown.
@@ -65,7 +78,7 @@ async function ask(path, body, boxOfAnswer) {
   leave.abort();
   leave = new AbortController();
   newest += 1;
-  const question = { number: newest, trip: tripChanges, line: lineChanges, hasLine: path === "/audit" };
+  const question = { number: newest, trip: tripChanges, line: lineChanges, hasLine: path === AUDIT };
   shownFor = null;
   clearMarks();
   const ticking = wait();
@@ -102,7 +115,8 @@ byId("more").addEventListener("click", (event) => { addSector(); part(rows().at(
 byId("fewer").addEventListener("click", (event) => { removeSector(); changed(event); });
 byId("fill").addEventListener("click", fill);
 byId("itinerary").addEventListener("input", changed);
-byId("itinerary").addEventListener("submit", (event) => { event.preventDefault(); ask("/quote", tripText(), quotation); });
-byId("ten").addEventListener("click", () => ask("/best/10", tripText(), tenCheapest));
-byId("audit").addEventListener("click", () => ask("/audit", auditText(), verdict));
+byId("itinerary").addEventListener("submit", (event) => { event.preventDefault(); ask("/json/quote", tripText(), quotation); });
+byId("ten").addEventListener("click", () => ask("/json/best/10", tripText(), tenCheapest));
+byId("why").addEventListener("click", () => ask("/json/why", tripText(), reasons));
+byId("audit").addEventListener("click", () => ask(AUDIT, auditText(), audited));
 addSector();

@@ -15,6 +15,10 @@ export function withClass(made, name) {
   return made;
 }
 
+// The desk's words with a capital, and as a sentence of the page.
+export const capital = (words) => words.charAt(0).toUpperCase() + words.slice(1);
+export const sentence = (words) => `${capital(words)}.`;
+
 // A box that says in words what is wrong, what can be done, and what the desk said.
 export function refusal(title, said, advice) {
   const box = withClass(make("section", null, make("h2", title)), "refusal");

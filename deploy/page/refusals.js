@@ -1,55 +1,48 @@
 // What the desk refuses, and what comes instead of an answer, in words.
 
-import { byId, refusal } from "./elements.js";
-import { rows, part, markAll, placeOf } from "./form.js";
+import { byId, refusal, sentence } from "./elements.js";
+import { markAll, part, placeOf, rows } from "./form.js";
 
-const MEMBERS = { sale: "day of sale", from: "first city", sectors: "sectors", sector: "sector", trip: "itinerary", to: "city reached",
-  carrier: "carrier", day: "day", cabin: "cabin", over: "routing", stop: "stopover", surface: "surface sector" };
+// The desk's own faults. Its sentence is shown; what is marked is named by the words of the fault's text.
 
-const FORMS = { sale: "a day as 2025-03-01, from 1970 on", from: "three letters A to Z", to: "three letters A to Z",
-  carrier: "two letters or digits", day: "a day as 2025-03-01, from 1970 on", cabin: "F, C or Y", over: "nothing, AT or PA",
-  stop: "true or false", surface: "true or false", sectors: "a list of sectors", sector: "an object", trip: "an object" };
-
-const TRIP_FAULTS = {
-  NotJson: () => ["This is no JSON", "Paste the whole object, from { to }, or clear the box and use the form.", byId("json")],
-  NoSectors: () => ["There is no sector", "Add at least one sector.", byId("trip")],
-  TooMany: (n) => ["Too many sectors", `An itinerary has at most 16 sectors, and this one has ${n}.`, byId("trip")],
-  SameCity: (n) => ["A sector goes nowhere", `Sector ${n} ends in the city where it begins.`, placeOf("to", n)],
-  DatesFall: (n) => ["The days go back", `Sector ${n} is before the sector ahead of it, or before the day of sale.`, placeOf("day", n)],
-  SurfacePlace: (n) => ["A surface sector stands wrong", `Sector ${n} can't be a surface sector: the first and the last can't, nor two in a row.`,
-    placeOf("surface", n)],
+const TRIP_PLACES = {
+  NotJson: () => byId("json"), NoSectors: () => byId("trip"), TooMany: () => byId("trip"), SameCity: (n) => placeOf("to", n),
+  DatesFall: (n) => placeOf("day", n), SurfacePlace: (n) => placeOf("surface", n),
 };
 
-function tripRefusal(text, words) {
-  const member = (said) => [MEMBERS[words[2]] ?? words[2], words[3] === "0" ? "" : ` of sector ${words[3]}`, said].join("");
-  if (words[1] === "Missing" || words[1] === "Bad") {
-    markAll([placeOf(words[2], Number(words[3]))]);
-    const title = words[1] === "Missing" ? "Something is missing" : "Something is mistyped";
-    return refusal(title, text, `The ${member(words[1] === "Missing" ? " is missing" : " isn't in its form")}: it is ${FORMS[words[2]]}.`);
-  }
-  const [title, advice, place] = (TRIP_FAULTS[words[1]] ?? (() => ["A fault of the itinerary", "", null]))(Number(words[2]));
-  markAll([place]);
-  return refusal(title, text, advice);
+function placesOfTrip([, kind, first, second]) {
+  if (kind === "Missing" || kind === "Bad") return [placeOf(first, Number(second))];
+  return [TRIP_PLACES[kind]?.(Number(first))];
 }
 
-function unknownPlace(text, city) {
-  const here = rows().filter((row) => part(row, "to").value.trim().toUpperCase() === city).map((row) => part(row, "to"));
-  if (byId("from").value.trim().toUpperCase() === city) here.unshift(byId("from"));
-  markAll(byId("json").value.trim() === "" ? here : [byId("json")]);
-  return refusal("An unknown place", text, `The edition has no city ${city}: correct it, or ask for a tariff that files it.`);
+function placesOfCity([, , city]) {
+  if (byId("json").value.trim() !== "") return [byId("json")];
+  const reached = rows().map((row) => part(row, "to"));
+  return [byId("from"), ...reached].filter((field) => field.value.trim().toUpperCase() === city);
 }
 
-function lineRefusal(text, words) {
-  markAll([byId("line")]);
-  if (words[1] === "MISSING") return refusal("There is no line", text, "Paste the calculation line of the ticket.");
-  const good = Number(words[1]);
-  byId("line").setSelectionRange(good, good + 1);
-  return refusal("This is no calculation line", text, `It reads well for ${good} characters; the one behind them can't stand there.`);
+function placesOfLine([, good]) {
+  if (good !== "MISSING") byId("line").setSelectionRange(Number(good), Number(good) + 1);
+  return [byId("line")];
 }
+
+const FAULTS = [
+  ["TRIP ", "There is a fault in the itinerary", placesOfTrip],
+  ["LINE ", "This is no calculation line", placesOfLine],
+  ["UNKNOWN PLACE ", "An unknown place", placesOfCity],
+  ["NO EDITION ", "No tariff is in force", () => [placeOf("sale", 0)]],
+];
+
+export function refusalOfFault({ text, words }) {
+  const [, title, placesOf] = FAULTS.find(([begin]) => text.startsWith(begin)) ?? ["", "The desk doesn't take this", () => []];
+  markAll(placesOf(text.split(" ")));
+  return refusal(title, text, sentence(words));
+}
+
+// What comes instead of an answer, by its status.
 
 const ASK_THE_KEEPER = "if it stays so, tell whoever runs the desk.";
 
-// What the desks' address says, by its status.
 const REFUSALS = {
   403: ["Not from here", `This address isn't let in: ${ASK_THE_KEEPER}`],
   404: ["There is no such question", `This page and the desk don't fit together: load the page anew; ${ASK_THE_KEEPER}`],
@@ -65,16 +58,7 @@ const REFUSALS = {
 
 const OTHER_REFUSAL = ["The desk didn't take the question", `Load the page anew, and ask again; ${ASK_THE_KEEPER}`];
 
-// The desk's own words are plain text; what nginx says in their place is a page, of which the status is shown.
-export function refusalOf(status, text, isPlain) {
-  const words = isPlain ? text.trimEnd().split(" ") : [];
-  if (words[0] === "TRIP") return tripRefusal(text, words);
-  if (words[0] === "LINE") return lineRefusal(text, words);
-  if (words[0] === "UNKNOWN") return unknownPlace(text, words[2]);
-  if (words[0] === "NO" && words[1] === "EDITION") {
-    markAll([placeOf("sale", 0)]);
-    return refusal("No tariff is in force", text, `No edition is effective on ${words[2]}, the day of sale: correct it, or publish a tariff for it.`);
-  }
+export function refusalOfStatus(status) {
   const [title, advice] = REFUSALS[status] ?? OTHER_REFUSAL;
-  return refusal(title, isPlain ? text : `status ${status}`, advice);
+  return refusal(title, `status ${status}`, advice);
 }

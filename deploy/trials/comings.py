@@ -100,6 +100,29 @@ def taken_out(office, samples):
     told(f'{len(asked)} quotations while a desk was taken out, stopped and started three times: none was cut off')
 
 
+def waited_for(office, samples):
+    """A desk that is taken out is waited for until it has answered what it has."""
+    desk, body = QUOTATIONS[2], samples.bodies[0]
+    office.hang(desk)
+    answers = []
+    asking = threading.Thread(target=lambda: answers.append(ask_desk(desk, 'POST', '/quote', body)))
+    asking.start()
+    time.sleep(0.5)
+    out = []
+    taking = threading.Thread(target=lambda: out.append(office.script('desk-out', desk)))
+    taking.start()
+    time.sleep(2)
+    assert not out, 'a desk that has a question is taken out as if it had none'
+    given_up = office.script('desk-out', desk, 1)
+    office.wake(desk)
+    taking.join()
+    asking.join()
+    assert given_up.returncode == 1 and 'still has questions' in given_up.stderr, given_up
+    assert out[0].returncode == 0 and answers == [samples.after[body]], (out, answers)
+    assert office.script('desk-in', desk).returncode == 0
+    told('a desk that is taken out is waited for until it has answered')
+
+
 def comes_back(office, samples):
     """What was published while a desk was away it has before it serves."""
     desk, other = QUOTATIONS[0], QUOTATIONS[1]
@@ -155,5 +178,6 @@ def started_first(office, samples):
 def run(office, samples):
     killed(office, samples)
     taken_out(office, samples)
+    waited_for(office, samples)
     comes_back(office, samples)
     started_first(office, samples)

@@ -31,8 +31,9 @@ def headers(office):
         connection = office.connection()
         connection.request('GET', path)
         named = connection.getresponse().headers
-        assert "default-src 'none'" in named['Content-Security-Policy'] and named['X-Content-Type-Options'] == 'nosniff', path
-        assert named['X-Frame-Options'] == 'DENY' and 'max-age' in named['Strict-Transport-Security'], path
+        assert "default-src 'none'" in named.get('Content-Security-Policy', ''), f'{path} says nothing of what a browser may fetch'
+        assert named['X-Content-Type-Options'] == 'nosniff' and named['X-Frame-Options'] == 'DENY', path
+        assert 'max-age' in named.get('Strict-Transport-Security', ''), path
     told('each answer has its security headers')
 
 

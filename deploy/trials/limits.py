@@ -1,6 +1,6 @@
 """No question stops more than itself."""
-import contextlib, re, socket, subprocess, threading, time
-from office import LONG, PATIENCE, QUOTATIONS, port_of, told
+import contextlib, os, re, resource, socket, subprocess, threading, time
+from office import LONG, PATIENCE, QUOTATIONS, ask_desk, port_of, told
 
 LIMIT_OF_ONE, LIMIT_OF_DESK = 8, 8
 
@@ -86,6 +86,7 @@ def limit_of_one(office, samples):
     time.sleep(0.5)
     other = Waiting(office, '/quote', samples.bodies[0], '127.0.0.24')
     time.sleep(0.5)
+    assert office.ask('GET', '/', client='127.0.0.23')[0] == 200, 'an address that asks too much can\'t load the page'
     office.wake(*QUOTATIONS)
     statuses = [one.end() for one in greedy]
     assert sorted(statuses) == [200] * LIMIT_OF_ONE + [429] * 4, statuses
@@ -121,7 +122,7 @@ def connections(desk):
 
 
 def long_ones(office, samples):
-    """Batches and lists of the cheapest that hang don't stop quotations."""
+    """What takes long and hangs doesn't stop quotations."""
     office.hang(*LONG)
     batch = b'[' + b','.join(samples.bodies) + b']'
     waiting = [Waiting(office, path, text, f'127.0.0.{80 + k}') for k, (path, text) in
@@ -135,10 +136,71 @@ def long_ones(office, samples):
     answered = [one.end() for one in waiting]
     assert seconds < 3, f'{seconds:.1f} seconds'
     assert set(answered) <= {200, 502} and answered.count(200) == 8, answered
-    named = {path: {port for line in office.access() if f'"POST {path} ' in line for port in desks_of(line)}
-             for path in ('/quote', '/batch', '/best/10')}
-    assert named['/batch'] and named['/best/10'] and not named['/quote'] & (named['/batch'] | named['/best/10']), named
     told('quotations go on while batches and lists of the cheapest fill their desks')
+
+
+def logged(office, pattern):
+    """The line of nginx's log with the pattern, which may be written a little after the answer."""
+    for _ in range(50):
+        for line in office.access():
+            if re.match(pattern, line):
+                return line
+        time.sleep(0.1)
+    raise AssertionError(f'nginx\'s log has no line of {pattern}')
+
+
+def whose_questions(office):
+    """What takes long is asked of the desks that are there for it, and all else of the others."""
+    paths = {'POST': ('/batch', '/best/10', '/why', '/json/batch', '/json/best/10', '/json/why', '/check'), 'GET': ('/editions/7/diff/8',)}
+    others = {'POST': ('/quote', '/audit', '/json/quote', '/json/audit', '/none'),
+              'GET': ('/editions', '/editions/7', '/json/editions', '/none/batch', '/page')}
+    for kinds, desks in ((paths, LONG), (others, QUOTATIONS)):
+        wanted = {str(port_of(desk)) for desk in desks}
+        for method, path in ((method, path) for method in kinds for path in kinds[method]):
+            office.ask(method, path, b'{}' if method == 'POST' else None, '127.0.0.26')
+            named = set(desks_of(logged(office, f'127.0.0.26 .*"{method} {path} ')))
+            assert named and named <= wanted, f'{method} {path} is asked of {named}'
+    told('what takes long has desks of its own')
+
+
+@contextlib.contextmanager
+def silent(desk, count, text=b''):
+    """So many peers of a desk, each of which sends this text and then nothing."""
+    peers = [socket.create_connection(('127.0.0.1', port_of(desk))) for _ in range(count)]
+    for one in peers:
+        one.sendall(text)
+    yield
+    for one in peers:
+        one.close()
+
+
+def silent_peers(office, samples):
+    """Peers of a desk that send nothing, or half a request, stand before no other one."""
+    desk = QUOTATIONS[0]
+    with silent(desk, 10), silent(desk, 10, b'POST /quote HTTP/1.1\r\nContent-Length: 99\r\n'):
+        time.sleep(0.5)
+        begun = time.monotonic()
+        for body in samples.bodies:
+            assert ask_desk(desk, 'POST', '/quote', body) == samples.after[body]
+        seconds = time.monotonic() - begun
+    assert seconds < 2, f'silent peers delay a desk\'s questions by {seconds:.1f} seconds'
+    told('peers that send nothing, or half a request, delay no other one')
+
+
+def no_descriptor(office, samples):
+    """A desk that has no descriptor left for a connection waits for one, and goes on."""
+    desk = QUOTATIONS[0]
+    process = office.desks[desk]
+    had = resource.prlimit(process.pid, resource.RLIMIT_NOFILE)
+    resource.prlimit(process.pid, resource.RLIMIT_NOFILE, (len(os.listdir(f'/proc/{process.pid}/fd')) + 4, had[1]))
+    with silent(desk, 12):
+        time.sleep(3)
+        assert process.poll() is None, 'a desk without a descriptor has ended'
+    begun = time.monotonic()
+    assert ask_desk(desk, 'POST', '/quote', samples.bodies[0]) == samples.after[samples.bodies[0]]
+    resource.prlimit(process.pid, resource.RLIMIT_NOFILE, had)
+    assert time.monotonic() - begun < 2
+    told('a desk that has no descriptor left waits for one, and goes on')
 
 
 def run(office, samples):
@@ -147,3 +209,6 @@ def run(office, samples):
     limit_of_one(office, samples)
     limit_of_desk(office, samples)
     long_ones(office, samples)
+    whose_questions(office)
+    silent_peers(office, samples)
+    no_descriptor(office, samples)

@@ -179,7 +179,7 @@ uwsgi_temp_path {folder}/u; scgi_temp_path {folder}/s; include /etc/nginx/mime.t
     def publish(self, path, desks, **settings):
         """Publishes a tariff to desks by the shipped script."""
         return subprocess.run([HERE / 'publish-everywhere', path, *map(address_of, desks)], capture_output=True, text=True,
-                              env={**self.environment, 'PAUSE': '0.2', 'PATIENCE': '60', **settings})
+                              env={**self.environment, 'PAUSE': '0.2', **settings})
 
     def write(self, name, text):
         """A file of the office's folder."""

@@ -78,7 +78,7 @@ def told_by_nginx(office, page, circle):
     """What nginx answers for real."""
     page.fill(circle)
     office.hang(DESK)
-    waiting = [threading.Thread(target=office.ask, args=('POST', '/quote', json.dumps(circle))) for _ in range(8)]
+    waiting = [threading.Thread(target=office.ask, args=('POST', '/json/quote', json.dumps(circle))) for _ in range(8)]
     for one in waiting:
         one.start()
     time.sleep(0.5)
