@@ -21,5 +21,3 @@ pub use quote_fault::QuoteFault;
 pub use quoting::quote_text;
 pub use selecting::edition_for;
 
-#[cfg(test)]
-mod tests;

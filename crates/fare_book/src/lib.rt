@@ -31,5 +31,3 @@ pub use publish_fault::PublishFault;
 pub use published::Published;
 pub use restore_fault::RestoreFault;
 
-#[cfg(test)]
-mod tests;

@@ -33,8 +33,6 @@ mod same;
 mod side_by_side;
 mod sum_line;
 mod sums;
-#[cfg(test)]
-mod tests;
 mod totals;
 mod unknown;
 mod watch;

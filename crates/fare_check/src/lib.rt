@@ -20,8 +20,6 @@ mod records;
 mod report;
 mod sentence;
 mod shape;
-#[cfg(test)]
-mod tests;
 mod words;
 
 pub use checked::{Checked, check_text, first_fault_is_the_editions};

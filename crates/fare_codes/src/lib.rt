@@ -29,8 +29,6 @@ mod numbers;
 mod over;
 mod rule_id;
 mod season;
-#[cfg(test)]
-mod tests;
 mod texts;
 
 pub use amounts::{convert, greater, surcharged};

@@ -27,5 +27,3 @@ pub use fare_answers::best_text;
 pub use reasoner::Reasoner;
 pub use routes::{CounterRoute, CounterRoutes};
 
-#[cfg(test)]
-mod tests;

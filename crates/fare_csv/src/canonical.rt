@@ -30,6 +30,15 @@ fn write_record(alloc: Global, lines: &mut Lines, one: &Record) -> Result<(), Al
     }
 }
 
+/// The line of a record in the canonical text, with LF behind it.
+pub fn record_line(alloc: Global, one: &Record) -> Result<Vec<u8>, NoMemory>
+    ensures { IfOk result (λ text. text.items ≡ line_of (record_row one.now)) }
+{
+    let mut lines = Lines::new(alloc);
+    write_record(alloc, &mut lines, one)?;
+    Ok(lines.into_text()?)
+}
+
 /// The canonical text of an edition: the version 2 spelling of HEAD, its records in their order
 /// and END, with a comma between two fields, without quotes, and LF behind each record. Read back it
 /// is the edition.

@@ -35,7 +35,7 @@ mod text_fault;
 mod write_names;
 mod write_record;
 
-pub use canonical::edition_text;
+pub use canonical::{edition_text, record_line};
 pub use edition::read_edition;
 pub use head::{Head, Version, read_head, read_version};
 pub use laws::{text_reads_back, text_tells};

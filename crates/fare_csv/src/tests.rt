@@ -1,72 +1,9 @@
+//! A promise about time: a long text is read in pieces.
+
+use crate::read_edition;
 use crate::spelling::read_at_once;
-use crate::{edition_text, read_edition, text_reads_back, text_tells};
-use arrayvec::ArrayString;
 use std::alloc::Global;
 use std::test::Fail;
-use std::thread::Threads;
-
-const VERSION_1: &[u8] =
-    b"HEAD,1,1,2025-01-01\nCUR,GB,GBP,0.750000,0,1,U\nCUR,FR,EUR,0.900000,2,1,N\nCUR,IT,EUR,0.900000,2,1,N\nCITY,LON,GB,2\nCITY,PAR,FR,2\nCITY,ROM,IT,2\nFARE,LON,ROM,EH,YY,Y,OW,,400.00\nTPM,LON,PAR,300\nTPM,PAR,ROM,700\nMPM,LON,ROM,EH,1000\nEND\n";
-
-const VERSION_2: &[u8] =
-    b"HEAD,2,1,2025-01-01\nCUR,GB,GBP,0.750000,0,1,U\nCUR,FR,EUR,0.900000,2,1,N\nCUR,IT,EUR,0.900000,2,1,N\nCITY,LON,GB,2\nCITY,PAR,FR,2\nCITY,ROM,IT,2\nFARE,LON,ROM,EH,YY,Y,OW,,01-01,12-31,400.00\nTPM,LON,PAR,300\nTPM,PAR,ROM,700\nMPM,LON,ROM,EH,1000\nEND\n";
-
-const EVERY_KIND: &[u8] =
-    b"HEAD,2,99999,2025-12-31\nRULE,A1,16,0,3,0,999,Y,*,\nRULE,B,0,16,0,7,30,N,- A1,C9 -\nCITY,LON,GB,2\nCITY,ROM,GB,3\nCUR,GB,GBP,9999999.000001,2,10000,N\nFARE,LON,ROM,AT,Q1,F,HR,B,11-01,03-31,9999999.99\nEMA,ROM,LON,PA,LON,99999\nEMA,ROM,LON,PA,,1\nMPM,LON,ROM,AP,99999\nTPM,ROM,LON,1\nEND\n";
-
-#[test]
-fn version_1_reads_as_version_2(rt: HostRuntime) -> Result<(), Fail> {
-    let edition = read_edition(&rt, rt.alloc(), VERSION_1)?;
-    assert!(rt; edition.number() == 1);
-    assert!(rt; edition.records().len() == 10);
-    let text = edition_text(rt.alloc(), &edition)?;
-    assert!(rt; text.as_slice() == VERSION_2);
-    Ok(())
-}
-
-#[test]
-fn each_kind_reads_back(rt: HostRuntime) -> Result<(), Fail> {
-    let edition = read_edition(&rt, rt.alloc(), EVERY_KIND)?;
-    text_reads_back(&edition);
-    text_tells(&edition, &edition);
-    let text = edition_text(rt.alloc(), &edition)?;
-    assert!(rt; text.as_slice() == EVERY_KIND);
-    Ok(())
-}
-
-#[test]
-fn lines_end_as_csv_lines_do(rt: HostRuntime) -> Result<(), Fail> {
-    let text = b"\xef\xbb\xbfHEAD,1,7,2025-01-01\r\n\r\n\"CUR\",GB,GBP,0.750000,0,1,U\r\rEND";
-    let edition = read_edition(&rt, rt.alloc(), text)?;
-    assert!(rt; edition.number() == 7);
-    assert!(rt; edition.records().len() == 1);
-    Ok(())
-}
-
-fn fault_of<R: AllocGlobal + Threads + Sync>(rt: &R, text: &[u8]) -> ArrayString<64> {
-    match read_edition(rt, rt.alloc(), text) {
-        Ok(_) => ArrayString::new(),
-        Err(fault) => fault.text(),
-    }
-}
-
-#[test]
-fn faults_are_told(rt: HostRuntime) -> Result<(), Fail> {
-    assert!(rt; fault_of(&rt, b"").as_str() == "TARIFF 1 NoHeader");
-    assert!(rt; fault_of(&rt, b"HEAD,1,1,2025-01-01\n").as_str() == "TARIFF 2 NoEnd");
-    assert!(rt; fault_of(&rt, b"HEAD,3,1,2025-01-01\n").as_str() == "TARIFF 1 BadRecord 2");
-    assert!(rt; fault_of(&rt, b"HEAD,1,1,2025-01-01\nHEAD\n").as_str() == "TARIFF 2 UnknownRecord");
-    assert!(rt; fault_of(&rt, b"HEAD,1,1,2025-01-01\nEND\nEND\n").as_str() == "TARIFF 3 AfterEnd");
-    assert!(rt;
-        fault_of(
-            &rt,
-            b"HEAD,1,1,2025-01-01\nTPM,LON,PAR,1\nTPM,PAR,LON,1\nEND\n"
-        )
-        .as_str()
-            == "TARIFF 2 UnknownCity"
-    );
-    Ok(())
-}
 
 /// A text of more than 256 KiB without its END, which has a record of each city that there may be.
 fn every_city(alloc: Global) -> Result<Vec<u8>, Fail> {
@@ -91,6 +28,7 @@ fn a_long_text_is_read_in_pieces(rt: HostRuntime) -> Result<(), Fail> {
     let edition = read_edition(&rt, rt.alloc(), text.as_slice())?;
     assert!(rt; edition.records().len() == 17_577);
     text.extend_from_slice(b"END\r\n")?;
-    assert!(rt; fault_of(&rt, text.as_slice()).as_str() == "TARIFF 17580 AfterEnd");
+    let fault = read_edition(&rt, rt.alloc(), text.as_slice()).err();
+    assert!(rt; fault.is_some_and(|fault| fault.text().as_str() == "TARIFF 17580 AfterEnd"));
     Ok(())
 }

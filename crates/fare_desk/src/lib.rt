@@ -36,7 +36,3 @@ pub use replies::{
 pub use routes::{Route, Routes};
 pub use side_by_side::SideBySide;
 
-#[cfg(test)]
-mod batch_tests;
-#[cfg(test)]
-mod desk_tests;

@@ -33,6 +33,3 @@ mod ways;
 pub use drill::drill_input;
 pub use limits::{LAST_SEED, MOST_EXTRA, MOST_SECTORS};
 pub use summary::drill_text;
-
-#[cfg(test)]
-mod tests;

@@ -41,5 +41,3 @@ pub use request::{NoRequest, Request, read_whole};
 pub use sending::{Exchange, send};
 pub use taken::{Taken, read_request};
 
-#[cfg(test)]
-mod tests;

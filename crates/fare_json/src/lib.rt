@@ -42,5 +42,3 @@ pub use listed::list_json;
 pub use quoting::quote_json;
 pub use writing::{push_money, push_string};
 
-#[cfg(test)]
-mod tests;

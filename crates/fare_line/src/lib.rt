@@ -11,8 +11,6 @@
 mod line;
 mod printing;
 mod reading;
-#[cfg(test)]
-mod tests;
 
 pub use line::Line;
 pub use line::part::{Letter, LinePart};

@@ -59,5 +59,3 @@ pub use sink::Sink;
 pub use source::Source;
 pub use writing::write_all;
 
-#[cfg(test)]
-mod tests;

@@ -27,5 +27,3 @@ pub use round::Round;
 pub use serving::{RoundHandler, serve_round};
 pub use taking::take_round;
 
-#[cfg(test)]
-mod tests;

@@ -24,5 +24,3 @@ pub use fault::{Fault, OneMethod};
 pub use refusals::{fault_text, fault_words};
 pub use verdict_sentences::verdict_words;
 
-#[cfg(test)]
-mod tests;

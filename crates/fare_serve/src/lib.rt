@@ -14,8 +14,6 @@ mod served_desk;
 mod served_front;
 mod service;
 mod serving;
-#[cfg(test)]
-mod tests;
 
 pub use rounds::serve_rounds;
 pub use serve_fault::ServeFault;

@@ -27,5 +27,3 @@ pub use opener::Opener;
 pub use sqlite_disk::Wary;
 pub use sqlite_keeper::SqliteKeeper;
 
-#[cfg(test)]
-mod tests;

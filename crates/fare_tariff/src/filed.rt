@@ -117,8 +117,8 @@ fn fares_key(fare: &FareRec) -> Key
     Key::Fares(fare.from, fare.to, fare.ind)
 }
 
-/// The key of a record.
-pub(crate) fn own_key(one: &Record) -> Key
+/// The key of a record: that of a fare is its two cities and its indicator, so its seasons share one.
+pub fn own_key(one: &Record) -> Key
     ensures key { result ≡ own_key one.now }
     ensures amount { has_amount_in_range one.now ≡ true }
 {

@@ -23,7 +23,7 @@ mod towns;
 
 pub use check::{CheckFault, CheckKind, fault_at, is_unknown_city};
 pub use edition::Edition;
-pub use filed::Filed;
+pub use filed::{Filed, own_key};
 pub use laws::{fare_of_a_day_is_one, fares_come_in_turn};
 pub use limits::{
     LAST_EDITION, MOST_DAYS, MOST_DECIMALS, MOST_FARES_BETWEEN, MOST_MILES, MOST_NAMES,
@@ -34,6 +34,3 @@ pub use records::{
     RuleList, RuleRec, Terms, same_records,
 };
 pub use seasons::overlap_is_a_shared_day;
-
-#[cfg(test)]
-mod tests;

@@ -7,8 +7,6 @@
 
 mod growing;
 mod short;
-#[cfg(test)]
-mod tests;
 
 pub use growing::{
     push_code, push_decimal, push_hundredths, push_labelled, push_number, push_whole,

@@ -21,5 +21,3 @@ pub use short_line::read_short;
 pub use trip::Trip;
 pub use written::{text_tells, trip_text};
 
-#[cfg(test)]
-mod tests;

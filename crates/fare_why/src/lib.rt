@@ -30,5 +30,3 @@ pub use reason::Reason;
 pub use searching::Searches;
 pub use telling::why_text;
 
-#[cfg(test)]
-mod tests;

@@ -10,5 +10,3 @@ mod telling;
 
 pub use answering::why_json;
 
-#[cfg(test)]
-mod tests;

@@ -30,5 +30,3 @@ pub use command::Command;
 pub use store_name::StoreName;
 pub use words::read_words;
 
-#[cfg(test)]
-mod tests;

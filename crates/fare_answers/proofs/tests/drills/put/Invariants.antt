@@ -1,6 +1,0 @@
--- no more are before it than were looked at
-use Rattle.std.proofs.Common.{◌≤◌}
-use Rattle.fare_answers.proofs.tests.drills.put.Given as goal
-
-abbrev pub invariant-loop-one : goal.invariant-loop-one
-invariant-loop-one l = l.place ≤ l.one-index

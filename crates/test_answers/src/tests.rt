@@ -1,0 +1,5 @@
+mod answers;
+mod audit;
+mod best;
+mod book;
+mod units;

@@ -1,0 +1,4 @@
+mod batch;
+mod counter;
+mod desk;
+mod serve;

@@ -1,0 +1,3 @@
+mod json;
+mod sentences;
+mod why_json;

@@ -1,0 +1,4 @@
+mod http;
+mod outside;
+mod rounds;
+mod sqlite;

@@ -1,0 +1,9 @@
+mod check;
+mod codes;
+mod csv;
+mod drill;
+mod line;
+mod tariff;
+mod text;
+mod trip;
+mod words;
