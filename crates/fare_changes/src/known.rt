@@ -8,7 +8,7 @@ ghost use Rattle.fare_changes.specs.Known.{IsKnown};
 use crate::same::same_record;
 use fare_index::{Index, Key};
 use fare_outside::NoMemory;
-use fare_tariff::Record;
+use fare_tariff::{Record, own_key};
 use std::alloc::{AllocError, Global};
 
 /// Records with the places of their keys.
@@ -18,21 +18,6 @@ pub(crate) struct Known<'e> {
     pub records: &'e [Record],
     /// The places of their keys.
     pub index: Index,
-}
-
-/// The key of a record: that of a fare is its two cities and its indicator, so its seasons share one.
-fn own_key(one: &Record) -> Key
-    ensures { result ≡ own_key one.now }
-{
-    match one {
-        Record::City(r) => Key::City(r.code),
-        Record::Cur(r) => Key::Currency(r.country),
-        Record::Rule(r) => Key::Rule(r.rule().id),
-        Record::Fare(r) => Key::Fares(r.from, r.to, r.ind),
-        Record::Mpm(r) => Key::permitted(r.from, r.to, r.ind),
-        Record::Tpm(r) => Key::ticketed(r.from, r.to),
-        Record::Ema(r) => Key::extra(r.from, r.to, r.ind, r.via),
-    }
 }
 
 /// The keys of records, in their order.

@@ -3,7 +3,6 @@
 //!
 //! - `same`: when two records are equal;
 //! - `known`: the records of an edition by their keys, and where one is in it;
-//! - `row`, `names`, `record_line`: the line of a record, as the canonical text has it;
 //! - `missing`: the lines of the records that one edition alone has;
 //! - `diff`, `laws`: the text of what changed, and what follows of it for every two editions;
 //! - `items`: the items of a batch, from its text;
@@ -25,10 +24,7 @@ mod items;
 mod known;
 mod laws;
 mod missing;
-mod names;
 mod outcome;
-mod record_line;
-mod row;
 mod same;
 mod side_by_side;
 mod sum_line;

@@ -7,7 +7,7 @@ ghost use Rattle.fare_changes.specs.DiffText.{marked};
 ghost use Rattle.fare_changes.specs.Known.{IsKnown};
 
 use crate::known::{Known, known_of, place_of};
-use crate::record_line::push_record;
+use fare_csv::record_line;
 use fare_outside::NoMemory;
 use fare_tariff::{MOST_RECORDS, Record};
 use std::alloc::Global;
@@ -43,7 +43,9 @@ fn add_missing(
         return Ok(());
     }
     lines.text.extend_from_slice(sign)?;
-    push_record(&mut lines.text, alloc, one)?;
+    lines
+        .text
+        .extend_from_slice(record_line(alloc, one)?.as_slice())?;
     lines.count += 1;
     Ok(())
 }

@@ -2,14 +2,14 @@
 //!
 //! - `limits`: how many bytes the source of each command may hold; `source`, `input`: the bytes of the source, and the
 //!   itinerary and the tariff in them;
-//! - `store`: the book of a store; `quote`, `in_json`: what is asked of a trip over a book, as a plain text and in JSON;
+//! - `store`: the book of a store; `quote`: what is asked of a trip over a book, as a plain text or in JSON;
 //! - `price`, `publish`, `list`, `export`, `stored_quote`, `drill`, `serve`, `migrate`, `check`, `diff`, `compare`: the
 //!   commands, a file each, and `numbered_line`, the line that two of them answer;
 //! - `workers`: how many share a search; `outcome`: what a command comes to, an exit and a text; `answer`: the command
 //!   by its name; `told`: its answer, or its refusal with the text that tells it; `program`: the whole, from its
 //!   words to what it ends in;
-//! - `json_fault`: a refusal in JSON; `exit`, `refused`, `fault_line`: what a run ends in, the ends for what the crates below refuse, and the status and
-//!   the line on standard error of each.
+//! - `exit`, `refused`: what a run ends in, and the ends for what the crates below refuse; `fault_line`: the status and
+//!   the line on standard error of each; `json_fault`: a refusal in JSON.
 #![tactic(auto)]
 
 mod answer;
@@ -20,7 +20,6 @@ mod drill;
 mod exit;
 mod export;
 mod fault_line;
-mod in_json;
 mod input;
 mod json_fault;
 mod limits;

@@ -149,11 +149,11 @@ fn door_of(alloc: Global, connections: &[&[u8]]) -> Result<MemDoor, Fail>
     Ok(MemDoor::new(alloc, waiting, 4096, Vec::new(alloc))?)
 }
 
-fn serve<R: Threads + Sync>(
+fn serve<R: Threads + Sync, H: RoundHandler>(
     rt: &R,
     alloc: Global,
     door: &mut MemDoor,
-    clerk: &mut Clerk,
+    clerk: &mut H,
     most: u32,
 ) -> (DoorEnd, Counts)
     requires some { 1 ≤ most }
@@ -382,25 +382,46 @@ impl Front for Meeting {
     }
 }
 
-fn status_of(round: &Round, i: usize) -> Option<Status> {
-    let entry = round.entries.get(i)?;
-    let reply = entry.reply.as_ref()?;
-    Some(reply.status)
+impl Handler for Meeting {
+    ghost step = { λ _ _ _ _ _ _. ⊤ };
+
+    fn answer<R: Threads + Sync>(
+        &mut self,
+        _rt: &R,
+        alloc: Global,
+        _method: &Method,
+        _path: &str,
+        _body: &[u8],
+    ) -> Result<Reply, NoMemory> {
+        reply(alloc, Status::NotFound, Allow::Unsaid, b"")
+    }
+}
+
+impl RoundHandler for Meeting {
+    ghost reply = { λ _ _ _ _ _. ⊤ };
+
+    fn view<R: Threads + Sync>(&self, rt: &R, alloc: Global, round: &mut Round) {
+        round.view_all(rt, alloc, self)
+    }
+
+    ghost shows = { λ _ _ _ _ _ _ _. tt };
 }
 
 #[test]
-fn round_two(rt: HostRuntime) -> Result<(), Fail> {
+fn the_requests_of_a_round_are_answered_at_once(rt: HostRuntime) -> Result<(), Fail> {
     let alloc = rt.alloc();
     let mut door = door_of(
         alloc,
         &[b"GET /1 HTTP/1.1\r\n\r\n", b"GET /2 HTTP/1.1\r\n\r\n"],
     )?;
-    let (mut round, _) = take_round(alloc, &mut door, 2);
-    let meeting = Meeting {
+    let mut meeting = Meeting {
         second_has_begun: AtomicU64::new(0),
     };
-    round.view_all(&rt, alloc, &meeting);
-    assert!(rt; status_of(&round, 0) == Some(Status::Okay));
-    assert!(rt; status_of(&round, 1) == Some(Status::Okay));
+    let (_, counts) = serve(&rt, alloc, &mut door, &mut meeting, 2);
+    assert_eq!(rt; counts, Counts { served: 2, cut: 0 });
+    let okay = b"HTTP/1.1 200 OK\r\nContent-Type: text/plain\r\nContent-Length: 0\r\n\
+Connection: close\r\n\r\n";
+    assert!(rt; was_sent(&door, 0, okay));
+    assert!(rt; was_sent(&door, 1, okay));
     Ok(())
 }
