@@ -20,4 +20,3 @@ pub use listing::best_text;
 pub use quote_fault::QuoteFault;
 pub use quoting::quote_text;
 pub use selecting::edition_for;
-

@@ -25,4 +25,3 @@ pub use fault::AuditFault;
 pub use laws::{construction_is_one, price_is_best_and_over, verdict_is_one};
 pub use reading::read_audit;
 pub use verdict::{Verdict, verdict_text};
-

@@ -14,4 +14,3 @@ mod walking;
 
 pub use best_list::{BestList, MOST_BEST};
 pub use first::{first_k, first_k_is_one};
-

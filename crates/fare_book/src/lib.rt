@@ -30,4 +30,3 @@ pub use laws::{bodies_in_words, repeat_is_already, selected_is_latest};
 pub use publish_fault::PublishFault;
 pub use published::Published;
 pub use restore_fault::RestoreFault;
-

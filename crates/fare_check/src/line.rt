@@ -74,7 +74,8 @@ fn push_rest(
     fault: TextFault,
 ) -> Result<(), NoMemory>
     ensures { OnOk result (text.new.items
-        ≡ text.old.items ++ codes "  " ++ sentence grounds.now.version grounds.now.filed.now row.now fault ++ codes "\n") }
+        ≡ text.old.items ++ codes "  "
+        ++ sentence grounds.now.version grounds.now.filed.now row.now fault ++ codes "\n") }
 {
     text.extend_from_slice(b"  ")?;
     push_sentence(text, grounds, row, fault)?;

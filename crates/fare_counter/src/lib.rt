@@ -26,4 +26,3 @@ pub use counter_front::CounterFront;
 pub use fare_answers::best_text;
 pub use reasoner::Reasoner;
 pub use routes::{CounterRoute, CounterRoutes};
-

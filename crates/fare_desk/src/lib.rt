@@ -35,4 +35,3 @@ pub use replies::{
 };
 pub use routes::{Route, Routes};
 pub use side_by_side::SideBySide;
-

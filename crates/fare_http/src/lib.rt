@@ -40,4 +40,3 @@ pub use reply::{Allow, Form, Reply, Status};
 pub use request::{NoRequest, Request, read_whole};
 pub use sending::{Exchange, send};
 pub use taken::{Taken, read_request};
-

@@ -41,4 +41,3 @@ pub use laws::{
 pub use listed::list_json;
 pub use quoting::quote_json;
 pub use writing::{push_money, push_string};
-

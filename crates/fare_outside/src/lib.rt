@@ -58,4 +58,3 @@ pub use reading::{ReadEnd, read_all};
 pub use sink::Sink;
 pub use source::Source;
 pub use writing::write_all;
-

@@ -26,4 +26,3 @@ pub use laws::round_of_one;
 pub use round::Round;
 pub use serving::{RoundHandler, serve_round};
 pub use taking::take_round;
-

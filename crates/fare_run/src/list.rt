@@ -26,8 +26,8 @@ pub fn list<R: Threads + Sync, P: Keeper>(
     json: bool,
 ) -> Result<Outcome, Exit>
     ensures answer { Answers
-        (λ answer. ReadsStore (P.bodies store.old) (P.bodies store.new) (λ bodies. AnswersOver (Lists json) bodies answer))
-        result }
+        (λ answer. ReadsStore (P.bodies store.old) (P.bodies store.new)
+        (λ bodies. AnswersOver (Lists json) bodies answer)) result }
     ensures done { IfOk result IsDone }
     ensures ends { IfErr result IsRefusalOfList }
     ensures bodies { WhereTold (P.bodies store.old) (P.bodies store.new) BodiesStay }

@@ -30,10 +30,11 @@ use std::thread::Threads;
 /// Where the source tells its bytes, the run ends in the answer that the words, those bytes and the bodies of the store
 /// define, or in want of memory, `ReadFault`, `KeeperFault` or `WriteFault`; these three come only where the source's,
 /// the store's and the sink's count rose in this call, and `KeeperFault` only where the source is within its limit and
-/// without a fault. A command that reads no source ends so over any source. All text is built before the first write, so the sink is left
-/// alone on every end but `Done` and `WriteFault`, which leave the same store. Only `publish` changes the bodies of the
-/// store, by the text of one edition, `serve`, by the publications that it answers, and `migrate`, which spells some
-/// first ones anew and changes no edition; a run that ends in want of memory has stored nothing else.
+/// without a fault. A command that reads no source ends so over any source. All text is built before the first write,
+/// so the sink is left alone on every end but `Done` and `WriteFault`, which leave the same store. Only `publish`
+/// changes the bodies of the store, by the text of one edition, `serve`, by the publications that it answers, and
+/// `migrate`, which spells some first ones anew and changes no edition; a run that ends in want of memory has stored
+/// nothing else.
 ///
 /// `serve` lets connections in by the door, which may hold none, and answers them in rounds over the book of the store.
 /// It is the only command that touches the door, and lets nobody in where it ends in anything but `Done`, `WriteFault`
@@ -56,8 +57,8 @@ pub fn run<R: Threads + Sync, S: Source, K: Sink, P: Keeper, D: Door, G: Gate, W
         (Rose (D.faults door.old) (D.faults door.new)))
         (IsOutcome (map string_bytes words.now) source (P.bodies store.old) (P.bodies store.new)))
         result (K.taken out.old) (K.taken out.new)) }
-    ensures unread { LeavesSource (command_of (map string_bytes words.now)) → EndsIn (ComesTo (command_of (map string_bytes words.now))
-        (HasFailed (Rose (S.faults src.old) (S.faults src.new)) (Rose (P.faults store.old) (P.faults store.new))
+    ensures unread { LeavesSource (command_of (map string_bytes words.now)) → EndsIn (ComesTo
+        (command_of (map string_bytes words.now)) (HasFailed (Rose (S.faults src.old) (S.faults src.new)) (Rose (P.faults store.old) (P.faults store.new))
         (Rose (D.faults door.old) (D.faults door.new)))
         (IsOutcome (map string_bytes words.now) [] (P.bodies store.old) (P.bodies store.new)))
         result (K.taken out.old) (K.taken out.new) }
@@ -91,7 +92,8 @@ pub fn run<R: Threads + Sync, S: Source, K: Sink, P: Keeper, D: Door, G: Gate, W
         WhereTold (P.bodies store.old) (P.bodies store.new) BodiesStay }
 
     // The source never loses more than one byte above the limit, and no count falls.
-    ensures within { TakesUpTo (limit_of (command_of (map string_bytes words.now)) + 1) (S.left src.old) (S.left src.new) }
+    ensures within { TakesUpTo (limit_of (command_of (map string_bytes words.now)) + 1)
+        (S.left src.old) (S.left src.new) }
     ensures limit { result ≡ Exit.Limit →
         TakesJust (limit_of (command_of (map string_bytes words.now)) + 1) (S.left src.old) (S.left src.new) }
     ensures source_count { S.faults src.old ≤ S.faults src.new }

@@ -23,4 +23,3 @@ pub use broken_words::push_broken;
 pub use fault::{Fault, OneMethod};
 pub use refusals::{fault_text, fault_words};
 pub use verdict_sentences::verdict_words;
-

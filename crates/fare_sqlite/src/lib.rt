@@ -26,4 +26,3 @@ pub use named_keeper::NamedKeeper;
 pub use opener::Opener;
 pub use sqlite_disk::Wary;
 pub use sqlite_keeper::SqliteKeeper;
-

@@ -20,4 +20,3 @@ pub use sector::Sector;
 pub use short_line::read_short;
 pub use trip::Trip;
 pub use written::{text_tells, trip_text};
-

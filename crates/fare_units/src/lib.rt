@@ -33,4 +33,3 @@ pub use prices::priced::{
 pub use prices::sheet::{unit_count, unit_sheet};
 pub use prices::shut::{is_priceless, is_untimely, shut_price};
 pub use rules::combine::is_uncombined;
-

@@ -29,4 +29,3 @@ pub use fare_relaxed::{
 pub use reason::Reason;
 pub use searching::Searches;
 pub use telling::why_text;
-

@@ -9,4 +9,3 @@ mod answering;
 mod telling;
 
 pub use answering::why_json;
-

@@ -29,4 +29,3 @@ pub use asked::Asked;
 pub use command::Command;
 pub use store_name::StoreName;
 pub use words::read_words;
-

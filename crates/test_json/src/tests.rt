@@ -1,3 +1,3 @@
-mod json;
+mod answers;
 mod sentences;
 mod why_json;

@@ -1,4 +1,4 @@
-mod http;
 mod outside;
+mod requests;
 mod rounds;
-mod sqlite;
+mod stores;

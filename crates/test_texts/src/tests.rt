@@ -1,9 +1,9 @@
 mod check;
 mod codes;
-mod csv;
 mod drill;
 mod line;
 mod tariff;
+mod tariff_texts;
 mod text;
 mod trip;
 mod words;
