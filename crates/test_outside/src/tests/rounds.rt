@@ -408,7 +408,7 @@ impl RoundHandler for Meeting {
 }
 
 #[test]
-fn the_requests_of_a_round_are_answered_at_once(rt: HostRuntime) -> Result<(), Fail> {
+fn round_two(rt: HostRuntime) -> Result<(), Fail> {
     let alloc = rt.alloc();
     let mut door = door_of(
         alloc,
