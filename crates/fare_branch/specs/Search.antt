@@ -16,6 +16,10 @@ pub record IsLeastPrice (tariff : Tariff) (trip : Itinerary) (least : ℕ) : Typ
   pub reached : ((parts : List Part) × IsLawful tariff trip parts least)
       ⊎ (NoneIsLawful tariff trip × (least ≡ NO_PRICE))
 
+-- a number is the price of a lawful construction
+abbrev pub IsPriceOfOne : Tariff → Itinerary → ℕ → Type 0
+IsPriceOfOne tariff trip price = (parts : List Part) × IsLawful tariff trip parts price
+
 -- a construction begins with the first-part choice of a number
 pub record BeginsBy (tariff : Tariff) (trip : Itinerary) (number : ℕ) (parts : List Part) : Type 0 where
   pub first : Part

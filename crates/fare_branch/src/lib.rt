@@ -47,6 +47,6 @@ pub use floors::floor_of;
 pub use own_bound::OwnBound;
 pub use partial::Partial;
 pub use pieces::{Piece, choices};
-pub use quoter::{BranchQuoter, best_of};
+pub use quoter::{BranchQuoter, best_of, best_under};
 pub use searching::search;
 pub use stacking::stack_floor;

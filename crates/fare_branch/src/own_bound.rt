@@ -1,7 +1,7 @@
 //! A bound that knows no more than it was told.
 
 ghost use Rattle.std.specs.Prelude.{◌≡◌, ◌≤◌};
-ghost use Rattle.fare_branch.specs.Search.{IsLeastPrice};
+ghost use Rattle.fare_branch.specs.Search.{IsLeastPrice, IsPriceOfOne};
 ghost use Rattle.fare_branch.specs.LeastPrice.{least_price};
 
 use crate::bound::{Bound, NO_PRICE};
@@ -36,7 +36,28 @@ impl OwnBound {
             least: NO_PRICE,
         }
     }
+
+    /// A bound for the same, which was told the price of a lawful construction.
+    pub fn told(edition: &Edition, trip: &Trip, price: u64) -> OwnBound
+        requires { IsPriceOfOne edition.now trip.now price }
+        ensures fixed { IsLeastPrice edition.now trip.now (⟦<OwnBound as Bound>⟧.fixed result) }
+        ensures least { ⟦<OwnBound as Bound>⟧.least result ≡ price }
+    {
+        least_is_at_most(edition, trip, price);
+        OwnBound {
+            edition: Snapshot::of(edition),
+            trip: Snapshot::of(trip),
+            least: price,
+        }
+    }
 }
+
+/// The least price of a lawful construction is at most that of each.
+fn least_is_at_most(edition: &Edition, trip: &Trip, price: u64)
+    requires { IsPriceOfOne edition.now trip.now price }
+    ensures least { IsLeastPrice edition.now trip.now (least_price edition.now trip.now) }
+    ensures at_most { least_price edition.now trip.now ≤ price }
+{}
 
 impl Bound for OwnBound {
     ghost fixed = { λ bound. least_price bound.edition.value bound.trip.value };

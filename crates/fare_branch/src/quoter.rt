@@ -2,7 +2,9 @@
 
 ghost use Rattle.std.specs.Prelude.{IfOk};
 ghost use Rattle.fare_rules.specs.Best.{IsBestAnswer};
+ghost use Rattle.fare_branch.specs.Search.{IsLeastPrice, IsPriceOfOne};
 
+use crate::bound::Bound;
 use crate::own_bound::OwnBound;
 use crate::pieces::{Piece, choices};
 use crate::searching::search;
@@ -40,12 +42,27 @@ impl Quoter for BranchQuoter {
 pub fn best_of(table: &Table) -> Option<(Construction, u64)>
     ensures { IsBestAnswer table.now.edition table.now.trip result }
 {
+    best_by(table, OwnBound::new(table.edition(), table.trip()))
+}
+
+/// The same where the price of a lawful construction is known: what costs more is left out from the start.
+pub fn best_under(table: &Table, known: u64) -> Option<(Construction, u64)>
+    requires { IsPriceOfOne table.now.edition table.now.trip known }
+    ensures { IsBestAnswer table.now.edition table.now.trip result }
+{
+    best_by(table, OwnBound::told(table.edition(), table.trip(), known))
+}
+
+/// The best construction of the trip of a table, by what a bound knows already.
+fn best_by(table: &Table, mut bound: OwnBound) -> Option<(Construction, u64)>
+    requires { IsLeastPrice table.now.edition table.now.trip (⟦<OwnBound as Bound>⟧.fixed bound) }
+    ensures { IsBestAnswer table.now.edition table.now.trip result }
+{
     first_part_is_a_choice();
     let _sectors = table.trip().count();
     let all = Piece {
         first: 0,
         past: choices(table),
     };
-    let mut bound = OwnBound::new(table.edition(), table.trip());
     search(table, &Rest::of(table), all, &mut bound)
 }

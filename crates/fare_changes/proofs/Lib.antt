@@ -6,5 +6,4 @@ pub mod Counted
 pub mod Outcomes
 pub mod ItemLines
 pub mod Answered
-pub mod Rows
 pub mod MissingLines

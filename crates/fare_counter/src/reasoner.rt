@@ -71,7 +71,7 @@ impl Reasoner for SplitQuoter<'_, OpenGate> {
 }
 
 /// The reasons of a trip as they are searched for: their text or the JSON answer, or why there are none.
-fn why_in<R: Threads + Sync, Q: Quoter + Sync>(
+fn why_in<R: Threads + Sync, Q: Quoter>(
     rt: &R,
     alloc: Global,
     form: Form,

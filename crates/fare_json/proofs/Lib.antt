@@ -4,6 +4,7 @@ pub mod QuotationLemmas
 pub mod BestLemmas
 pub mod EntryLemmas
 pub mod ListLemmas
+pub mod BatchLemmas
 pub mod AuditLemmas
 pub mod FaultLemmas
 pub mod PlainLemmas

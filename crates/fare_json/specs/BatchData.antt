@@ -1,7 +1,8 @@
 -- The JSON answer of a batch: the answer of each item with its status.
-use Rattle.std.specs.Prelude.{ℕ, ◌-◌, List, [], ◌∷◌, ◌++◌, length, map, take, codes, decimal, ◌==◌, if◌then◌else◌}
+use Rattle.std.specs.Prelude.{ℕ, ◌+◌, ◌-◌, List, [], ◌∷◌, ◌++◌, length, map, take, codes, decimal, ◌==◌, if◌then◌else◌}
 use Rattle.serde_json.specs.Data.{Data, array, object, no_members, member}
 use Rattle.serde_json.specs.View.{items_of}
+use Rattle.fare_json.specs.JsonText.{json_line}
 use Rattle.fare_json.specs.QuotationData.{count}
 
 -- an item is the value of its answer, and its status
@@ -35,3 +36,12 @@ unfoldable pub item_json : ℕ → List ℕ → ℕ → List ℕ
 item_json number answer status =
     comma_before number ++ codes "{\"answer\":" ++ without_line_end answer
     ++ codes ",\"status\":" ++ decimal status ++ codes "}"
+
+-- the items from a number on, by the values of their answers and by their statuses
+abbrev pub items_json : ℕ → List (Data × ℕ) → List ℕ
+items_json number [] = []
+items_json number (one ∷ rest) = item_json number (json_line one.0) one.1 ++ items_json (number + 1) rest
+
+-- the whole answer, item after item
+abbrev pub batch_json : List (Data × ℕ) → List ℕ
+batch_json items = batch_begin ++ items_json 1 items ++ batch_end

@@ -13,7 +13,10 @@ ghost use Rattle.fare_answers.specs.List.{list_text};
 ghost use Rattle.fare_audit.specs.declared.verdict.Verdict.{Verdict};
 ghost use Rattle.fare_audit.specs.VerdictText.{verdict_text};
 ghost use Rattle.fare_json.specs.AuditData.{audit_data};
+ghost use Rattle.serde_json.specs.Data.{Data};
+ghost use Rattle.fare_json.specs.BatchData.{batch_data, batch_json};
 ghost use Rattle.fare_json.specs.BestData.{first_data};
+ghost use Rattle.fare_json.specs.JsonText.{json_line};
 ghost use Rattle.fare_json.specs.ListData.{list_data};
 ghost use Rattle.fare_json.specs.QuotationData.{quotation_data};
 ghost use Rattle.fare_json.specs.FaultData.{refusal_data};
@@ -48,6 +51,12 @@ pub fn list_is_plain()
 pub fn audit_is_plain()
     ensures { (tariff : Tariff) (line : CalculationLine) (verdict : Verdict) →
         plain_audit (audit_data tariff line verdict) ≡ verdict_text verdict }
+{}
+
+/// A batch that is written item after item is the compact text of its value.
+#[tactic(auto, using(crate::proofs::BatchLemmas::batch_text))]
+pub fn batch_is_compact()
+    ensures { (items : List (Data × ℕ)) → batch_json items ≡ json_line (batch_data items) }
 {}
 
 /// The JSON answer of a refusal is read back from its text as its value.

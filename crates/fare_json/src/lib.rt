@@ -8,7 +8,8 @@
 //!   sheets;
 //! - `quoting`, `first`, `listed`, `batches`, `audits`, `fault_answer`: an answer each.
 //!
-//! `laws` has what follows of every answer (`Plain`): the plain text is made of its members.
+//! `laws` has what follows of every answer (`Plain`): the plain text is made of its members, and a batch that is written
+//! item after item is the text of its value.
 //!
 //! The refusals and the words of faults are those of `fare_sentences`, handed on here.
 #![tactic(auto)]
@@ -36,7 +37,8 @@ pub use fare_sentences::{
 pub use fault_answer::{fault_json, tariff_fault_json};
 pub use first::best_json;
 pub use laws::{
-    audit_is_plain, first_are_plain, list_is_plain, quotation_is_plain, refusal_is_read_back,
+    audit_is_plain, batch_is_compact, first_are_plain, list_is_plain, quotation_is_plain,
+    refusal_is_read_back,
 };
 pub use listed::list_json;
 pub use quoting::quote_json;

@@ -1,4 +1,5 @@
 pub mod LookUps
+pub mod Unasked
 pub mod Untouched
 pub mod Asked
 pub mod RulesKept

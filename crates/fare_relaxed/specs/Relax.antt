@@ -1,7 +1,9 @@
 -- Relax: an edition in which the rules ask for nothing by one kind of condition.
-use Rattle.std.specs.Prelude.{ℕ, List, map, true}
+use Rattle.std.specs.Prelude.{ℕ, Bool, true, false, not, ◌||◌, ◌==◌, List, map}
+use Rattle.std.specs.List.{list_any}
 use Rattle.fare_tariff.specs.declared.limits.TheConstants.{MOST_DAYS, MOST_STOPS, MOST_TRANSFERS}
-use Rattle.fare_tariff.specs.declared.records.names.Names.TheVariants.{All}
+use Rattle.fare_tariff.specs.declared.records.names.Names.{Names}
+use Rattle.fare_tariff.specs.declared.records.names.Names.TheVariants.{All, Of}
 use Rattle.fare_tariff.specs.declared.records.record.Record.{Record}
 use Rattle.fare_tariff.specs.declared.records.record.Record.TheVariants as filed
 use Rattle.fare_tariff.specs.Record.{RuleRecord}
@@ -42,3 +44,27 @@ relax term tariff =
       effective = tariff.effective;
       records = relaxed_records term tariff.records;
     }
+
+-- a list of rules asks for one of its own, where it isn't every rule
+abbrev pub names_ask : Names → Bool
+names_ask All = false
+names_ask (Of list) = true
+
+-- a rule asks for something by a kind of condition: relaxed, it would ask for less
+abbrev pub rule_asks : Term → RuleRecord → Bool
+rule_asks Advance r = not (r.advance == 0)
+rule_asks Stay r = not (r.min_stay == 0) || not (r.max_stay == MOST_DAYS)
+rule_asks Stopovers r = not (r.stops == MOST_STOPS)
+rule_asks Transfers r = not (r.transfers == MOST_TRANSFERS)
+rule_asks Surcharge r = not r.excess
+rule_asks Units r = names_ask r.units
+rule_asks Ends r = names_ask r.ends
+
+-- a record asks for something by a kind of condition, where it is a rule that does
+abbrev pub record_asks : Term → Record → Bool
+record_asks term (filed.Rule r) = rule_asks term r
+record_asks term one = false
+
+-- some rule of an edition asks for something by a kind of condition
+abbrev pub asks : Term → Tariff → Bool
+asks term tariff = list_any (record_asks term) tariff.records

@@ -1,7 +1,7 @@
 //! What follows for the constructions of a trip where one kind of condition is relaxed: each function computes nothing,
 //! and its contract is a law.
 
-ghost use Rattle.std.specs.Prelude.{◌≡◌, ◌≢◌, ℕ, List, Ok};
+ghost use Rattle.std.specs.Prelude.{◌≡◌, ◌≢◌, ℕ, List, Ok, false};
 ghost use Rattle.fare_trip.specs.Itinerary.{Itinerary};
 ghost use Rattle.fare_tariff.specs.Check.{IsEdition};
 ghost use Rattle.fare_tariff.specs.Tariff.{Tariff};
@@ -10,7 +10,7 @@ ghost use Rattle.fare_rules.specs.Best.{IsLawful};
 ghost use Rattle.fare_rules.specs.Lawful.{lawful_price};
 ghost use Rattle.fare_relaxed.specs.declared.term.Term.{Term};
 ghost use Rattle.fare_relaxed.specs.Terms.{rule_number};
-ghost use Rattle.fare_relaxed.specs.Relax.{relax, relaxed_records};
+ghost use Rattle.fare_relaxed.specs.Relax.{asks, relax, relaxed_records};
 ghost use Rattle.fare_relaxed.specs.Ranges.{HasRulesInRange};
 ghost use Rattle.fare_relaxed.specs.Own.{BreaksJust};
 
@@ -41,4 +41,9 @@ pub fn broken_rule_is_its_own()
         → IsLawful (relax term tariff) trip parts relaxed
         → ((price : ℕ) → lawful_price tariff trip parts ≢ Ok price)
         → BreaksJust tariff trip parts (rule_number term) }
+{}
+
+/// An edition of which no rule asks for anything by a kind of condition is the one with that kind relaxed.
+pub fn unasked_stays_the_same()
+    ensures { (tariff : Tariff) (term : Term) → asks term tariff ≡ false → relax term tariff ≡ tariff }
 {}

@@ -1,23 +1,30 @@
 //! What is cheaper without one kind of condition.
 
-ghost use Rattle.std.specs.Prelude.{◌≡◌, Ok, Some, true, IfOk};
+ghost use Rattle.std.specs.Prelude.{◌≡◌, Ok, Some, true, false, IfOk};
 ghost use Rattle.fare_line.specs.LineText.{line_text};
 ghost use Rattle.fare_calc.specs.LineOf.{line_of};
+ghost use Rattle.fare_branch.specs.Search.{IsPriceOfOne};
+ghost use Rattle.fare_rules.specs.Best.{IsBestAnswer};
 ghost use Rattle.fare_rules.specs.Lawful.{first_broken, lawful_price};
-ghost use Rattle.fare_relaxed.specs.Relax.{relax};
+ghost use Rattle.fare_relaxed.specs.Relax.{asks, relax};
 ghost use Rattle.fare_why.specs.Reasons.{IsShownFor, Shows, ShowsIfCheaper, is_cheaper};
 
 use crate::asked::Asked;
 use crate::prices::{is_cheaper, saved_by};
 use crate::reason::Reason;
+use fare_branch::{best_of, best_under};
 use fare_calc::{Priced, Sheets, line_by};
+use fare_component::Table;
 use fare_line::print_line;
 use fare_outside::NoMemory;
-use fare_relaxed::{Term, price_stays_the_same, relaxed};
+use fare_relaxed::{
+    Term, asks, lawful_stays_lawful, price_stays_the_same, relaxed, rules_are_in_range,
+    unasked_stays_the_same,
+};
 use fare_rules::Broken;
 use fare_tariff::Edition;
 use fare_trip::Trip;
-use fare_units::{Construction, Quoter, lawful_price, price_is_of_unbroken};
+use fare_units::{Construction, lawful_price, price_is_of_unbroken};
 use std::alloc::Global;
 use std::thread::Threads;
 
@@ -52,6 +59,38 @@ fn broken_rule(asked: &Asked<'_>, term: Term, construction: &Construction, price
     match lawful_price(asked.edition, asked.trip, construction) {
         Ok(_) => unreachable!(),
         Err(broken) => broken,
+    }
+}
+
+/// The best construction of the edition itself is lawful without a kind of condition too, and costs the same.
+#[tactic(auto, using(crate::proofs::Known::one_of_total))]
+fn total_is_of_one(asked: &Asked<'_>, term: Term, made: &Edition, total: u64)
+    requires made { made.now ≡ relax term asked.now.edition.now }
+    requires total { asked.now.total ≡ Some total }
+    ensures { IsPriceOfOne made.now asked.now.trip.now total }
+{
+    lawful_stays_lawful();
+    rules_are_in_range(asked.edition);
+}
+
+/// The best construction of the edition without a kind of condition. What costs more than the best of the edition itself
+/// is left out from the start.
+fn best_without(
+    alloc: Global,
+    asked: &Asked<'_>,
+    term: Term,
+    made: &Edition,
+) -> Result<Option<(Construction, u64)>, NoMemory>
+    requires { made.now ≡ relax term asked.now.edition.now }
+    ensures { IfOk result (IsBestAnswer made.now asked.now.trip.now) }
+{
+    let table = Table::prepare(alloc, made, asked.trip)?;
+    match asked.total {
+        None => Ok(best_of(&table)),
+        Some(total) => {
+            total_is_of_one(asked, term, made, total);
+            Ok(best_under(&table, total))
+        }
     }
 }
 
@@ -104,19 +143,31 @@ fn if_cheaper(
     }
 }
 
+/// What a kind of condition bars where no rule asks for it: nothing.
+#[tactic(auto, using(crate::proofs::Known::unasked_bars_nothing))]
+fn nothing_barred(asked: &Asked<'_>, term: Term) -> Option<Reason>
+    requires { asks term asked.now.edition.now ≡ false }
+    ensures { IsShownFor asked.now.edition.now asked.now.trip.now asked.now.total term result }
+{
+    unasked_stays_the_same();
+    None
+}
+
 /// What is shown for a kind of condition.
 #[tactic(auto, unfolding(crate::specs::Reasons::IsShownFor))]
-pub(crate) fn shown_for<R: Threads + Sync, Q: Quoter>(
+pub(crate) fn shown_for<R: Threads + Sync>(
     rt: &R,
     alloc: Global,
-    quoter: &Q,
     asked: &Asked<'_>,
     term: Term,
 ) -> Result<Option<Reason>, NoMemory>
     ensures { IfOk result (λ shown. IsShownFor asked.now.edition.now asked.now.trip.now asked.now.total term shown) }
 {
+    if !asks(asked.edition, term) {
+        return Ok(nothing_barred(asked, term));
+    }
     let made = relaxed(rt, alloc, asked.edition, term)?;
-    match quoter.quote(rt, alloc, &made, asked.trip)? {
+    match best_without(alloc, asked, term, &made)? {
         None => Ok(None),
         Some(best) => if_cheaper(alloc, asked, term, &made, best),
     }

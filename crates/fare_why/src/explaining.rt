@@ -3,14 +3,14 @@
 ghost use Rattle.std.specs.Prelude.{◌≡◌, ◌<◌, IfOk, IfSome, option_map};
 ghost use Rattle.fare_rules.specs.declared.limits.TheConstants.{PRICE_LIMIT};
 ghost use Rattle.fare_rules.specs.Best.{IsBestAnswer};
-ghost use Rattle.fare_why.specs.Asked.{NoneIsCheaper};
+ghost use Rattle.fare_why.specs.Asked.{IsTotal, NoneIsCheaper};
 ghost use Rattle.fare_why.specs.Reasons.{AreReasons, Explains, price_of};
 
 use crate::asked::Asked;
 use crate::explanation::Why;
 use crate::gathering::gathered;
 use crate::reason::Reason;
-use crate::searching::Searches;
+use crate::searching::{Searches, searched};
 use fare_outside::NoMemory;
 use fare_relaxed::all_terms;
 use fare_tariff::Edition;
@@ -34,8 +34,8 @@ fn total_of(edition: &Edition, trip: &Trip, best: &Option<(Construction, u64)>) 
     }
 }
 
-/// No lawful construction is cheaper than the best.
-fn none_is_cheaper(
+/// The price of the best construction is the total, and no lawful construction is cheaper.
+fn total_is_least(
     edition: &Edition,
     trip: &Trip,
     best: &Option<(Construction, u64)>,
@@ -43,22 +43,23 @@ fn none_is_cheaper(
 )
     requires best { IsBestAnswer edition.now trip.now best.now }
     requires total { total ≡ option_map price_of best.now }
-    ensures { NoneIsCheaper edition.now trip.now total }
+    ensures reached { IsTotal edition.now trip.now total }
+    ensures least { NoneIsCheaper edition.now trip.now total }
 {}
 
 /// The reasons, by what is asked.
-fn reasons_of<R: Threads + Sync, Q: Quoter + Sync>(
+fn reasons_of<R: Threads + Sync>(
     rt: &R,
     alloc: Global,
-    searches: &Searches<'_, Q>,
+    threads: usize,
     asked: &Asked<'_>,
 ) -> Result<Vec<Reason>, NoMemory>
-    requires { 0 < searches.now.threads }
+    requires { 0 < threads }
     ensures { IfOk result (λ reasons.
         AreReasons asked.now.edition.now asked.now.trip.now asked.now.total reasons.items) }
 {
     let terms = all_terms();
-    let slots = searches.slots(rt, alloc, asked, &terms)?;
+    let slots = searched(rt, alloc, threads, asked, &terms)?;
     let reasons = gathered(alloc, slots)?;
     Ok(reasons)
 }
@@ -67,7 +68,7 @@ fn reasons_of<R: Threads + Sync, Q: Quoter + Sync>(
 /// construction without that kind, where it costs less or none is lawful with it: with its line, its price, what it
 /// saves, and the first rule that it breaks in the edition itself.
 #[tactic(auto, unfolding(crate::specs::Reasons::Explains))]
-pub fn why<R: Threads + Sync, Q: Quoter + Sync>(
+pub fn why<R: Threads + Sync, Q: Quoter>(
     rt: &R,
     alloc: Global,
     searches: &Searches<'_, Q>,
@@ -79,12 +80,12 @@ pub fn why<R: Threads + Sync, Q: Quoter + Sync>(
 {
     let best = searches.quoter.quote(rt, alloc, edition, trip)?;
     let total = total_of(edition, trip, &best);
-    none_is_cheaper(edition, trip, &best, total);
+    total_is_least(edition, trip, &best, total);
     let asked = Asked {
         edition,
         trip,
         total,
     };
-    let reasons = reasons_of(rt, alloc, searches, &asked)?;
+    let reasons = reasons_of(rt, alloc, searches.threads, &asked)?;
     Ok(Why { total, reasons })
 }

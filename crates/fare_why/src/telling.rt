@@ -104,7 +104,7 @@ fn told(alloc: Global, edition: &Edition, why: &Why) -> Result<Vec<u8>, NoMemory
 }
 
 /// The text in an edition that knows all points of the trip.
-fn why_placed<R: Threads + Sync, Q: Quoter + Sync>(
+fn why_placed<R: Threads + Sync, Q: Quoter>(
     rt: &R,
     alloc: Global,
     searches: &Searches<'_, Q>,
@@ -121,7 +121,7 @@ fn why_placed<R: Threads + Sync, Q: Quoter + Sync>(
 /// The line that names the edition that a trip's sale day selects, the price of its best construction or `NO FARE`, and
 /// the reasons why it isn't cheaper; or why there is no such edition, as `edition_for` answers it.
 #[tactic(auto, unfolding(crate::specs::WhyText::WhyOver))]
-pub fn why_text<R: Threads + Sync, Q: Quoter + Sync>(
+pub fn why_text<R: Threads + Sync, Q: Quoter>(
     rt: &R,
     alloc: Global,
     book: &Book,

@@ -19,7 +19,7 @@ use std::thread::Threads;
 /// The JSON answer of the price of the best construction of a trip in the edition that its sale day selects, and of the
 /// reasons why it isn't cheaper; or why there is no such edition, as `fare_answers::edition_for` answers it.
 #[tactic(auto, unfolding(crate::specs::WhyData::WhyJsonOver))]
-pub fn why_json<R: Threads + Sync, Q: Quoter + Sync>(
+pub fn why_json<R: Threads + Sync, Q: Quoter>(
     rt: &R,
     alloc: Global,
     book: &Book,
@@ -36,7 +36,7 @@ pub fn why_json<R: Threads + Sync, Q: Quoter + Sync>(
 }
 
 /// The answer in an edition that knows all points of the trip.
-fn why_placed<R: Threads + Sync, Q: Quoter + Sync>(
+fn why_placed<R: Threads + Sync, Q: Quoter>(
     rt: &R,
     alloc: Global,
     searches: &Searches<'_, Q>,
