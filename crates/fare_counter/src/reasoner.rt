@@ -51,7 +51,7 @@ impl Reasoner for PlainQuoter {
     }
 }
 
-/// It finds them side by side, each by one worker.
+/// Its workers share the search for the best, and then have one search each.
 impl Reasoner for SplitQuoter<'_, OpenGate> {
     fn reasons<R: Threads + Sync>(
         &self,
@@ -61,9 +61,8 @@ impl Reasoner for SplitQuoter<'_, OpenGate> {
         book: &Book,
         trip: &Trip,
     ) -> Result<Vec<u8>, QuoteFault> {
-        let one = SplitQuoter::new(1, self.gate);
         let searches = Searches {
-            quoter: &one,
+            quoter: self,
             threads: self.workers as usize,
         };
         why_in(rt, alloc, form, book, &searches, trip)

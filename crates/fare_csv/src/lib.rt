@@ -29,8 +29,6 @@ mod read_text;
 mod record_kind;
 mod rows;
 mod spelling;
-#[cfg(test)]
-mod tests;
 mod text_fault;
 mod write_names;
 mod write_record;

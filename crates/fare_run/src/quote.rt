@@ -12,7 +12,6 @@ use crate::exit::Exit;
 use crate::outcome::Outcome;
 use fare_answers::{best_text, quote_text};
 use fare_book::Book;
-use fare_branch::BranchQuoter;
 use fare_json::{best_json, quote_json};
 use fare_outside::OpenGate;
 use fare_split::SplitQuoter;
@@ -79,7 +78,7 @@ fn first(alloc: Global, book: &Book, trip: &Trip, k: u32, json: bool) -> Result<
     Ok(Outcome::done(best_text(alloc, book, trip, k)?))
 }
 
-/// Why a trip isn't cheaper over a book. Each search is one worker's, and the workers have one each.
+/// Why a trip isn't cheaper over a book: all workers share the search for the best, and then have one search each.
 fn why<R: Threads + Sync>(
     rt: &R,
     alloc: Global,
@@ -93,7 +92,7 @@ fn why<R: Threads + Sync>(
     ensures ends { IfErr result IsEndOfQuoting }
 {
     let searches = Searches {
-        quoter: &BranchQuoter,
+        quoter,
         threads: quoter.workers as usize,
     };
     if json {

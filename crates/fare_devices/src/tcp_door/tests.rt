@@ -90,40 +90,64 @@ fn limits(silence: u64, exchange: u64) -> TcpLimits {
     }
 }
 
+/// Takes two peers, the second as soon as it is found, and holds both.
+fn holds_two(rt: &HostRuntime, door: &mut TcpDoor) -> bool {
+    taken_and_held(door) && finds(rt, door) && taken_and_held(door) && !door.more()
+}
+
+/// Whether the next held connection brings just these bytes, and takes an answer.
+fn answers(door: &mut TcpDoor, bytes: &[u8], answer: &[u8]) -> Result<bool, Fail> {
+    Ok(door.resume() && brings(door, bytes)? && door.write(answer) == Ok(answer.len()))
+}
+
 #[test]
 fn two_peers_are_answered_in_one_round(rt: HostRuntime) -> Result<(), Fail> {
     let (mut door, port) = listening(&rt, TcpLimits::default())?;
-    assert!(rt; !door.more());
     let mut first = asking(&rt, port, b"one")?;
     let mut second = asking(&rt, port, b"two")?;
-    assert!(rt; taken_and_held(&mut door));
-    assert!(rt; finds(&rt, &mut door));
-    assert!(rt; taken_and_held(&mut door));
-    assert!(rt; !door.more());
-    assert!(rt; door.resume());
-    assert!(rt; brings(&mut door, b"one")?);
-    assert_eq!(rt; door.write(b"first"), Ok(5));
-    assert!(rt; door.resume());
-    assert!(rt; brings(&mut door, b"two")?);
-    assert_eq!(rt; door.write(b"second"), Ok(6));
+    assert!(rt; holds_two(&rt, &mut door));
+    assert!(rt; answers(&mut door, b"one", b"first")?);
+    assert!(rt; answers(&mut door, b"two", b"second")?);
     door.close();
-    assert!(rt; gets(&mut first, b"first")?);
-    assert!(rt; gets(&mut second, b"second")?);
+    assert!(rt; gets(&mut first, b"first")? && gets(&mut second, b"second")?);
     Ok(())
 }
 
 #[test]
+fn none_waits_at_a_new_door(rt: HostRuntime) -> Result<(), Fail> {
+    let (mut door, _port) = listening(&rt, TcpLimits::default())?;
+    assert!(rt; !door.more());
+    Ok(())
+}
+
+/// Whether a door cuts off a peer that sends nothing.
+fn cuts_silence(rt: &HostRuntime, limits: TcpLimits) -> Result<bool, Fail> {
+    let (mut door, port) = listening(rt, limits)?;
+    let _silent = dialed(rt, port)?;
+    Ok(taken(&mut door) && is_cut(&mut door))
+}
+
+#[test]
 fn a_silent_peer_is_cut_off(rt: HostRuntime) -> Result<(), Fail> {
-    let (mut door, port) = listening(&rt, limits(100, 60_000))?;
-    let _silent = dialed(&rt, port)?;
-    assert!(rt; taken(&mut door));
-    assert!(rt; is_cut(&mut door));
+    assert!(rt; cuts_silence(&rt, limits(100, 60_000))?);
+    Ok(())
+}
+
+#[test]
+fn nothing_is_written_after_the_time_of_an_exchange(rt: HostRuntime) -> Result<(), Fail> {
     let (mut door, port) = listening(&rt, limits(60_000, 100))?;
     let _slow = dialed(&rt, port)?;
-    assert!(rt; taken(&mut door));
-    assert!(rt; is_cut(&mut door));
+    assert!(rt; taken(&mut door) && is_cut(&mut door));
     assert!(rt; door.write(b"late").is_err());
     Ok(())
+}
+
+/// Whether a peer that is ready is taken at once, and no other with it.
+fn takes_the_ready(rt: &HostRuntime, door: &mut TcpDoor) -> Result<bool, Fail> {
+    let begun = Instant::now(rt)?;
+    let is_taken = taken(door);
+    let is_soon = begun.elapsed(rt)? < Duration::from_secs(5);
+    Ok(is_taken && is_soon && brings(door, b"ready")? && !door.more())
 }
 
 #[test]
@@ -133,14 +157,9 @@ fn a_silent_peer_stands_before_no_other(rt: HostRuntime) -> Result<(), Fail> {
     let mut slow = dialed(&rt, port)?;
     slow.write_all(b"GET /editions HTTP/1.1\r\n")?;
     let _ready = asking(&rt, port, b"ready")?;
-    let begun = Instant::now(&rt)?;
-    assert!(rt; taken(&mut door));
-    assert!(rt; begun.elapsed(&rt)? < Duration::from_secs(5));
-    assert!(rt; brings(&mut door, b"ready")?);
-    assert!(rt; !door.more());
+    assert!(rt; takes_the_ready(&rt, &mut door)?);
     slow.write_all(b"\r\n")?;
-    assert!(rt; finds(&rt, &mut door));
-    assert!(rt; taken(&mut door));
+    assert!(rt; finds(&rt, &mut door) && taken(&mut door));
     assert!(rt; begins(&mut door, b"GET /editions HTTP/1.1\r\n\r\n")?);
     Ok(())
 }
@@ -152,21 +171,23 @@ fn the_door_listens_at_loopback_alone(rt: HostRuntime) -> Result<(), Fail> {
     Ok(())
 }
 
+/// Whether a peer that resets its connection is cut off: one that ends with bytes unread does.
+fn cuts_a_reset(rt: &HostRuntime, door: &mut TcpDoor, port: u16) -> Result<bool, Fail> {
+    let mut peer = dialed(rt, port)?;
+    peer.write_all(b"GET / HTTP/1.1\r\n\r\n")?;
+    let is_unread = taken(door) && door.write(b"unread") == Ok(6);
+    let is_begun = is_unread && begins(door, b"GET / HTTP/1.1\r\n\r\n")?;
+    drop(peer);
+    Ok(is_begun && is_cut(door))
+}
+
 #[test]
 fn a_peer_that_resets_is_cut_off_alone(rt: HostRuntime) -> Result<(), Fail> {
     let (mut door, port) = listening(&rt, TcpLimits::default())?;
-    let mut peer = dialed(&rt, port)?;
-    peer.write_all(b"GET / HTTP/1.1\r\n\r\n")?;
-    assert!(rt; taken(&mut door));
-    assert_eq!(rt; door.write(b"unread"), Ok(6));
-    assert!(rt; begins(&mut door, b"GET / HTTP/1.1\r\n\r\n")?);
-    // A connection that ends with bytes unread is reset.
-    drop(peer);
-    assert!(rt; is_cut(&mut door));
+    assert!(rt; cuts_a_reset(&rt, &mut door, port)?);
     door.close();
     let _next = asking(&rt, port, b"next")?;
-    assert!(rt; taken(&mut door));
-    assert!(rt; brings(&mut door, b"next")?);
+    assert!(rt; taken(&mut door) && brings(&mut door, b"next")?);
     Ok(())
 }
 

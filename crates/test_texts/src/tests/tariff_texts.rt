@@ -66,3 +66,29 @@ fn faults_are_told(rt: HostRuntime) -> Result<(), Fail> {
     );
     Ok(())
 }
+
+/// A text of more than 256 KiB without its END, which has a record of each city that there may be.
+fn every_city(alloc: Global) -> Result<Vec<u8>, Fail> {
+    let mut text = Vec::new(alloc);
+    text.extend_from_slice(b"HEAD,2,7,2025-01-01\r\nCUR,GB,GBP,0.750000,0,1,U\r\n")?;
+    for number in 0..17_576u32 {
+        let first = b'A' + (number / 676) as u8;
+        let second = b'A' + (number / 26 % 26) as u8;
+        let third = b'A' + (number % 26) as u8;
+        text.extend_from_slice(b"CITY,")?;
+        text.extend_from_slice(&[first, second, third])?;
+        text.extend_from_slice(b",GB,2\r\n")?;
+    }
+    Ok(text)
+}
+
+#[test]
+fn a_long_text_is_read_and_its_fault_is_told(rt: HostRuntime) -> Result<(), Fail> {
+    let mut text = every_city(rt.alloc())?;
+    text.extend_from_slice(b"END\r\n")?;
+    let edition = read_edition(&rt, rt.alloc(), text.as_slice())?;
+    assert!(rt; edition.records().len() == 17_577);
+    text.extend_from_slice(b"END\r\n")?;
+    assert!(rt; fault_of(&rt, text.as_slice()).as_str() == "TARIFF 17580 AfterEnd");
+    Ok(())
+}
