@@ -58,7 +58,8 @@ pub fn run<R: Threads + Sync, S: Source, K: Sink, P: Keeper, D: Door, G: Gate, W
         (IsOutcome (map string_bytes words.now) source (P.bodies store.old) (P.bodies store.new)))
         result (K.taken out.old) (K.taken out.new)) }
     ensures unread { LeavesSource (command_of (map string_bytes words.now)) → EndsIn (ComesTo
-        (command_of (map string_bytes words.now)) (HasFailed (Rose (S.faults src.old) (S.faults src.new)) (Rose (P.faults store.old) (P.faults store.new))
+        (command_of (map string_bytes words.now)) (HasFailed (Rose (S.faults src.old) (S.faults src.new))
+        (Rose (P.faults store.old) (P.faults store.new))
         (Rose (D.faults door.old) (D.faults door.new)))
         (IsOutcome (map string_bytes words.now) [] (P.bodies store.old) (P.bodies store.new)))
         result (K.taken out.old) (K.taken out.new) }
