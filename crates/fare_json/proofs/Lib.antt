@@ -9,3 +9,4 @@ pub mod AuditLemmas
 pub mod FaultLemmas
 pub mod PlainLemmas
 pub mod ReadLemmas
+pub mod ReadQuotation

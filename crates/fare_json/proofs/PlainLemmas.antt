@@ -43,11 +43,11 @@ use Rattle.fare_json.specs.ListData.{list_data, listed_data}
 use Rattle.fare_json.specs.Plain.{at, counted, digits, plain_audit, plain_best, plain_check, plain_construction, plain_currency, plain_edition, plain_entries, plain_entry, plain_first, plain_first_answer, plain_higher, plain_list, plain_listed, plain_measured, plain_miles, plain_pair, plain_amount_line, plain_filed_line, plain_part, plain_part_line, plain_parts, plain_quotation, plain_tag, plain_unit, plain_verdict, said, values_of}
 use Rattle.fare_json.specs.QuotationData.{best_data, checked_data, construction_data, count, edition_data, fare_data, higher_data, local_data, measured_data, miles_data, minimum_data, money, part_data, quotation_data, rate_data, rule_data, sold_data, unit_data}
 
-values_back : (all : List Data) → values_of (items_of all) ≡ all
+pub values_back : (all : List Data) → values_of (items_of all) ≡ all
 values_back [] = refl
 values_back (one ∷ rest) = ap (λ (r : List Data). one ∷ r) (values_back rest)
 
-edition_is_plain : (tariff : Tariff) → plain_edition (edition_data tariff) ≡ edition_line tariff
+pub edition_is_plain : (tariff : Tariff) → plain_edition (edition_data tariff) ≡ edition_line tariff
 unfolding plain_edition edition_data
 edition_is_plain tariff = refl
 

@@ -24,6 +24,8 @@ use Rattle.fare_audit.specs.declared.verdict.Verdict.TheVariants.{OtherTrip, NoR
 use Rattle.fare_sentences.specs.VerdictWords.{verdict_words}
 use Rattle.fare_json.specs.AuditData.{audit_data, named_data, verdict_data}
 use Rattle.fare_json.specs.BestData.{entry_data, first_data}
+use Rattle.fare_json.specs.BatchData.{batch_data, item_data}
+use Rattle.fare_json.specs.Counts.{AreEditionCounts, AreVerdictCounts, IsCount}
 use Rattle.fare_json.specs.FaultData.{refusal_data}
 use Rattle.fare_json.specs.ListData.{list_data, listed_data}
 use Rattle.fare_json.specs.QuotationData.{count, edition_data}
@@ -42,30 +44,30 @@ is_read_back value readable =
     ap whole (ap (json.value max_depth) (printed ∙ sym (append-nil _)) ∙ value-json_tokens written max_depth [] (omega (arith, shallow))) ∙ readable.reads
 
 -- the greater of two is at most what both are
-both_at_most : (a b most : ℕ) → a ≤ most → b ≤ most → max a b ≤ most
+pub both_at_most : (a b most : ℕ) → a ≤ most → b ≤ most → max a b ≤ most
 both_at_most a b most h k = omega (arith, h, k)
 
 -- the values of a list can all be read back
-EachReadable : ℕ → List Data → Type 0
+pub EachReadable : ℕ → List Data → Type 0
 EachReadable most [] = Unit {0}
 EachReadable most (one ∷ rest) = IsReadable most one × EachReadable most rest
 
-items_read : (most : ℕ) (all : List Data) → EachReadable most all → of_items (items_outline (items_of all)) ≡ Some (items_of all)
+pub items_read : (most : ℕ) (all : List Data) → EachReadable most all → of_items (items_outline (items_of all)) ≡ Some (items_of all)
 unfolding EachReadable
 items_read most [] each = refl
 items_read most (one ∷ rest) each = rw (each.0.reads, items_read most rest each.1) refl
 
-items_numbers : (most : ℕ) (all : List Data) → EachReadable most all → tree.ItemsHaveNumbers (items_outline (items_of all))
+pub items_numbers : (most : ℕ) (all : List Data) → EachReadable most all → tree.ItemsHaveNumbers (items_outline (items_of all))
 unfolding EachReadable
 items_numbers most [] each = tt
 items_numbers most (one ∷ rest) each = (each.0.numbers, items_numbers most rest each.1)
 
-items_shallow : (most : ℕ) (all : List Data) → EachReadable most all → tree.items_depth (items_outline (items_of all)) ≤ most
+pub items_shallow : (most : ℕ) (all : List Data) → EachReadable most all → tree.items_depth (items_outline (items_of all)) ≤ most
 unfolding EachReadable
 items_shallow most [] each = omega arith
 items_shallow most (one ∷ rest) each = both_at_most _ _ most each.0.shallow (items_shallow most rest each.1)
 
-array_readable : (most : ℕ) (all : List Data) → EachReadable most all → IsReadable (suc most) (array (items_of all))
+pub array_readable : (most : ℕ) (all : List Data) → EachReadable most all → IsReadable (suc most) (array (items_of all))
 array_readable most all each = record {
   reads = rw (items_read most all each) refl;
   numbers = items_numbers most all each;
@@ -73,21 +75,26 @@ array_readable most all each = record {
 }
 
 -- values that can be read back are those of a list
-from_all : {A : Type 0} (most : ℕ) (value : A → Data) (all : List A) → All (λ one. IsReadable most (value one)) all → EachReadable most (map value all)
+pub from_all : {A : Type 0} (most : ℕ) (value : A → Data) (all : List A) → All (λ one. IsReadable most (value one)) all → EachReadable most (map value all)
 unfolding EachReadable
 from_all most value [] each = tt
 from_all most value (one ∷ rest) each = (each 0 one (omega arith), from_all most value rest (λ k d within. each (suc k) d (omega arith)))
 
-from_each : {A : Type 0} (most : ℕ) (value : A → Data) (all : List A) → ((one : A) → IsReadable most (value one)) → EachReadable most (map value all)
+pub from_each : {A : Type 0} (most : ℕ) (value : A → Data) (all : List A) → ((one : A) → IsReadable most (value one)) → EachReadable most (map value all)
 unfolding EachReadable
 from_each most value [] each = tt
 from_each most value (one ∷ rest) each = (each one, from_each most value rest each)
 
-pub refusal_reads_back : (text words : List ℕ) → IsReadBack (refusal_data text words)
-unfolding refusal_data
-refusal_reads_back text words = is_read_back _ (record { reads = refl; numbers = ((tt, (tt, tt)), tt); shallow = omega arith })
+-- the same of one that nests less deeply
+pub is_read_back_within : (value : Data) → IsReadable 5 value → IsReadBack value
+is_read_back_within value readable =
+    is_read_back value (record { reads = readable.reads; numbers = readable.numbers; shallow = let s = readable.shallow in omega (arith, s) })
 
-count_is_read : (n : ℕ) → n < 2 ^ 64 → of_json (outline (count n)) ≡ Some (count n)
+pub refusal_readable : (text words : List ℕ) → IsReadable 5 (refusal_data text words)
+unfolding refusal_data
+refusal_readable text words = record { reads = refl; numbers = ((tt, (tt, tt)), tt); shallow = omega arith }
+
+pub count_is_read : (n : ℕ) → n < 2 ^ 64 → of_json (outline (count n)) ≡ Some (count n)
 count_is_read n fits = ap (option_map number) (number_of-decimal n fits)
 
 pub edition_readable : (tariff : Tariff) → tariff.number < 2 ^ 64 → IsReadable 1 (edition_data tariff)
@@ -131,16 +138,7 @@ list_reads_back editions each =
       shallow = let a = all.shallow in omega (arith, a);
     })
 
--- the numbers of a verdict fit
-pub VerdictFits : Verdict → Type 0
-VerdictFits (OtherTrip sector) = sector < 2 ^ 64
-VerdictFits (NoRecord place) = place < 2 ^ 64
-VerdictFits (Broken broken) = (broken.place < 2 ^ 64) × (broken.rule < 2 ^ 64)
-VerdictFits (Figures place) = place < 2 ^ 64
-VerdictFits (Lawful price over) = Unit {0}
-
-named_readable : (verdict : Verdict) (words : List ℕ) → VerdictFits verdict → IsReadable 1 (named_data verdict words)
-unfolding VerdictFits
+named_readable : (verdict : Verdict) (words : List ℕ) → AreVerdictCounts verdict → IsReadable 1 (named_data verdict words)
 named_readable (OtherTrip sector) words fits = record {
   reads = rw (number_of-decimal sector fits) refl;
   numbers = (tt, (IsNumber-decimal sector fits, (tt, tt)));
@@ -163,7 +161,7 @@ named_readable (Figures place) words fits = record {
 }
 named_readable (Lawful price over) words fits = record { reads = refl; numbers = (tt, (tt, (tt, (tt, tt)))); shallow = omega arith }
 
-pub audit_reads_back : (tariff : Tariff) (line : CalculationLine) (verdict : Verdict) → tariff.number < 2 ^ 64 → VerdictFits verdict → IsReadBack (audit_data tariff line verdict)
+pub audit_reads_back : (tariff : Tariff) (line : CalculationLine) (verdict : Verdict) → tariff.number < 2 ^ 64 → AreVerdictCounts verdict → IsReadBack (audit_data tariff line verdict)
 unfolding audit_data verdict_data
 audit_reads_back tariff line verdict fits numbers_fit =
     let edition = edition_readable tariff fits in
@@ -172,4 +170,27 @@ audit_reads_back tariff line verdict fits numbers_fit =
       reads = rw (edition.reads, named.reads) refl;
       numbers = (edition.numbers, (named.numbers, tt));
       shallow = let a = edition.shallow in let b = named.shallow in omega (arith, a, b);
+    })
+
+pub list_reads_back_counted : (editions : List Tariff) → All AreEditionCounts editions → IsReadBack (list_data editions)
+list_reads_back_counted editions counts =
+    list_reads_back editions (λ k d below. let both = counts k d below in listed_readable _ both.0 both.1)
+
+item_readable : (item : Data × ℕ) → IsReadable 5 item.0 → IsCount item.1 → IsReadable 6 (item_data item)
+unfolding item_data
+item_readable item readable fits = record {
+  reads = rw (readable.reads, number_of-decimal item.1 fits) refl;
+  numbers = (readable.numbers, (IsNumber-decimal item.1 fits, tt));
+  shallow = let s = readable.shallow in omega (arith, s);
+}
+
+pub batch_reads_back : (items : List (Data × ℕ)) → All (λ item. IsReadable 5 item.0 × IsCount item.1) items → IsReadBack (batch_data items)
+unfolding batch_data
+batch_reads_back items each =
+    let readable = from_all 6 item_data items (λ k d below. let both = each k d below in item_readable _ both.0 both.1) in
+    let all = array_readable 6 (map item_data items) readable in
+    is_read_back _ (record {
+      reads = rw (items_read 6 (map item_data items) readable) refl;
+      numbers = (all.numbers, tt);
+      shallow = let a = all.shallow in omega (arith, a);
     })

@@ -16,3 +16,4 @@ pub mod FaultData
 pub mod Spelled
 pub mod Plain
 pub mod ReadBack
+pub mod Counts

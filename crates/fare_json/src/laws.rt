@@ -19,8 +19,6 @@ ghost use Rattle.fare_json.specs.BestData.{first_data};
 ghost use Rattle.fare_json.specs.JsonText.{json_line};
 ghost use Rattle.fare_json.specs.ListData.{list_data};
 ghost use Rattle.fare_json.specs.QuotationData.{quotation_data};
-ghost use Rattle.fare_json.specs.FaultData.{refusal_data};
-ghost use Rattle.fare_json.specs.ReadBack.{IsReadBack};
 ghost use Rattle.fare_json.specs.Plain.{plain_audit, plain_first_answer, plain_list, plain_quotation};
 
 /// The members of a quotation make its plain text: the edition, the line and the worksheet of a lawful construction, or
@@ -57,10 +55,4 @@ pub fn audit_is_plain()
 #[tactic(auto, using(crate::proofs::BatchLemmas::batch_text))]
 pub fn batch_is_compact()
     ensures { (items : List (Data × ℕ)) → batch_json items ≡ json_line (batch_data items) }
-{}
-
-/// The JSON answer of a refusal is read back from its text as its value.
-#[tactic(auto, using(crate::proofs::ReadLemmas::refusal_reads_back))]
-pub fn refusal_is_read_back()
-    ensures { (text : List ℕ) (words : List ℕ) → IsReadBack (refusal_data text words) }
 {}

@@ -9,7 +9,7 @@
 //! - `quoting`, `first`, `listed`, `batches`, `audits`, `fault_answer`: an answer each.
 //!
 //! `laws` has what follows of every answer (`Plain`): the plain text is made of its members, and a batch that is written
-//! item after item is the text of its value.
+//! item after item is the text of its value; `reading_back` has that each is read back as its value.
 //!
 //! The refusals and the words of faults are those of `fare_sentences`, handed on here.
 #![tactic(auto)]
@@ -24,6 +24,7 @@ mod laws;
 mod listed;
 mod part;
 mod quoting;
+mod reading_back;
 mod sectors;
 mod unit;
 mod writing;
@@ -38,8 +39,11 @@ pub use fault_answer::{fault_json, tariff_fault_json};
 pub use first::best_json;
 pub use laws::{
     audit_is_plain, batch_is_compact, first_are_plain, list_is_plain, quotation_is_plain,
-    refusal_is_read_back,
 };
 pub use listed::list_json;
 pub use quoting::quote_json;
+pub use reading_back::{
+    audit_is_read_back, batch_is_read_back, first_are_read_back, list_is_read_back,
+    no_fare_is_read_back, quotation_is_read_back, refusal_is_read_back,
+};
 pub use writing::{push_money, push_string};

@@ -1,1 +1,3 @@
 pub mod WhyLemmas
+pub mod PlainLemmas
+pub mod ReadLemmas

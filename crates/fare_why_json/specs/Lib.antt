@@ -4,3 +4,5 @@ pub use Rattle.fare_book.specs.Book
 pub use Rattle.fare_why.specs.Reasons
 pub mod WhyData
 pub mod Spelled
+pub mod Plain
+pub mod Counts
