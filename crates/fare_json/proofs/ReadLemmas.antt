@@ -48,7 +48,7 @@ pub both_at_most : (a b most : ℕ) → a ≤ most → b ≤ most → max a b �
 both_at_most a b most h k = omega (arith, h, k)
 
 -- the values of a list can all be read back
-pub EachReadable : ℕ → List Data → Type 0
+unfoldable pub EachReadable : ℕ → List Data → Type 0
 EachReadable most [] = Unit {0}
 EachReadable most (one ∷ rest) = IsReadable most one × EachReadable most rest
 

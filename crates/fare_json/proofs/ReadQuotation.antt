@@ -73,7 +73,7 @@ range_readable zero first fits = tt
 range_readable (suc many) first fits =
     let here = fits zero (omega arith) in (
       count_readable first (omega (arith, here)),
-      range_readable many (suc first) (λ k below. let there = fits (suc k) (omega (arith, below)) in omega (arith, there)),
+      range_readable many (first + 1) (λ k below. let there = fits (suc k) (omega (arith, below)) in omega (arith, there)),
     )
 
 sectors_readable : (start end : ℕ) → end < 256 → IsReadable 1 (sectors_data start end)

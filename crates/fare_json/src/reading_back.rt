@@ -9,7 +9,8 @@ ghost use Rattle.fare_line.specs.Line.{CalculationLine};
 ghost use Rattle.fare_json.specs.AuditData.{audit_data};
 ghost use Rattle.fare_json.specs.BatchData.{batch_data};
 ghost use Rattle.fare_json.specs.BestData.{first_data};
-ghost use Rattle.fare_json.specs.Counts.{AreEditionCounts, ArePartCounts, AreVerdictCounts, IsCount};
+ghost use Rattle.fare_json.specs.Counts.{AreEditionCounts, AreMileageCounts, AreMilesCounts, ArePartCounts};
+ghost use Rattle.fare_json.specs.Counts.{AreVerdictCounts, IsCount};
 ghost use Rattle.fare_json.specs.FaultData.{refusal_data};
 ghost use Rattle.fare_json.specs.ListData.{list_data};
 ghost use Rattle.fare_json.specs.QuotationData.{quotation_data};
@@ -18,7 +19,8 @@ ghost use Rattle.fare_json.specs.ReadBack.{IsReadable, IsReadBack};
 use fare_audit::Verdict;
 use fare_book::Book;
 use fare_calc::{NumberedUnit, PartSheet, Sheets};
-use fare_mileage::Mileage;
+use fare_mileage::{Mileage, Miles};
+use fare_rules::Broken;
 use fare_tariff::Edition;
 
 /// The counts of an edition are those of its types.
@@ -29,6 +31,37 @@ fn edition_is_counted(edition: &Edition)
     let _count = edition.records().len();
 }
 
+/// The counts of miles are those of their types.
+fn miles_are_counted(miles: &Miles)
+    ensures { AreMilesCounts miles.now }
+{
+    let _sum = miles.sum;
+    let _allowance = miles.allowance;
+    let _net = miles.net;
+    let _mpm = miles.mpm;
+}
+
+/// A number of 32 bits is a count.
+fn is_counted(number: u32)
+    ensures { IsCount number }
+{
+    let _ = number;
+}
+
+/// The counts of a mileage are those of its types.
+fn mileage_is_counted(mileage: &Mileage)
+    ensures { AreMileageCounts mileage.now }
+{
+    match mileage {
+        Mileage::Within(miles) => miles_are_counted(miles),
+        Mileage::Excess(step, miles) => {
+            is_counted(*step);
+            miles_are_counted(miles);
+        }
+        _ => {}
+    }
+}
+
 /// The counts of a part are those of its types.
 fn part_is_counted(one: &PartSheet)
     ensures { ArePartCounts one.now }
@@ -36,12 +69,7 @@ fn part_is_counted(one: &PartSheet)
     let _end = one.end;
     let _unit = one.unit;
     let _number = one.number;
-    match one.mileage {
-        Mileage::Within(miles) | Mileage::Excess(_, miles) => {
-            let _sum = miles.sum;
-        }
-        _ => {}
-    }
+    mileage_is_counted(&one.mileage);
 }
 
 /// The number of a unit is one of its type.
@@ -119,14 +147,20 @@ fn verdict_is_counted(verdict: &Verdict)
     ensures { AreVerdictCounts verdict.now }
 {
     match *verdict {
-        Verdict::OtherTrip(number) | Verdict::NoRecord(number) | Verdict::Figures(number) => {
-            let _ = number;
-        }
-        Verdict::Broken(broken) => {
-            let _place = broken.place;
-        }
+        Verdict::OtherTrip(sector) => is_counted(sector),
+        Verdict::NoRecord(place) => is_counted(place),
+        Verdict::Broken(broken) => broken_is_counted(&broken),
+        Verdict::Figures(place) => is_counted(place),
         Verdict::Lawful { .. } => {}
     }
+}
+
+/// The counts of a broken rule are those of its types.
+fn broken_is_counted(broken: &Broken)
+    ensures { IsCount broken.now.place × IsCount broken.now.rule }
+{
+    let _place = broken.place;
+    let _rule = broken.rule;
 }
 
 /// An audit is read back from its text as its value.

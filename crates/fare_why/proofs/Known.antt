@@ -1,22 +1,25 @@
 -- No lawful construction is cheaper than the best, and one that isn't lawful breaks a first rule.
-use Rattle.std.proofs.Common.{◌≡◌, ℕ, Bool, true, false, ◌||◌, ◌&&◌, List, [], refl, sym, subst}
-use Rattle.std.proofs.Math.Option.{some-injective}
-use Rattle.std.specs.Prelude.{Option, Some, None, option_map, nat_lt, ◌==◌, Result, Ok, Err}
+use Rattle.std.proofs.Common.{◌≡◌, ℕ, ◌<◌, ◌≤◌, Bool, true, false, ◌||◌, ◌&&◌, List, refl, sym, subst, inl, inr, arith}
+use Rattle.std.proofs.lemmas.Bool.{ltb-false}
+use Rattle.std.specs.Prelude.{◌⊎◌, Option, Some, None, IfSome, option_map, nat_lt, ◌==◌, Result, Ok, Err}
 use Rattle.fare_trip.specs.Itinerary.{Itinerary}
 use Rattle.fare_tariff.specs.Tariff.{Tariff}
 use Rattle.fare_rules.specs.declared.broken.Broken.{Broken}
 use Rattle.fare_rules.specs.declared.part.Part.{Part}
-use Rattle.fare_rules.specs.Best.{IsBestAnswer, IsLawful}
+use Rattle.fare_rules.specs.declared.limits.TheConstants.{PRICE_LIMIT}
+use Rattle.fare_rules.specs.Best.{IsBestAnswer, IsLawful, NoneIsLawful}
 use Rattle.fare_rules.specs.Lawful.{lawful_price, first_broken, unless_broken}
 use Rattle.fare_rules.specs.UnitPrice.{price}
-use Rattle.fare_rules.proofs.BestLemmas.{irreflexive}
+use Rattle.fare_rules.proofs.ExistenceLemmas.{best_answer}
 use Rattle.fare_rules.specs.Order.{is_before, is_less, tie}
+use Rattle.fare_branch.specs.declared.bound.TheConstants.{NO_PRICE}
+use Rattle.fare_branch.specs.LeastPrice.{least_price}
 use Rattle.fare_branch.specs.Search.{IsPriceOfOne}
+use Rattle.fare_branch.proofs.LeastLemmas.{least_price_is}
 use Rattle.fare_relaxed.specs.declared.term.Term.{Term}
-use Rattle.fare_relaxed.specs.Ranges.{HasRulesInRange}
-use Rattle.fare_relaxed.specs.Relax.{asks, relax}
-use Rattle.fare_why.specs.Reasons.{IsShownFor, Priced, ShowsIfCheaper, is_cheaper, price_of}
-use Rattle.fare_why.specs.Asked.{IsTotal, NoneIsCheaper}
+use Rattle.fare_relaxed.specs.Relax.{relax}
+use Rattle.fare_why.specs.Reasons.{IsShownFor, Priced, ShowsIfCheaper, price_of}
+use Rattle.fare_why.specs.Asked.{NoneIsCheaper}
 
 true_false : true ≡ false → ⊥
 true_false e = cc
@@ -44,38 +47,53 @@ unfolding lawful_price
 first_of_refused tariff trip parts broken e =
     refused (first_broken tariff trip parts) (price tariff trip parts) broken e
 
--- the best of an edition isn't cheaper than its own price
-own_price : (n : ℕ) → nat_lt n n ≡ false
-unfolding is_before
-own_price n = first_false (nat_lt n n) ((n == n) && is_less (tie [] [])) (irreflexive [] n)
-
-own_is_not_shown : (tariff : Tariff) (trip : Itinerary) (term : Term) (best : Option Priced)
-    → ShowsIfCheaper tariff trip (option_map price_of best) term best None
-own_is_not_shown tariff trip term None = refl
-own_is_not_shown tariff trip term (Some best) = rw (own_price best.1) refl
-
 -- where no rule asks for a kind of condition, nothing is barred by it
+not_shown : (tariff : Tariff) (trip : Itinerary) (total : Option ℕ) (term : Term) (best : Option Priced)
+    → IsBestAnswer tariff trip best → NoneIsCheaper tariff trip total → ShowsIfCheaper tariff trip total term best None
+not_shown tariff trip total term None is_best none = refl
+not_shown tariff trip total term (Some best) is_best none = rw (none best.0 best.1 is_best.lawful) refl
+
 pub unasked_bars_nothing : (tariff : Tariff) (trip : Itinerary) (total : Option ℕ) (term : Term)
-    → relax term tariff ≡ tariff → IsTotal tariff trip total → IsShownFor tariff trip total term None
+    → relax term tariff ≡ tariff → NoneIsCheaper tariff trip total → IsShownFor tariff trip total term None
 unfolding IsShownFor
-unasked_bars_nothing tariff trip total term same reached = (
-  reached.0,
-  subst (λ (t : Tariff). IsBestAnswer t trip reached.0) (sym same) reached.1,
-  subst (λ (n : Option ℕ). ShowsIfCheaper tariff trip n term reached.0 None) (sym reached.2)
-      (own_is_not_shown tariff trip term reached.0),
-)
+unasked_bars_nothing tariff trip total term same none =
+    let best = best_answer tariff trip in (
+      best.0,
+      subst (λ (t : Tariff). IsBestAnswer t trip best.0) (sym same) best.1,
+      not_shown tariff trip total term best.0 best.1 none,
+    )
 
-none_is_some : (total : ℕ) → Some total ≡ None → ⊥
-none_is_some total e = cc
+-- the price of the best is the least price
+not_less : (a b : ℕ) → nat_lt a b ≡ false → b ≤ a
+not_less a b e = ltb-false a b e
 
-of_best : (tariff : Tariff) (trip : Itinerary) (best : Option Priced) (total : ℕ) → IsBestAnswer tariff trip best
-    → Some total ≡ option_map price_of best → IsPriceOfOne tariff trip total
-of_best tariff trip None total is_best same = absurd (none_is_some total same)
-of_best tariff trip (Some best) total is_best same = (best.0, subst (λ (n : ℕ). IsLawful tariff trip best.0 n) (sym (some-injective total best.1 same)) is_best.lawful)
+at_most : (tariff : Tariff) (trip : Itinerary) (best : Priced) (least : ℕ) → IsBestAnswer tariff trip (Some best)
+    → ((parts : List Part) × IsLawful tariff trip parts least) ⊎ (NoneIsLawful tariff trip × (least ≡ NO_PRICE)) → best.1 ≤ least
+unfolding is_before
+at_most tariff trip best least is_best (inl reached) =
+    not_less least best.1 (first_false (nat_lt least best.1) ((least == best.1) && is_less (tie reached.0 best.0)) (is_best.first reached.0 least reached.1))
+at_most tariff trip best least is_best (inr none) = absurd (none.0 best.0 best.1 is_best.lawful)
+
+pub best_is_least : (tariff : Tariff) (trip : Itinerary) (best : Option Priced) → IsBestAnswer tariff trip best
+    → IfSome (option_map price_of best) (λ total. total ≡ least_price tariff trip)
+best_is_least tariff trip None is_best = tt
+best_is_least tariff trip (Some best) is_best =
+    let is = least_price_is tariff trip in
+    let over = at_most tariff trip best (least_price tariff trip) is_best is.reached in
+    let under = is.under best.0 best.1 is_best.lawful in
+    omega (arith, over, under)
+
+of_reached : (tariff : Tariff) (trip : Itinerary) (least : ℕ) → least < PRICE_LIMIT
+    → ((parts : List Part) × IsLawful tariff trip parts least) ⊎ (NoneIsLawful tariff trip × (least ≡ NO_PRICE)) → IsPriceOfOne tariff trip least
+of_reached tariff trip least bound (inl reached) = reached
+of_reached tariff trip least bound (inr none) = let e = none.1 in absurd (omega (arith, bound, e))
 
 -- the total is the price of a construction that is lawful without the kind of condition too
 pub one_of_total : (tariff : Tariff) (trip : Itinerary) (term : Term) (total : ℕ)
     → ((parts : List Part) (price : ℕ) → IsLawful tariff trip parts price → IsLawful (relax term tariff) trip parts price)
-    → IsTotal tariff trip (Some total) → IsPriceOfOne (relax term tariff) trip total
-one_of_total tariff trip term total keeps reached =
-    let one = of_best tariff trip reached.0 total reached.1 reached.2 in (one.0, keeps one.0 total one.1)
+    → total < PRICE_LIMIT → total ≡ least_price tariff trip → IsPriceOfOne (relax term tariff) trip total
+one_of_total tariff trip term total keeps bound is =
+    let one : IsPriceOfOne tariff trip total =
+    subst (λ (n : ℕ). IsPriceOfOne tariff trip n) (sym is)
+    (of_reached tariff trip (least_price tariff trip) (subst (λ (n : ℕ). n < PRICE_LIMIT) is bound) (least_price_is tariff trip).reached) in
+    (one.0, keeps one.0 total one.1)

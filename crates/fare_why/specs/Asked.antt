@@ -1,17 +1,12 @@
 -- What is known of the price of the best construction while alternatives are looked for, and of what was found.
-use Rattle.std.specs.Prelude.{◌≡◌, ℕ, ◌<◌, false, List, map, Option, Some, None, option_map, IfSome, length, slice_index_or}
+use Rattle.std.specs.Prelude.{◌≡◌, ℕ, ◌<◌, false, List, map, Option, Some, None, IfSome, length, slice_index_or}
 use Rattle.fare_trip.specs.Itinerary.{Itinerary}
 use Rattle.fare_tariff.specs.Tariff.{Tariff}
 use Rattle.fare_rules.specs.declared.part.Part.{Part}
-use Rattle.fare_rules.specs.Best.{IsBestAnswer, IsLawful}
+use Rattle.fare_rules.specs.Best.{IsLawful}
 use Rattle.fare_relaxed.specs.declared.term.Term.{Term}
 use Rattle.fare_why.specs.Explanation.{Alternative}
-use Rattle.fare_why.specs.Reasons.{Priced, price_of, is_cheaper, IsShownFor, those_there}
-
--- a total is the price of the best construction, where one is lawful
-abbrev pub IsTotal : Tariff → Itinerary → Option ℕ → Type 0
-IsTotal tariff trip total =
-    (best : Option Priced) × IsBestAnswer tariff trip best × (total ≡ option_map price_of best)
+use Rattle.fare_why.specs.Reasons.{is_cheaper, IsShownFor, those_there}
 
 -- no lawful construction of an edition is cheaper than a total
 abbrev pub NoneIsCheaper : Tariff → Itinerary → Option ℕ → Type 0

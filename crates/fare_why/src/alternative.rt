@@ -63,7 +63,6 @@ fn broken_rule(asked: &Asked<'_>, term: Term, construction: &Construction, price
 }
 
 /// The best construction of the edition itself is lawful without a kind of condition too, and costs the same.
-#[tactic(auto, using(crate::proofs::Known::one_of_total))]
 fn total_is_of_one(asked: &Asked<'_>, term: Term, made: &Edition, total: u64)
     requires made { made.now ≡ relax term asked.now.edition.now }
     requires total { asked.now.total ≡ Some total }

@@ -1,7 +1,8 @@
-ghost use Rattle.std.specs.Prelude.{◌<◌};
+ghost use Rattle.std.specs.Prelude.{◌≡◌, ◌<◌};
 ghost use Rattle.std.specs.Option.{ForSome};
 ghost use Rattle.fare_rules.specs.declared.limits.TheConstants.{PRICE_LIMIT};
-ghost use Rattle.fare_why.specs.Asked.{IsTotal, NoneIsCheaper};
+ghost use Rattle.fare_branch.specs.LeastPrice.{least_price};
+ghost use Rattle.fare_why.specs.Asked.{NoneIsCheaper};
 
 use fare_tariff::Edition;
 use fare_trip::Trip;
@@ -16,6 +17,6 @@ pub(crate) struct Asked<'a> {
     /// The price of the best construction, where one is lawful.
     pub(crate) total: Option<u64>,
     pub(crate) ghost bound: { ForSome total (λ price. price < PRICE_LIMIT) },
-    pub(crate) ghost reached: { IsTotal edition.now trip.now total },
+    pub(crate) ghost reached: { ForSome total (λ price. price ≡ least_price edition.now trip.now) },
     pub(crate) ghost best: { NoneIsCheaper edition.now trip.now total },
 }

@@ -3,7 +3,8 @@
 ghost use Rattle.std.specs.Prelude.{◌≡◌, ◌<◌, IfOk, IfSome, option_map};
 ghost use Rattle.fare_rules.specs.declared.limits.TheConstants.{PRICE_LIMIT};
 ghost use Rattle.fare_rules.specs.Best.{IsBestAnswer};
-ghost use Rattle.fare_why.specs.Asked.{IsTotal, NoneIsCheaper};
+ghost use Rattle.fare_branch.specs.LeastPrice.{least_price};
+ghost use Rattle.fare_why.specs.Asked.{NoneIsCheaper};
 ghost use Rattle.fare_why.specs.Reasons.{AreReasons, Explains, price_of};
 
 use crate::asked::Asked;
@@ -43,7 +44,7 @@ fn total_is_least(
 )
     requires best { IsBestAnswer edition.now trip.now best.now }
     requires total { total ≡ option_map price_of best.now }
-    ensures reached { IsTotal edition.now trip.now total }
+    ensures reached { IfSome total (λ price. price ≡ least_price edition.now trip.now) }
     ensures least { NoneIsCheaper edition.now trip.now total }
 {}
 

@@ -15,7 +15,7 @@ loop-at-init c =
     let records = c.args.known.now.records.now in
     let one = c.args.one.now in
     let found : c.first-at.result ≡ position_from (has_own_key (own_key one)) 0 records =
-    c.first-at.ensures ∙ ap (λ k. position_from (same_key k) 0 c.args.known.now.index) c.own_key.ensures
+    c.first-at.ensures ∙ ap (λ k. position_from (same_key k) 0 c.args.known.now.index) c.own_key.ensures.key
     ∙ first_seen records records c.args.known.now.index (own_key one) refl c.requires in
     record {
       keyed = keyed_first (own_key one) records c.first-at.result found;
