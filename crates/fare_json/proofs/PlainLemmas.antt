@@ -38,9 +38,11 @@ use Rattle.fare_audit.specs.declared.verdict.Verdict.{Verdict}
 use Rattle.fare_audit.specs.declared.verdict.Verdict.TheVariants.{OtherTrip, NoRecord, Broken, Figures, Lawful}
 use Rattle.fare_audit.specs.VerdictText.{verdict_text}
 use Rattle.fare_json.specs.AuditData.{audit_data, verdict_data}
+use Rattle.fare_json.specs.BatchData.{batch_data, item_data}
 use Rattle.fare_json.specs.BestData.{entry_data, first_data}
+use Rattle.fare_json.specs.FaultData.{refusal_data}
 use Rattle.fare_json.specs.ListData.{list_data, listed_data}
-use Rattle.fare_json.specs.Plain.{at, counted, digits, plain_audit, plain_best, plain_check, plain_construction, plain_currency, plain_edition, plain_entries, plain_entry, plain_first, plain_first_answer, plain_higher, plain_list, plain_listed, plain_measured, plain_miles, plain_pair, plain_amount_line, plain_filed_line, plain_part, plain_part_line, plain_parts, plain_quotation, plain_tag, plain_unit, plain_verdict, said, values_of}
+use Rattle.fare_json.specs.Plain.{at, counted, items_plain, plain_answer, plain_batch, plain_item, plain_items, digits, plain_audit, plain_best, plain_check, plain_construction, plain_currency, plain_edition, plain_entries, plain_entry, plain_first, plain_first_answer, plain_higher, plain_list, plain_listed, plain_measured, plain_miles, plain_pair, plain_amount_line, plain_filed_line, plain_part, plain_part_line, plain_parts, plain_quotation, plain_tag, plain_unit, plain_verdict, said, values_of}
 use Rattle.fare_json.specs.QuotationData.{best_data, checked_data, construction_data, count, edition_data, fare_data, higher_data, local_data, measured_data, miles_data, minimum_data, money, part_data, quotation_data, rate_data, rule_data, sold_data, unit_data}
 
 pub values_back : (all : List Data) → values_of (items_of all) ≡ all
@@ -235,3 +237,27 @@ audit_is_plain tariff line (NoRecord place) = simp append_assoc refl
 audit_is_plain tariff line (Broken broken) = simp append_assoc refl
 audit_is_plain tariff line (Figures place) = simp append_assoc refl
 audit_is_plain tariff line (Lawful price over) = simp append_assoc refl
+
+pub refusal_is_plain : (text words : List ℕ) → plain_answer (refusal_data text words) ≡ text ++ codes "\n"
+unfolding refusal_data
+refusal_is_plain text words = refl
+
+pub answer_is_plain : (tariff : Tariff) (trip : Itinerary) (best : Option (List Part))
+    → plain_answer (quotation_data tariff trip best) ≡ plain_quotation (quotation_data tariff trip best)
+unfolding quotation_data
+answer_is_plain tariff trip best = refl
+
+item_is_plain : (number : ℕ) (one : Data × ℕ) → plain_item number (item_data one)
+    ≡ codes "ITEM " ++ decimal number ++ codes " " ++ decimal one.1 ++ codes "\n" ++ plain_answer one.0
+unfolding plain_item item_data
+item_is_plain number one = refl
+
+items_are_plain : (number : ℕ) (items : List (Data × ℕ)) → plain_items number (map item_data items) ≡ items_plain number items
+items_are_plain number [] = refl
+items_are_plain number (one ∷ rest) =
+    ap (λ (t : List ℕ). t ++ plain_items (number + 1) (map item_data rest)) (item_is_plain number one)
+    ∙ ap (λ (t : List ℕ). (codes "ITEM " ++ decimal number ++ codes " " ++ decimal one.1 ++ codes "\n" ++ plain_answer one.0) ++ t) (items_are_plain (number + 1) rest)
+
+pub batch_is_plain : (items : List (Data × ℕ)) → plain_batch (batch_data items) ≡ items_plain 1 items
+unfolding plain_batch batch_data
+batch_is_plain items = rw (values_back (map item_data items)) (items_are_plain 1 items)

@@ -192,3 +192,34 @@ plain_verdict verdict =
 -- the plain text of an audit
 unfoldable pub plain_audit : Data → List ℕ
 plain_audit answer = plain_verdict (at (codes "verdict") answer)
+
+-- the plain text of what is refused for a fault, and of a quotation where there is no fault
+abbrev pub plain_unless : Option Data → Data → List ℕ
+plain_unless None answer = plain_quotation answer
+plain_unless (Some fault) answer = said (at (codes "text") fault) ++ codes "\n"
+
+-- the plain text of the answer to an itinerary: its quotation, or what it is refused for
+abbrev pub plain_answer : Data → List ℕ
+plain_answer answer = plain_unless (get (codes "fault") answer) answer
+
+-- an item of a batch: its number, its status and the plain text of its answer
+unfoldable pub plain_item : ℕ → Data → List ℕ
+plain_item place one =
+    codes "ITEM " ++ decimal place ++ codes " " ++ digits (at (codes "status") one) ++ codes "\n"
+    ++ plain_answer (at (codes "answer") one)
+
+-- items, numbered in turn from a number on
+abbrev pub plain_items : ℕ → List Data → List ℕ
+plain_items place [] = []
+plain_items place (one ∷ rest) = plain_item place one ++ plain_items (place + 1) rest
+
+-- the plain text of a batch
+unfoldable pub plain_batch : Data → List ℕ
+plain_batch answer = plain_items 1 (listed (at (codes "items") answer))
+
+-- the plain text of a batch of answers with their statuses, numbered in turn from a number on
+abbrev pub items_plain : ℕ → List (Data × ℕ) → List ℕ
+items_plain place [] = []
+items_plain place (one ∷ rest) =
+    (codes "ITEM " ++ decimal place ++ codes " " ++ decimal one.1 ++ codes "\n" ++ plain_answer one.0)
+    ++ items_plain (place + 1) rest

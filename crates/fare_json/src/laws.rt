@@ -1,6 +1,6 @@
 //! Laws of the answers, with nothing to run: the plain text is made of the members of the JSON answer.
 
-ghost use Rattle.std.specs.Prelude.{◌≡◌, ◌++◌, ℕ, List, None, Some};
+ghost use Rattle.std.specs.Prelude.{◌≡◌, ◌++◌, ℕ, List, Option, None, Some, codes};
 ghost use Rattle.fare_trip.specs.Itinerary.{Itinerary};
 ghost use Rattle.fare_tariff.specs.Tariff.{Tariff};
 ghost use Rattle.fare_rules.specs.declared.part.Part.{Part};
@@ -16,10 +16,12 @@ ghost use Rattle.fare_json.specs.AuditData.{audit_data};
 ghost use Rattle.serde_json.specs.Data.{Data};
 ghost use Rattle.fare_json.specs.BatchData.{batch_data, batch_json};
 ghost use Rattle.fare_json.specs.BestData.{first_data};
+ghost use Rattle.fare_json.specs.FaultData.{refusal_data};
 ghost use Rattle.fare_json.specs.JsonText.{json_line};
 ghost use Rattle.fare_json.specs.ListData.{list_data};
 ghost use Rattle.fare_json.specs.QuotationData.{quotation_data};
-ghost use Rattle.fare_json.specs.Plain.{plain_audit, plain_first_answer, plain_list, plain_quotation};
+ghost use Rattle.fare_json.specs.Plain.{items_plain, plain_answer, plain_audit, plain_batch, plain_first_answer};
+ghost use Rattle.fare_json.specs.Plain.{plain_list, plain_quotation};
 
 /// The members of a quotation make its plain text: the edition, the line and the worksheet of a lawful construction, or
 /// that there is no fare.
@@ -55,4 +57,19 @@ pub fn audit_is_plain()
 #[tactic(auto, using(crate::proofs::BatchLemmas::batch_text))]
 pub fn batch_is_compact()
     ensures { (items : List (Data × ℕ)) → batch_json items ≡ json_line (batch_data items) }
+{}
+
+/// The members of the answer to an itinerary make its plain text, which is that of a quotation or of a refusal.
+#[tactic(auto, using(crate::proofs::PlainLemmas::answer_is_plain, crate::proofs::PlainLemmas::refusal_is_plain))]
+pub fn answer_is_plain()
+    ensures quotation { (tariff : Tariff) (trip : Itinerary) (best : Option (List Part)) →
+        plain_answer (quotation_data tariff trip best) ≡ plain_quotation (quotation_data tariff trip best) }
+    ensures refusal { (text words : List ℕ) → plain_answer (refusal_data text words) ≡ text ++ codes "\n" }
+{}
+
+/// The members of the answer to a batch make its plain text: for each item its number, its status and the plain text of
+/// its answer.
+#[tactic(auto, using(crate::proofs::PlainLemmas::batch_is_plain))]
+pub fn batch_is_plain()
+    ensures { (items : List (Data × ℕ)) → plain_batch (batch_data items) ≡ items_plain 1 items }
 {}

@@ -38,7 +38,8 @@ pub use fare_sentences::{
 pub use fault_answer::{fault_json, tariff_fault_json};
 pub use first::best_json;
 pub use laws::{
-    audit_is_plain, batch_is_compact, first_are_plain, list_is_plain, quotation_is_plain,
+    answer_is_plain, audit_is_plain, batch_is_compact, batch_is_plain, first_are_plain,
+    list_is_plain, quotation_is_plain,
 };
 pub use listed::list_json;
 pub use quoting::quote_json;
