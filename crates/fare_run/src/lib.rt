@@ -2,7 +2,8 @@
 //!
 //! - `limits`: how many bytes the source of each command may hold; `source`, `input`: the bytes of the source, and the
 //!   itinerary and the tariff in them;
-//! - `store`: the book of a store; `quote`: what is asked of a trip over a book, as a plain text or in JSON;
+//! - `store`: the book of a store; `quote`, `in_json`: what is asked of a trip over a book, as a plain text and in
+//!   JSON;
 //! - `price`, `publish`, `list`, `export`, `stored_quote`, `drill`, `serve`, `migrate`, `check`, `diff`, `compare`: the
 //!   commands, a file each, and `numbered_line`, the line that two of them answer;
 //! - `workers`: how many share a search; `outcome`: what a command comes to, an exit and a text; `answer`: the command
@@ -20,6 +21,7 @@ mod drill;
 mod exit;
 mod export;
 mod fault_line;
+mod in_json;
 mod input;
 mod json_fault;
 mod limits;

@@ -1,6 +1,6 @@
-//! What is asked of a trip over a book, as a plain text or in JSON.
+//! What is asked of a trip over a book, as a plain text; and whether it is told so or in JSON.
 
-ghost use Rattle.std.specs.Prelude.{◌≤◌, IfErr, IfOk};
+ghost use Rattle.std.specs.Prelude.{◌≤◌, IfErr, IfOk, true, false};
 ghost use Rattle.fare_words.specs.Limits.{most_best};
 ghost use Rattle.fare_words.specs.WithinLimits.{IsFew};
 ghost use Rattle.fare_words.specs.declared.asked.Asked.TheVariants as ask;
@@ -9,21 +9,19 @@ ghost use Rattle.fare_run.specs.Steps.{Answers, IsEndOfQuoting};
 ghost use Rattle.fare_run.specs.StoreOutcome.{AnswersTrip};
 
 use crate::exit::Exit;
+use crate::in_json::quote_in_json;
 use crate::outcome::Outcome;
 use fare_answers::{best_text, quote_text};
 use fare_book::Book;
-use fare_json::{best_json, quote_json};
 use fare_outside::OpenGate;
 use fare_split::SplitQuoter;
 use fare_trip::Trip;
 use fare_why::{Searches, why_text};
-use fare_why_json::why_json;
 use fare_words::Asked;
 use std::alloc::Global;
 use std::thread::Threads;
 
-/// What is asked of a trip over a book.
-#[tactic(auto, unfolding(fare_words::specs::WithinLimits::IsFew))]
+/// What is asked of a trip over a book, as a plain text or in JSON.
 pub fn quote<R: Threads + Sync>(
     rt: &R,
     alloc: Global,
@@ -38,10 +36,31 @@ pub fn quote<R: Threads + Sync>(
     ensures done { IfOk result IsDone }
     ensures ends { IfErr result IsEndOfQuoting }
 {
+    if json {
+        return quote_in_json(rt, alloc, quoter, book, trip, asked);
+    }
+    plain(rt, alloc, quoter, book, trip, asked)
+}
+
+/// What is asked of a trip over a book, as a plain text.
+#[tactic(auto, unfolding(fare_words::specs::WithinLimits::IsFew))]
+fn plain<R: Threads + Sync>(
+    rt: &R,
+    alloc: Global,
+    quoter: &SplitQuoter<'_, OpenGate>,
+    book: &Book,
+    trip: &Trip,
+    asked: Asked,
+) -> Result<Outcome, Exit>
+    requires { IsFew asked }
+    ensures answer { Answers (AnswersTrip asked false trip.now book.now.editions) result }
+    ensures done { IfOk result IsDone }
+    ensures ends { IfErr result IsEndOfQuoting }
+{
     match asked {
-        Asked::Quotation => quotation(rt, alloc, quoter, book, trip, json),
-        Asked::Best(k) => first(alloc, book, trip, k, json),
-        Asked::Why => why(rt, alloc, quoter, book, trip, json),
+        Asked::Quotation => quotation(rt, alloc, quoter, book, trip),
+        Asked::Best(k) => first(alloc, book, trip, k),
+        Asked::Why => why(rt, alloc, quoter, book, trip),
     }
 }
 
@@ -52,29 +71,22 @@ fn quotation<R: Threads + Sync>(
     quoter: &SplitQuoter<'_, OpenGate>,
     book: &Book,
     trip: &Trip,
-    json: bool,
 ) -> Result<Outcome, Exit>
-    ensures answer { Answers (AnswersTrip ask.Quotation json trip.now book.now.editions) result }
+    ensures answer { Answers (AnswersTrip ask.Quotation false trip.now book.now.editions) result }
     ensures done { IfOk result IsDone }
     ensures ends { IfErr result IsEndOfQuoting }
 {
-    if json {
-        return Ok(Outcome::done(quote_json(rt, alloc, book, quoter, trip)?));
-    }
     Ok(Outcome::done(quote_text(rt, alloc, book, quoter, trip)?))
 }
 
 /// The first constructions of a trip over a book.
-fn first(alloc: Global, book: &Book, trip: &Trip, k: u32, json: bool) -> Result<Outcome, Exit>
+fn first(alloc: Global, book: &Book, trip: &Trip, k: u32) -> Result<Outcome, Exit>
     requires some { 1 ≤ k }
     requires few { k ≤ most_best }
-    ensures answer { Answers (AnswersTrip (ask.Best k) json trip.now book.now.editions) result }
+    ensures answer { Answers (AnswersTrip (ask.Best k) false trip.now book.now.editions) result }
     ensures done { IfOk result IsDone }
     ensures ends { IfErr result IsEndOfQuoting }
 {
-    if json {
-        return Ok(Outcome::done(best_json(alloc, book, trip, k)?));
-    }
     Ok(Outcome::done(best_text(alloc, book, trip, k)?))
 }
 
@@ -85,9 +97,8 @@ fn why<R: Threads + Sync>(
     quoter: &SplitQuoter<'_, OpenGate>,
     book: &Book,
     trip: &Trip,
-    json: bool,
 ) -> Result<Outcome, Exit>
-    ensures answer { Answers (AnswersTrip ask.Why json trip.now book.now.editions) result }
+    ensures answer { Answers (AnswersTrip ask.Why false trip.now book.now.editions) result }
     ensures done { IfOk result IsDone }
     ensures ends { IfErr result IsEndOfQuoting }
 {
@@ -95,8 +106,5 @@ fn why<R: Threads + Sync>(
         quoter,
         threads: quoter.workers as usize,
     };
-    if json {
-        return Ok(Outcome::done(why_json(rt, alloc, book, &searches, trip)?));
-    }
     Ok(Outcome::done(why_text(rt, alloc, book, &searches, trip)?))
 }
