@@ -65,10 +65,12 @@ def passed_over(office, samples):
         longest = max(answered_in(office, body, samples.after[body]) for body in samples.bodies)
         assert longest < 0.5, f'a question waited {longest:.1f} seconds for a desk that isn\'t there'
     with unreachable(port_of(QUOTATIONS[0])):
-        time.sleep(2)
+        # nginx counts the two seconds for which it leaves the desk out in whole ones.
+        time.sleep(3.1)
         longest = max(answered_in(office, body, samples.after[body]) for body in samples.bodies * 2)
     office.start(QUOTATIONS[0])
     assert 0.9 < longest < 1.5, f'a question waited {longest:.1f} seconds for a desk that can\'t be reached'
+    given_again(office, samples, QUOTATIONS[0])
     told('a desk that isn\'t there or can\'t be reached is passed over in time')
 
 
@@ -77,6 +79,17 @@ def answered_in(office, body, answer):
     begun = time.monotonic()
     assert office.ask('POST', '/quote', body, '127.0.0.22') == answer
     return time.monotonic() - begun
+
+
+def given_again(office, samples, desk):
+    """Waits until the desk, which nginx leaves out for two seconds, has answered a question, so that it gets as many as the others."""
+    before = len(office.access())
+    for _ in range(50):
+        answered_in(office, samples.bodies[0], samples.after[samples.bodies[0]])
+        if any(line.split()[-2:-1] == ['answered=200'] and desks_of(line) == [str(port_of(desk))] for line in office.access()[before:]):
+            return
+        time.sleep(0.1)
+    raise AssertionError(f'desk {desk} gets no questions')
 
 
 def limit_of_one(office, samples):

@@ -106,7 +106,7 @@ class Office:
         self.desks[desk] = subprocess.Popen(self.commands('ExecStart', desk)[0], cwd=self.place(desk), stdout=log, stderr=log, umask=0o077)
         wait_for(port_of(desk), self.desks[desk])
         for words in self.commands('ExecStartPost', desk):
-            subprocess.run(words, env=self.environment, check=True)
+            subprocess.run(words, env=self.environment, check=True, stdout=log)
 
     def kill(self, desk):
         """Kills a desk by signal 9."""
