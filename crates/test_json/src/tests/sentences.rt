@@ -16,68 +16,71 @@ struct Case {
     words: &'static str,
 }
 
-static FAULTS: [Case; 12] = [
-    Case {
-        fault: Fault::Trip(TripFault::Missing(Member::Sale, 0)),
-        text: "TRIP Missing sale 0",
-        words: "the itinerary has no member sale",
-    },
-    Case {
-        fault: Fault::Trip(TripFault::Missing(Member::To, 4)),
-        text: "TRIP Missing to 4",
-        words: "sector 4 has no member to",
-    },
-    Case {
-        fault: Fault::Trip(TripFault::Bad(Member::From, 0)),
-        text: "TRIP Bad from 0",
-        words: "the member from of the itinerary has to be three letters A to Z, as a string",
-    },
-    Case {
-        fault: Fault::NoBatch,
-        text: "TRIP Bad trip 0",
-        words: "the batch isn't a JSON array",
-    },
-    Case {
-        fault: Fault::NoTrip,
-        text: "TRIP Missing trip 0",
-        words: "the request has no member trip",
-    },
-    Case {
-        fault: Fault::BadLine(147),
-        text: "LINE 147",
-        words: "the first 147 bytes of the line begin a calculation line, and no more of them do",
-    },
-    Case {
-        fault: Fault::SourceLimit(65_536),
-        text: "LIMIT",
-        words: "the source holds more than 65536 bytes",
-    },
-    Case {
-        fault: Fault::NoRoute,
-        text: "NO ROUTE",
-        words: "nothing is at this path",
-    },
-    Case {
-        fault: Fault::Method(OneMethod::Post),
-        text: "METHOD",
-        words: "this path takes POST alone",
-    },
-    Case {
-        fault: Fault::ReadFault,
-        text: "READ FAULT",
-        words: "standard input can't be read",
-    },
-    Case {
-        fault: Fault::Damaged(3, Damage::Repeat(1)),
-        text: "DAMAGED 3 Repeat 1",
-        words: "text 3 of the store has the number of text 1",
-    },
-    Case {
-        fault: Fault::Damaged(2, Damage::Text(TextFault::NoHeader)),
-        text: "DAMAGED 2 1 NoHeader",
-        words: "text 2 of the store is no edition",
-    },
-];
+/// Refusals with their plain lines and their sentences.
+fn refusals() -> [Case; 12] {
+    [
+        Case {
+            fault: Fault::Trip(TripFault::Missing(Member::Sale, 0)),
+            text: "TRIP Missing sale 0",
+            words: "the itinerary has no member sale",
+        },
+        Case {
+            fault: Fault::Trip(TripFault::Missing(Member::To, 4)),
+            text: "TRIP Missing to 4",
+            words: "sector 4 has no member to",
+        },
+        Case {
+            fault: Fault::Trip(TripFault::Bad(Member::From, 0)),
+            text: "TRIP Bad from 0",
+            words: "the member from of the itinerary has to be three letters A to Z, as a string",
+        },
+        Case {
+            fault: Fault::NoBatch,
+            text: "TRIP Bad trip 0",
+            words: "the batch isn't a JSON array",
+        },
+        Case {
+            fault: Fault::NoTrip,
+            text: "TRIP Missing trip 0",
+            words: "the request has no member trip",
+        },
+        Case {
+            fault: Fault::BadLine(147),
+            text: "LINE 147",
+            words: "the first 147 bytes of the line begin a calculation line, and no more of them do",
+        },
+        Case {
+            fault: Fault::SourceLimit(65_536),
+            text: "LIMIT",
+            words: "the source holds more than 65536 bytes",
+        },
+        Case {
+            fault: Fault::NoRoute,
+            text: "NO ROUTE",
+            words: "nothing is at this path",
+        },
+        Case {
+            fault: Fault::Method(OneMethod::Post),
+            text: "METHOD",
+            words: "this path takes POST alone",
+        },
+        Case {
+            fault: Fault::ReadFault,
+            text: "READ FAULT",
+            words: "standard input can't be read",
+        },
+        Case {
+            fault: Fault::Damaged(3, Damage::Repeat(1)),
+            text: "DAMAGED 3 Repeat 1",
+            words: "text 3 of the store has the number of text 1",
+        },
+        Case {
+            fault: Fault::Damaged(2, Damage::Text(TextFault::NoHeader)),
+            text: "DAMAGED 2 1 NoHeader",
+            words: "text 2 of the store is no edition",
+        },
+    ]
+}
 
 /// Whether a refusal has its plain line and its sentence.
 fn holds(alloc: Global, case: &Case) -> Result<bool, Fail> {
@@ -88,7 +91,7 @@ fn holds(alloc: Global, case: &Case) -> Result<bool, Fail> {
 
 #[test]
 fn refusals_have_their_words(rt: HostRuntime) -> Result<(), Fail> {
-    for case in &FAULTS {
+    for case in &refusals() {
         assert!(rt; holds(rt.alloc(), case)?, "{}", case.words);
     }
     Ok(())
