@@ -1,6 +1,7 @@
 -- What the calls of a keeper do to its bodies, where they are told.
 use Rattle.std.specs.Prelude.{◌≡◌, ◌⊎◌, ℕ, ◌-◌, ◌≤◌, List, [], ◌∷◌, ◌++◌, Option, Some, None, length, slice_get}
 use Rattle.std.specs.Prelude.{slice_set, ⊤}
+use Rattle.std.specs.Option.{unwrap_or}
 
 -- where the bodies are told after a call, they were told before it, and this relation holds of them
 abbrev pub ToldAfter : Option (List (List ℕ)) → Option (List (List ℕ))
@@ -15,6 +16,10 @@ abbrev pub WhereTold : Option (List (List ℕ)) → Option (List (List ℕ))
 WhereTold None new relation = ⊤
 WhereTold (Some old) None relation = ⊤
 WhereTold (Some old) (Some new) relation = relation old new
+
+-- the name by which a store that was just opened was opened first: this one, where none was before
+abbrev pub first_name : Option (List ℕ) → List ℕ → Option (List ℕ)
+first_name before name = Some (unwrap_or before name)
 
 -- the bodies are as before
 abbrev pub BodiesStay : List (List ℕ) → List (List ℕ) → Type 0

@@ -7,8 +7,8 @@ use Rattle.fare_outside.specs.Calls.{CallList}
 use Rattle.fare_outside.specs.Room.{Filled}
 
 -- of a `MemDoor`: what the connections to come will bring, the room that each of them has, what each connection taken
--- still brings and what was sent on it, the places of those put aside, the place of the current one, the calls, and how
--- many of `listen` and `next`, and of `read` and `write`, have failed
+-- still brings and what was sent on it, the places of those put aside, the place of the current one, the port at which it
+-- listens, the calls, and how many of `listen` and `next`, and of `read` and `write`, have failed
 pub record ListedDoor : Type 0 where
   pub waiting : List (List ℕ)
   pub room : ℕ
@@ -16,6 +16,7 @@ pub record ListedDoor : Type 0 where
   pub sent : List Filled
   pub held : List ℕ
   pub current : Option ℕ
+  pub port : Option ℕ
   pub calls : CallList
   pub faults : ℕ
   pub cuts : ℕ

@@ -1,5 +1,5 @@
 -- What is known of the objects in memory.
-use Rattle.std.specs.Prelude.{ℕ, Bool, List, MatchBool}
+use Rattle.std.specs.Prelude.{ℕ, List, Option, MatchBool}
 use Rattle.fare_outside.specs.Calls.{CallList}
 use Rattle.fare_outside.specs.declared.fail_at.FailAt.{FailAt}
 use Rattle.fare_outside.specs.Keeper.{BodiesStay}
@@ -11,10 +11,10 @@ pub record SinkState : Type 0 where
   pub filled : Filled
   pub faults : ℕ
 
--- of a `PlainKeeper`: the bodies, and whether it was opened
+-- of a `PlainKeeper`: the bodies, and the name by which it was opened first, if it was
 pub record KeeperState : Type 0 where
   pub bodies : List (List ℕ)
-  pub is_ready : Bool
+  pub name : Option (List ℕ)
 
 -- of a `MemSource`: the bytes still held, the calls, and how many have failed
 pub record ListedSource : Type 0 where
@@ -28,10 +28,11 @@ pub record ListedSink : Type 0 where
   pub calls : CallList
   pub faults : ℕ
 
--- of a `MemKeeper`: the bodies, whether it was opened, the failing calls, and how many have failed
+-- of a `MemKeeper`: the bodies, the name by which it was opened first, if it was, the failing calls, and how many have
+-- failed
 pub record ListedKeeper : Type 0 where
   pub bodies : List (List ℕ)
-  pub is_ready : Bool
+  pub name : Option (List ℕ)
   pub failures : FailureList
   pub faults : ℕ
 
@@ -39,7 +40,7 @@ pub record ListedKeeper : Type 0 where
 abbrev pub called : ListedKeeper → ListedKeeper
 called keeper = record {
   bodies = keeper.bodies;
-  is_ready = keeper.is_ready;
+  name = keeper.name;
   failures = after_next keeper.failures;
   faults = counted (next_failure keeper.failures) keeper.faults;
 }

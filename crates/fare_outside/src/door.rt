@@ -32,14 +32,19 @@ pub trait Door {
     /// The place of the current connection, if there is one.
     ghost current: { Self → Option ℕ };
 
+    /// The port at which it listens, once `listen` has answered Ok.
+    ghost listens_at: { Self → Option ℕ };
+
     /// How many calls of `listen` and `next` have failed.
     ghost faults: { Self → ℕ };
 
     /// How many calls of `read` and `write` have failed.
     ghost cuts: { Self → ℕ };
 
-    /// Begins to let connections in.
+    /// Begins to let connections in at that port.
     fn listen(&mut self, port: u16) -> Result<(), Failed>
+        ensures port { MatchResult result (λ _. listens_at self.new ≡ Some port)
+            (λ _. listens_at self.new ≡ listens_at self.old) }
         ensures waiting { waiting self.new ≡ waiting self.old }
         ensures left { left self.new ≡ left self.old }
         ensures sent { sent self.new ≡ sent self.old }
@@ -62,6 +67,7 @@ pub trait Door {
         ensures current { is_some (current self.new) ≡ is_taken result }
         ensures place { OnTrue (is_taken result)
             (IfSome (sent self.old) (λ lists. current self.new ≡ Some (length lists))) }
+        ensures port { listens_at self.new ≡ listens_at self.old }
         ensures cuts { cuts self.new ≡ cuts self.old }
         ensures never_falls { faults self.old ≤ faults self.new }
         ensures cause { OnErr result (Rose (faults self.old) (faults self.new)) };
@@ -74,6 +80,7 @@ pub trait Door {
         ensures sent { sent self.new ≡ sent self.old }
         ensures held { held self.new ≡ held self.old }
         ensures current { current self.new ≡ current self.old }
+        ensures port { listens_at self.new ≡ listens_at self.old }
         ensures faults { faults self.new ≡ faults self.old }
         ensures never_falls { cuts self.old ≤ cuts self.new }
         ensures cause { OnErr result (Rose (cuts self.old) (cuts self.new)) };
@@ -90,6 +97,7 @@ pub trait Door {
         ensures left { left self.new ≡ left self.old }
         ensures held { held self.new ≡ held self.old }
         ensures current { current self.new ≡ current self.old }
+        ensures port { listens_at self.new ≡ listens_at self.old }
         ensures faults { faults self.new ≡ faults self.old }
         ensures never_falls { cuts self.old ≤ cuts self.new }
         ensures cause { OnErr result (Rose (cuts self.old) (cuts self.new)) };
@@ -100,6 +108,7 @@ pub trait Door {
         ensures sent { sent self.new ≡ sent self.old }
         ensures held { held self.new ≡ held self.old }
         ensures current { current self.new ≡ None }
+        ensures port { listens_at self.new ≡ listens_at self.old }
         ensures faults { faults self.new ≡ faults self.old }
         ensures cuts { cuts self.new ≡ cuts self.old };
 
@@ -112,6 +121,7 @@ pub trait Door {
         ensures sent { sent self.new ≡ sent self.old }
         ensures held { held self.new ≡ held self.old }
         ensures current { current self.new ≡ current self.old }
+        ensures port { listens_at self.new ≡ listens_at self.old }
         ensures faults { faults self.new ≡ faults self.old }
         ensures cuts { cuts self.new ≡ cuts self.old };
 
@@ -127,6 +137,7 @@ pub trait Door {
         ensures left { OnFalse result (left self.new ≡ left self.old) }
         ensures waiting { waiting self.new ≡ waiting self.old }
         ensures sent { sent self.new ≡ sent self.old }
+        ensures port { listens_at self.new ≡ listens_at self.old }
         ensures faults { faults self.new ≡ faults self.old }
         ensures cuts { cuts self.new ≡ cuts self.old };
 
@@ -141,6 +152,7 @@ pub trait Door {
         ensures left { OnFalse result (left self.new ≡ left self.old) }
         ensures waiting { waiting self.new ≡ waiting self.old }
         ensures sent { sent self.new ≡ sent self.old }
+        ensures port { listens_at self.new ≡ listens_at self.old }
         ensures faults { faults self.new ≡ faults self.old }
         ensures cuts { cuts self.new ≡ cuts self.old };
 }

@@ -1,10 +1,10 @@
 ghost use Rattle.std.specs.Prelude.{◌≡◌, ℕ, ◌≤◌, ◌||◌, Bool, List, Option, length, is_ok, IfOk, IfSome, OnOk, IsErrOf};
-ghost use Rattle.std.specs.Prelude.{IsTrue, Some};
+ghost use Rattle.std.specs.Prelude.{IsTrue, Some, MatchResult};
 ghost use Rattle.std.specs.Option.{ForSome};
 ghost use Rattle.fare_outside.specs.declared.keeper.KeepFault.TheVariants.{Memory};
 ghost use Rattle.fare_outside.specs.Cause.{Rose};
 ghost use Rattle.fare_outside.specs.Keeper.{ToldAfter, WhereTold, BodiesStay, BodyAppended, MayAppend, BodyReplaced};
-ghost use Rattle.fare_outside.specs.Keeper.{MayReplace, HasPlace, body_at};
+ghost use Rattle.fare_outside.specs.Keeper.{MayReplace, HasPlace, body_at, first_name};
 
 use crate::NoMemory;
 use std::alloc::{AllocError, AllocFailed, Global};
@@ -56,11 +56,16 @@ pub trait Keeper {
     /// Whether `open` has answered Ok.
     ghost ready: { Self → Bool };
 
-    /// Opens the store of that name. Bodies that were told before are as before, whatever it answers;
-    /// a keeper that told nothing may tell its bodies from then on.
+    /// The name with which `open` answered Ok first, once it has.
+    ghost opened_as: { Self → Option (List ℕ) };
+
+    /// Opens the store of that name, or the one that was opened before. Bodies that were told before
+    /// are as before, whatever it answers; a keeper that told nothing may tell its bodies from then on.
     fn open(&mut self, alloc: Global, name: &str) -> Result<(), KeepFault>
         ensures bodies { WhereTold (bodies self.old) (bodies self.new) BodiesStay }
         ensures ready { ready self.new ≡ (ready self.old || is_ok result) }
+        ensures name { MatchResult result (λ _. opened_as self.new ≡ first_name (opened_as self.old) name.now)
+            (λ _. opened_as self.new ≡ opened_as self.old) }
         ensures never_falls { faults self.old ≤ faults self.new }
         ensures cause { IsErrOf result KeepFault.Failed →
             Rose (faults self.old) (faults self.new) };
@@ -72,6 +77,7 @@ pub trait Keeper {
             IfSome (bodies self.new) (λ kept. count ≡ length kept)) }
         ensures bodies { ToldAfter (bodies self.old) (bodies self.new) BodiesStay }
         ensures ready { IsTrue (ready self.new) }
+        ensures name { opened_as self.new ≡ opened_as self.old }
         ensures never_falls { faults self.old ≤ faults self.new }
         ensures cause { IsErrOf result KeepFault.Failed →
             Rose (faults self.old) (faults self.new) };
@@ -85,6 +91,7 @@ pub trait Keeper {
             IfSome (bodies self.new) (λ kept. body_at place kept ≡ Some body.items)) }
         ensures bodies { ToldAfter (bodies self.old) (bodies self.new) BodiesStay }
         ensures ready { IsTrue (ready self.new) }
+        ensures name { opened_as self.new ≡ opened_as self.old }
         ensures never_falls { faults self.old ≤ faults self.new }
         ensures cause { IsErrOf result KeepFault.Failed →
             Rose (faults self.old) (faults self.new) };
@@ -100,6 +107,7 @@ pub trait Keeper {
         ensures failed { IsErrOf result KeepFault.Failed →
             ToldAfter (bodies self.old) (bodies self.new) (MayAppend body.now) }
         ensures ready { IsTrue (ready self.new) }
+        ensures name { opened_as self.new ≡ opened_as self.old }
         ensures never_falls { faults self.old ≤ faults self.new }
         ensures cause { IsErrOf result KeepFault.Failed →
             Rose (faults self.old) (faults self.new) };
@@ -117,6 +125,7 @@ pub trait Keeper {
         ensures failed { IsErrOf result KeepFault.Failed →
             ToldAfter (bodies self.old) (bodies self.new) (MayReplace place body.now) }
         ensures ready { IsTrue (ready self.new) }
+        ensures name { opened_as self.new ≡ opened_as self.old }
         ensures never_falls { faults self.old ≤ faults self.new }
         ensures cause { IsErrOf result KeepFault.Failed →
             Rose (faults self.old) (faults self.new) };

@@ -6,6 +6,7 @@
 //! - `reading`, `writing`: a whole source, and a whole text, over any source and sink;
 //! - `bytes`, `bodies`: lists that grow, or refuse and stay as they were;
 //! - `plain_*`: objects in memory that never fail; `mem_*`: the same with a list of failing calls;
+//! - `first_name`: the name by which a store was opened first;
 //! - `calls`, `failures`, `fail_at`, `count`, `room`: which calls of those fail, how failures are
 //!   counted, and what fits;
 //! - `at_place`: what stands at a place is read from, or put into, for a door in memory.
@@ -20,6 +21,7 @@ mod door;
 mod fail_at;
 mod failed;
 mod failures;
+mod first_name;
 mod gate;
 mod keeper;
 mod mem_door;
@@ -43,6 +45,7 @@ pub use count::raised;
 pub use door::{Door, MOST_HELD};
 pub use fail_at::FailAt;
 pub use failed::Failed;
+pub use first_name::FirstName;
 pub use gate::{Gate, OpenGate};
 pub use keeper::{KeepFault, Keeper};
 pub use mem_door::MemDoor;

@@ -34,6 +34,7 @@ pub struct MemDoor {
     sent: Vec<Room>,
     held: ArrayVec<usize, MOST_HELD>,
     current: Option<usize>,
+    port: Option<u16>,
     calls: Calls,
     faults: u64,
     cuts: u64,
@@ -52,6 +53,7 @@ impl Model for MemDoor {
       sent = d.sent.items;
       held = d.held.items;
       current = d.current;
+      port = d.port;
       calls = d.calls;
       faults = d.faults;
       cuts = d.cuts;
@@ -81,6 +83,7 @@ impl MemDoor {
           sent = [];
           held = [];
           current = None;
+          port = None;
           calls = record { fail = fail.items; made = 0 };
           faults = 0;
           cuts = 0;
@@ -95,6 +98,7 @@ impl MemDoor {
             sent: Vec::with_capacity(alloc, count)?,
             held: ArrayVec::new(),
             current: None,
+            port: None,
             calls: Calls::new(fail),
             faults: 0,
             cuts: 0,
@@ -152,13 +156,16 @@ impl Door for MemDoor {
 
     ghost current = { λ door. door.current };
 
+    ghost listens_at = { λ door. door.port };
+
     ghost faults = { λ door. door.faults };
 
     ghost cuts = { λ door. door.cuts };
 
-    fn listen(&mut self, _port: u16) -> Result<(), Failed>
+    fn listen(&mut self, port: u16) -> Result<(), Failed>
         ensures listed { is_err result ≡ fails_next self.old.calls }
         ensures made { self.new ≡ record self.old {
+          port = (if is_err result then self.old.port else Some port);
           calls = after_call self.old.calls;
           faults = counted_if (is_err result) self.old.faults;
         } }
@@ -169,6 +176,7 @@ impl Door for MemDoor {
             self.faults = raised(self.faults);
             return Err(Failed);
         }
+        self.port = Some(port);
         Ok(())
     }
 

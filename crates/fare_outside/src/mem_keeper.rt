@@ -1,14 +1,14 @@
-ghost use Rattle.std.specs.Prelude.{false, ◌≡◌, ◌≤◌, ◌||◌, ◌↔◌, Some, length, is_ok, IfOk, OnOk, IsErr, IsErrOf};
-ghost use Rattle.std.specs.Prelude.{IsTrue, IsSome, IsSomeAnd};
+ghost use Rattle.std.specs.Prelude.{◌≡◌, ◌≤◌, ◌↔◌, None, Some, length, is_ok, is_some, if◌then◌else◌, IfOk, OnOk, IsErr, IsErrOf};
+ghost use Rattle.std.specs.Prelude.{IsSome, IsSomeAnd};
 ghost use Rattle.std.specs.Option.{ForSome};
 ghost use Rattle.fare_outside.specs.Cause.{Rose};
 ghost use Rattle.fare_outside.specs.Failures.{next_failure, answer_or};
 ghost use Rattle.fare_outside.specs.Objects.{called, Kept};
-ghost use Rattle.fare_outside.specs.Keeper.{BodiesStay, BodyAppended, BodyReplaced, HasPlace, body_at};
+ghost use Rattle.fare_outside.specs.Keeper.{BodiesStay, BodyAppended, BodyReplaced, HasPlace, body_at, first_name};
 
 use crate::count::raised;
 use crate::failures::Failures;
-use crate::{Bodies, FailAt, KeepFault, Keeper};
+use crate::{Bodies, FailAt, FirstName, KeepFault, Keeper};
 use std::alloc::Global;
 use std::marker::Model;
 
@@ -16,7 +16,7 @@ use std::marker::Model;
 #[derive(Drop)]
 pub struct MemKeeper {
     bodies: Bodies,
-    is_ready: bool,
+    name: FirstName,
     failures: Failures,
     faults: u64,
 }
@@ -28,7 +28,7 @@ impl Model for MemKeeper {
 
     ghost view = { λ k. record {
       bodies = k.bodies;
-      is_ready = k.is_ready;
+      name = k.name;
       failures = k.failures;
       faults = k.faults;
     } };
@@ -39,14 +39,14 @@ impl MemKeeper {
     pub fn new(bodies: Bodies, fail: Vec<FailAt>) -> MemKeeper
         ensures { result ≡ record {
           bodies = bodies;
-          is_ready = false;
+          name = None;
           failures = record { fail = fail.items; made = 0 };
           faults = 0;
         } }
     {
         MemKeeper {
             bodies,
-            is_ready: false,
+            name: FirstName::new(),
             failures: Failures::new(fail),
             faults: 0,
         }
@@ -81,25 +81,26 @@ impl Keeper for MemKeeper {
 
     ghost faults = { λ keeper. keeper.faults };
 
-    ghost ready = { λ keeper. keeper.is_ready };
+    ghost ready = { λ keeper. is_some keeper.name };
 
-    fn open(&mut self, _alloc: Global, _name: &str) -> Result<(), KeepFault>
-        ensures answer { result ≡ answer_or (next_failure self.old.failures) tt }
-        ensures made { self.new ≡ record (called self.old) { is_ready = self.old.is_ready || is_ok result } }
+    ghost opened_as = { λ keeper. keeper.name };
+
+    fn open(&mut self, alloc: Global, name: &str) -> Result<(), KeepFault>
+        ensures listed { IsErrOf result KeepFault.Failed ↔ IsSome (next_failure self.old.failures) }
+        ensures made { self.new ≡ record (called self.old) {
+          name = (if is_ok result then first_name self.old.name name.now else self.old.name);
+        } }
         ensures never_falls { self.old.faults ≤ self.new.faults }
         ensures cause { IsErrOf result KeepFault.Failed → Rose self.old.faults self.new.faults }
     {
         match self.next() {
             Some(_) => Err(KeepFault::Failed),
-            None => {
-                self.is_ready = true;
-                Ok(())
-            }
+            None => Ok(self.name.keep(alloc, name)?),
         }
     }
 
     fn len(&mut self, _alloc: Global) -> Result<u64, KeepFault>
-        requires { IsTrue self.old.is_ready }
+        requires { IsSome self.old.name }
         ensures answer { result ≡ answer_or (next_failure self.old.failures) (length self.old.bodies) }
         ensures made { self.new ≡ called self.old }
         ensures never_falls { self.old.faults ≤ self.new.faults }
@@ -112,7 +113,7 @@ impl Keeper for MemKeeper {
     }
 
     fn load(&mut self, alloc: Global, place: u32) -> Result<Vec<u8>, KeepFault>
-        requires ready { IsTrue self.old.is_ready }
+        requires ready { IsSome self.old.name }
         requires place { ForSome (Some self.old.bodies) (HasPlace place) }
         ensures body { IfOk result (λ body. body_at place self.old.bodies ≡ Some body.items) }
         ensures listed { IsErrOf result KeepFault.Failed ↔ IsSome (next_failure self.old.failures) }
@@ -129,7 +130,7 @@ impl Keeper for MemKeeper {
     }
 
     fn append(&mut self, _alloc: Global, body: &[u8]) -> Result<(), KeepFault>
-        requires { IsTrue self.old.is_ready }
+        requires { IsSome self.old.name }
         ensures ok { OnOk result (BodyAppended body.now self.old.bodies self.new.bodies) }
         ensures memory { IsErrOf result KeepFault.Memory → BodiesStay self.old.bodies self.new.bodies }
         ensures failed { IsErrOf result KeepFault.Failed → IsSomeAnd (next_failure self.old.failures) (λ failure.
@@ -151,7 +152,7 @@ impl Keeper for MemKeeper {
     }
 
     fn replace(&mut self, _alloc: Global, place: u32, body: &[u8]) -> Result<(), KeepFault>
-        requires ready { IsTrue self.old.is_ready }
+        requires ready { IsSome self.old.name }
         requires place { ForSome (Some self.old.bodies) (HasPlace place) }
         ensures ok { OnOk result (BodyReplaced place body.now self.old.bodies self.new.bodies) }
         ensures memory { IsErrOf result KeepFault.Memory → BodiesStay self.old.bodies self.new.bodies }

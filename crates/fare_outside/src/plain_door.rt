@@ -5,13 +5,15 @@ use crate::{Door, Failed};
 /// A door to which no connection comes.
 #[derive(Drop)]
 pub struct PlainDoor {
-    seal: (),
+    port: Option<u16>,
 }
 
 impl PlainDoor {
-    /// A door with no connection to come.
-    pub fn new() -> PlainDoor {
-        PlainDoor { seal: () }
+    /// A door with no connection to come, which doesn't listen yet.
+    pub fn new() -> PlainDoor
+        ensures { result.port ≡ None }
+    {
+        PlainDoor { port: None }
     }
 }
 
@@ -26,11 +28,14 @@ impl Door for PlainDoor {
 
     ghost current = { λ _. None };
 
+    ghost listens_at = { λ door. door.port };
+
     ghost faults = { λ _. 0 };
 
     ghost cuts = { λ _. 0 };
 
-    fn listen(&mut self, _port: u16) -> Result<(), Failed> {
+    fn listen(&mut self, port: u16) -> Result<(), Failed> {
+        self.port = Some(port);
         Ok(())
     }
 

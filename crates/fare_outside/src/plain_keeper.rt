@@ -1,7 +1,8 @@
-ghost use Rattle.std.specs.Prelude.{◌≡◌, Ok, Some, true, false, length, IsTrue};
-ghost use Rattle.fare_outside.specs.Keeper.{ToldAfter, BodiesStay};
+ghost use Rattle.std.specs.Prelude.{◌≡◌, None, Ok, Some, length, is_some, IfErr, IsSome, OnOk};
+ghost use Rattle.fare_outside.specs.declared.keeper.KeepFault.TheVariants.{Memory};
+ghost use Rattle.fare_outside.specs.Keeper.{first_name};
 
-use crate::{Bodies, KeepFault, Keeper};
+use crate::{Bodies, FirstName, KeepFault, Keeper};
 use std::alloc::Global;
 use std::marker::Model;
 
@@ -9,7 +10,7 @@ use std::marker::Model;
 #[derive(Drop)]
 pub struct PlainKeeper {
     bodies: Bodies,
-    is_ready: bool,
+    name: FirstName,
 }
 
 impl Model for PlainKeeper {
@@ -17,17 +18,17 @@ impl Model for PlainKeeper {
 
     ghost Value = { KeeperState };
 
-    ghost view = { λ k. record { bodies = k.bodies; is_ready = k.is_ready } };
+    ghost view = { λ k. record { bodies = k.bodies; name = k.name } };
 }
 
 impl PlainKeeper {
     /// A keeper of these bodies, not opened yet.
     pub fn new(bodies: Bodies) -> PlainKeeper
-        ensures { result ≡ record { bodies = bodies; is_ready = false } }
+        ensures { result ≡ record { bodies = bodies; name = None } }
     {
         PlainKeeper {
             bodies,
-            is_ready: false,
+            name: FirstName::new(),
         }
     }
 
@@ -44,18 +45,19 @@ impl Keeper for PlainKeeper {
 
     ghost faults = { λ _. 0 };
 
-    ghost ready = { λ keeper. keeper.is_ready };
+    ghost ready = { λ keeper. is_some keeper.name };
 
-    fn open(&mut self, _alloc: Global, _name: &str) -> Result<(), KeepFault>
-        ensures opens { result ≡ Ok tt }
-        ensures ready { self.new ≡ record self.old { is_ready = true } }
+    ghost opened_as = { λ keeper. keeper.name };
+
+    fn open(&mut self, alloc: Global, name: &str) -> Result<(), KeepFault>
+        ensures ok { OnOk result (self.new ≡ record self.old { name = first_name self.old.name name.now }) }
+        ensures err { IfErr result (λ fault. (fault ≡ Memory) × (self.new ≡ self.old)) }
     {
-        self.is_ready = true;
-        Ok(())
+        Ok(self.name.keep(alloc, name)?)
     }
 
     fn len(&mut self, _alloc: Global) -> Result<u64, KeepFault>
-        requires { IsTrue self.old.is_ready }
+        requires { IsSome self.old.name }
         ensures count { result ≡ Ok (length self.old.bodies) }
         ensures same { self.new ≡ self.old }
     {
