@@ -1,16 +1,17 @@
 -- What is known of a keeper over the database of a name.
 use Rattle.std.specs.Prelude.{ℕ, Bool, if◌then◌else◌, List, Option, Some, None, ⊤, refl}
 use Rattle.std.specs.Option.{ForSome}
-use Rattle.std.specs.Coded.{Coded, code_by, coded×, coded_ℕ, coded_bool, coded_option}
+use Rattle.std.specs.Coded.{Coded, code_by, coded×, coded_ℕ, coded_bool, coded_list, coded_option}
 use Rattle.sqlite_trees.specs.declared.store.Store.{Ghosts}
 use Rattle.sqlite.specs.Held.{state}
 use Rattle.sqlite.specs.State.{HasCleanDisk}
 use Rattle.fare_sqlite.specs.Kept.{LeavesJust, LeavesOr, kept}
 use Rattle.fare_sqlite.specs.State.{KeeperState, keeper_code}
 
--- of a keeper over the database of a name: its table, while that is open, whether the database is still as its first
--- opening finds it but for what the keeper did, whether it was opened, and how many of its calls have failed
+-- of a keeper over the database of a name: the name, its table, while that is open, whether the database is still as its
+-- first opening finds it but for what the keeper did, whether it was opened, and how many of its calls have failed
 pub record NamedState (A : Type 0) : Type 0 where
+  pub name : List ℕ
   pub table : Option (KeeperState A)
   pub is_as_found : Bool
   pub is_ready : Bool
@@ -18,11 +19,15 @@ pub record NamedState (A : Type 0) : Type 0 where
 
 abbrev pub named_code : {A : Type 0} → Coded A → Coded (NamedState A)
 named_code {A} store =
-    code_by (Option (KeeperState A) × (Bool × (Bool × ℕ)))
-    (coded× (coded_option (keeper_code store)) (coded× coded_bool (coded× coded_bool coded_ℕ)))
-    (λ k. (k.table, (k.is_as_found, (k.is_ready, k.faults))))
-    (λ p. record { table = p.0; is_as_found = p.1.0; is_ready = p.1.1.0; faults = p.1.1.1 })
+    code_by (List ℕ × (Option (KeeperState A) × (Bool × (Bool × ℕ))))
+    (coded× (coded_list coded_ℕ) (coded× (coded_option (keeper_code store)) (coded× coded_bool (coded× coded_bool coded_ℕ))))
+    (λ k. (k.name, (k.table, (k.is_as_found, (k.is_ready, k.faults)))))
+    (λ p. record { name = p.0; table = p.1.0; is_as_found = p.1.1.0; is_ready = p.1.1.1.0; faults = p.1.1.1.1 })
     (λ _. refl)
+
+-- the name by which a keeper was opened first, if it was
+abbrev pub opened_of : {A : Type 0} → NamedState A → Option (List ℕ)
+opened_of keeper = if keeper.is_ready then Some keeper.name else None
 
 -- a list of bodies, where it is told
 abbrev pub Told : Type 0

@@ -1,4 +1,4 @@
-ghost use Rattle.std.specs.Prelude.{◌≡◌, false, true, None, IfOk};
+ghost use Rattle.std.specs.Prelude.{◌≡◌, [], false, true, None, IfOk};
 ghost use Rattle.sqlite.specs.Files.{file_state};
 ghost use Rattle.fare_outside.specs.Keeper.{BodiesStay, WhereTold};
 ghost use Rattle.fare_sqlite.specs.Kept.{kept};
@@ -53,7 +53,7 @@ impl<S: FoundFile> Opener<FileStore<FileFrom<S>>> for FileOpener<S> {
 impl<S: FoundFile> FileKeeper<S> {
     /// A keeper of this process, over no file yet.
     pub fn new(rt: &HostRuntime) -> FileKeeper<S>
-        ensures { result ≡ record { table = None; is_as_found = true; is_ready = false; faults = 0 } }
+        ensures { result ≡ record { name = []; table = None; is_as_found = true; is_ready = false; faults = 0 } }
     {
         NamedKeeper::over(rt.alloc(), FileOpener::new(rt))
     }

@@ -1,12 +1,12 @@
 ghost use Rattle.std.specs.Prelude.{◌≡◌, ◌≤◌, ◌-◌, ◌||◌, ◌++◌, ◌∷◌, [], true, false, is_ok, length, slice_set, OnOk, IfOk, IfSome};
-ghost use Rattle.std.specs.Prelude.{IsErrOf, IsTrue, None, Some};
+ghost use Rattle.std.specs.Prelude.{IsErrOf, IsSome, IsTrue, MatchResult, None, Some};
 ghost use Rattle.std.specs.Option.{ForSome};
 ghost use Rattle.sqlite.specs.Held.{state};
 ghost use Rattle.fare_outside.specs.Cause.{Rose};
 ghost use Rattle.fare_outside.specs.Keeper.{BodiesStay, BodyAppended, BodyReplaced, HasPlace, MayAppend, MayReplace};
-ghost use Rattle.fare_outside.specs.Keeper.{ToldAfter, WhereTold, body_at};
+ghost use Rattle.fare_outside.specs.Keeper.{ToldAfter, WhereTold, body_at, first_name};
 ghost use Rattle.fare_sqlite.specs.Kept.{kept};
-ghost use Rattle.fare_sqlite.specs.Named.{LeavesChanged, MayLeaveChanged, found_in, told_of};
+ghost use Rattle.fare_sqlite.specs.Named.{LeavesChanged, MayLeaveChanged, found_in, opened_of, told_of};
 
 use crate::SqliteKeeper;
 use crate::count::counted;
@@ -33,22 +33,28 @@ pub struct NamedKeeper<A: Alter, O: Opener<A>> {
 }
 
 impl<A: Alter, O: Opener<A>> Model for NamedKeeper<A, O> {
-    ghost use Rattle.std.specs.Prelude.{IfSome, IsTrue};
+    ghost use Rattle.std.specs.Prelude.{IfSome, IsSome, IsTrue, string_bytes};
     ghost use Rattle.fare_sqlite.specs.Named.{NamedState, named_code};
 
     ghost Value = { NamedState A };
 
     ghost coded = { named_code A.code };
 
-    ghost view = { λ k. record { table = k.table; is_as_found = k.is_as_found; is_ready = k.is_ready; faults = k.faults } };
+    ghost view = { λ k. record {
+      name = string_bytes k.name;
+      table = k.table;
+      is_as_found = k.is_as_found;
+      is_ready = k.is_ready;
+      faults = k.faults;
+    } };
 
-    ghost invariant = { λ k. IfSome k.table (λ table. IsTrue table.is_ready × IsTrue k.is_ready) };
+    ghost invariant = { λ k. IfSome k.table (λ table. IsSome table.name × IsTrue k.is_ready) };
 }
 
 impl<A: Alter + Drop, O: Opener<A>> NamedKeeper<A, O> {
     /// A keeper over no database yet.
     pub fn over(alloc: Global, opener: O) -> NamedKeeper<A, O>
-        ensures { result ≡ record { table = None; is_as_found = true; is_ready = false; faults = 0 } }
+        ensures { result ≡ record { name = []; table = None; is_as_found = true; is_ready = false; faults = 0 } }
     {
         NamedKeeper {
             opener,
@@ -64,6 +70,8 @@ impl<A: Alter + Drop, O: Opener<A>> NamedKeeper<A, O> {
         ensures told { WhereTold (told_of A.Store O.Opener.bodies self.old) (told_of A.Store O.Opener.bodies self.new)
             BodiesStay }
         ensures ready { self.new.is_ready ≡ (self.old.is_ready || is_ok result) }
+        ensures name { MatchResult result (λ _. opened_of self.new ≡ first_name (opened_of self.old) name.now)
+            (λ _. opened_of self.new ≡ opened_of self.old) }
         ensures faults { self.new.faults ≡ self.old.faults }
     {
         let Some(table) = &mut self.table else {
@@ -81,6 +89,8 @@ impl<A: Alter + Drop, O: Opener<A>> NamedKeeper<A, O> {
         ensures told { WhereTold (told_of A.Store O.Opener.bodies self.old) (told_of A.Store O.Opener.bodies self.new)
             BodiesStay }
         ensures ready { self.new.is_ready ≡ (self.old.is_ready || is_ok result) }
+        ensures name { MatchResult result (λ _. opened_of self.new ≡ first_name (opened_of self.old) name.now)
+            (λ _. opened_of self.new ≡ opened_of self.old) }
         ensures faults { self.new.faults ≡ self.old.faults }
     {
         if !self.is_ready {
@@ -96,6 +106,7 @@ impl<A: Alter + Drop, O: Opener<A>> NamedKeeper<A, O> {
             BodiesStay }
         ensures lost { self.old.is_as_found ≡ false → self.new.is_as_found ≡ false }
         ensures ready { self.new.is_ready ≡ (self.old.is_ready || is_ok result) }
+        ensures name { self.new.name ≡ self.old.name }
         ensures faults { self.new.faults ≡ self.old.faults }
     {
         let is_first = self.is_as_found;
@@ -113,6 +124,7 @@ impl<A: Alter + Drop, O: Opener<A>> NamedKeeper<A, O> {
             BodiesStay }
         ensures lost { OnOk result (self.new.is_as_found ≡ false) }
         ensures ready { self.new.is_ready ≡ (self.old.is_ready || is_ok result) }
+        ensures name { self.new.name ≡ self.old.name }
         ensures faults { self.new.faults ≡ self.old.faults }
     {
         if let Some(table) = &mut self.table
@@ -136,6 +148,7 @@ impl<A: Alter + Drop, O: Opener<A>> NamedKeeper<A, O> {
         ensures told { ToldAfter (told_of A.Store O.Opener.bodies self.old) (told_of A.Store O.Opener.bodies self.new)
             BodiesStay }
         ensures ready { IsTrue self.new.is_ready }
+        ensures name { self.new.name ≡ self.old.name }
         ensures faults { self.new.faults ≡ self.old.faults }
     {
         match self.count_once(alloc) {
@@ -155,6 +168,7 @@ impl<A: Alter + Drop, O: Opener<A>> NamedKeeper<A, O> {
             BodiesStay }
         ensures lost { self.old.is_as_found ≡ false → self.new.is_as_found ≡ false }
         ensures ready { IsTrue self.new.is_ready }
+        ensures name { self.new.name ≡ self.old.name }
         ensures faults { self.new.faults ≡ self.old.faults }
     {
         match &mut self.table {
@@ -172,6 +186,7 @@ impl<A: Alter + Drop, O: Opener<A>> NamedKeeper<A, O> {
         ensures told { ToldAfter (told_of A.Store O.Opener.bodies self.old) (told_of A.Store O.Opener.bodies self.new)
             BodiesStay }
         ensures ready { IsTrue self.new.is_ready }
+        ensures name { self.new.name ≡ self.old.name }
         ensures faults { self.new.faults ≡ self.old.faults }
     {
         let is_told = self.is_as_found;
@@ -196,6 +211,7 @@ impl<A: Alter + Drop, O: Opener<A>> NamedKeeper<A, O> {
         ensures failed { IsErrOf result KeepFault.Failed → ToldAfter (told_of A.Store O.Opener.bodies self.old)
             (told_of A.Store O.Opener.bodies self.new) (MayReplace place body.now) }
         ensures ready { IsTrue self.new.is_ready }
+        ensures name { self.new.name ≡ self.old.name }
         ensures faults { self.new.faults ≡ self.old.faults }
     {
         let is_told = self.is_as_found;
@@ -216,6 +232,8 @@ impl<A: Alter + Drop, O: Opener<A>> Keeper for NamedKeeper<A, O> {
     ghost faults = { λ keeper. keeper.faults };
 
     ghost ready = { λ keeper. keeper.is_ready };
+
+    ghost opened_as = { opened_of };
 
     /// Opens the database of that name. Once that has succeeded it opens the same table again, and
     /// doesn't look at the name. It fails where the opener does, and where the database holds anything
@@ -250,6 +268,7 @@ impl<A: Alter + Drop, O: Opener<A>> Keeper for NamedKeeper<A, O> {
         ensures crash { MayLeaveChanged A.Store (found_in self.old) (found_in self.new)
             (λ bodies. bodies ++ body.now ∷ []) }
         ensures ready { IsTrue self.new.is_ready }
+        ensures name { self.new.name ≡ self.old.name }
         ensures never_falls { self.old.faults ≤ self.new.faults }
         ensures cause { IsErrOf result KeepFault.Failed → Rose self.old.faults self.new.faults }
     {
@@ -272,6 +291,7 @@ impl<A: Alter + Drop, O: Opener<A>> Keeper for NamedKeeper<A, O> {
         ensures failed { IsErrOf result KeepFault.Failed → ToldAfter (told_of A.Store O.Opener.bodies self.old)
             (told_of A.Store O.Opener.bodies self.new) (MayReplace place body.now) }
         ensures ready { IsTrue self.new.is_ready }
+        ensures name { self.new.name ≡ self.old.name }
         ensures never_falls { self.old.faults ≤ self.new.faults }
         ensures cause { IsErrOf result KeepFault.Failed → Rose self.old.faults self.new.faults }
     {
@@ -287,7 +307,7 @@ fn opened<A: Alter + Drop, O: Opener<A>>(
     name: &str,
 ) -> Result<SqliteKeeper<A>, KeepFault>
     ensures told { IfOk result (λ table. WhereTold O.Opener.bodies (kept (state A.Store table.conn)) BodiesStay) }
-    ensures ready { IfOk result (λ table. IsTrue table.is_ready) }
+    ensures ready { IfOk result (λ table. IsSome table.name) }
 {
     let mut table = SqliteKeeper::over(opener.open(name)?);
     table.open(alloc, name)?;

@@ -1,16 +1,16 @@
-ghost use Rattle.std.specs.Prelude.{◌≡◌, ◌≤◌, ◌-◌, ◌||◌, ◌++◌, ◌∷◌, [], false, is_ok, slice_set, OnOk, IsErrOf};
-ghost use Rattle.std.specs.Prelude.{IsTrue, None};
+ghost use Rattle.std.specs.Prelude.{◌≡◌, ◌≤◌, ◌-◌, ◌++◌, ◌∷◌, [], is_some, slice_set, OnOk, IsErrOf, MatchResult};
+ghost use Rattle.std.specs.Prelude.{IsSome, IsTrue, None};
 ghost use Rattle.std.specs.Option.{ForSome};
 ghost use Rattle.sqlite.specs.Held.{state};
 ghost use Rattle.sqlite.specs.State.{HasCleanDisk};
 ghost use Rattle.fare_outside.specs.Cause.{Rose};
 ghost use Rattle.fare_outside.specs.Keeper.{BodiesStay, BodyAppended, BodyReplaced, HasPlace, MayAppend, MayReplace};
-ghost use Rattle.fare_outside.specs.Keeper.{ToldAfter, WhereTold};
+ghost use Rattle.fare_outside.specs.Keeper.{ToldAfter, WhereTold, first_name};
 ghost use Rattle.fare_sqlite.specs.Kept.{LeavesJust, LeavesOr, kept};
 
 use crate::count::counted;
 use crate::{statements, table};
-use fare_outside::{KeepFault, Keeper};
+use fare_outside::{FirstName, KeepFault, Keeper};
 use sqlite::{Alter, Connection};
 use std::alloc::Global;
 use std::marker::Model;
@@ -25,12 +25,12 @@ use std::marker::Model;
 #[derive(Drop)]
 pub struct SqliteKeeper<S: Alter> {
     conn: Connection<S>,
-    is_ready: bool,
+    name: FirstName,
     faults: u64,
 }
 
 impl<S: Alter> Model for SqliteKeeper<S> {
-    ghost use Rattle.std.specs.Prelude.{IsTrue};
+    ghost use Rattle.std.specs.Prelude.{IsSome};
     ghost use Rattle.sqlite.specs.Held.{state};
     ghost use Rattle.fare_sqlite.specs.Kept.{Speaks};
     ghost use Rattle.fare_sqlite.specs.State.{KeeperState, keeper_code};
@@ -39,19 +39,19 @@ impl<S: Alter> Model for SqliteKeeper<S> {
 
     ghost coded = { keeper_code S.code };
 
-    ghost view = { λ k. record { conn = k.conn; is_ready = k.is_ready; faults = k.faults } };
+    ghost view = { λ k. record { conn = k.conn; name = k.name; faults = k.faults } };
 
-    ghost invariant = { λ k. IsTrue k.is_ready → Speaks (state S.Store k.conn) };
+    ghost invariant = { λ k. IsSome k.name → Speaks (state S.Store k.conn) };
 }
 
 impl<S: Alter> SqliteKeeper<S> {
     /// A keeper over that connection, not opened yet.
     pub fn over(conn: Connection<S>) -> SqliteKeeper<S>
-        ensures { result ≡ record { conn = conn; is_ready = false; faults = 0 } }
+        ensures { result ≡ record { conn = conn; name = None; faults = 0 } }
     {
         SqliteKeeper {
             conn,
-            is_ready: false,
+            name: FirstName::new(),
             faults: 0,
         }
     }
@@ -60,7 +60,7 @@ impl<S: Alter> SqliteKeeper<S> {
     pub fn is_shut(&mut self) -> bool
         ensures told { ToldAfter (kept (state S.Store self.old.conn)) (kept (state S.Store self.new.conn)) BodiesStay }
         ensures shut { IsTrue result → kept (state S.Store self.new.conn) ≡ None }
-        ensures ready { self.new.is_ready ≡ self.old.is_ready }
+        ensures name { self.new.name ≡ self.old.name }
         ensures faults { self.new.faults ≡ self.old.faults }
     {
         statements::is_shut(&mut self.conn)
@@ -79,23 +79,25 @@ impl<S: Alter> Keeper for SqliteKeeper<S> {
 
     ghost faults = { λ keeper. keeper.faults };
 
-    ghost ready = { λ keeper. keeper.is_ready };
+    ghost ready = { λ keeper. is_some keeper.name };
+
+    ghost opened_as = { λ keeper. keeper.name };
 
     /// Makes the table where the database is blank. It fails where the database holds anything but
-    /// that table, or where the table isn't a body at each place from 1 to their count. The name
-    /// isn't looked at. What it tells then was told before.
-    fn open(&mut self, _alloc: Global, _name: &str) -> Result<(), KeepFault>
+    /// that table, or where the table isn't a body at each place from 1 to their count. The first
+    /// name is kept, and opens nothing. What it tells then was told before.
+    fn open(&mut self, alloc: Global, name: &str) -> Result<(), KeepFault>
         ensures told { ToldAfter (kept (state S.Store self.old.conn)) (kept (state S.Store self.new.conn)) BodiesStay }
         ensures bodies { WhereTold (kept (state S.Store self.old.conn)) (kept (state S.Store self.new.conn))
             BodiesStay }
-        ensures ready { self.new.is_ready ≡ (self.old.is_ready || is_ok result) }
+        ensures name { MatchResult result (λ _. self.new.name ≡ first_name self.old.name name.now)
+            (λ _. self.new.name ≡ self.old.name) }
         ensures never_falls { self.old.faults ≤ self.new.faults }
         ensures cause { IsErrOf result KeepFault.Failed → Rose self.old.faults self.new.faults }
     {
         let answer = table::adopt(&mut self.conn);
         counted(&mut self.faults, answer)?;
-        self.is_ready = true;
-        Ok(())
+        Ok(self.name.keep(alloc, name)?)
     }
 
     fn len(&mut self, _alloc: Global) -> Result<u64, KeepFault> {
@@ -111,7 +113,7 @@ impl<S: Alter> Keeper for SqliteKeeper<S> {
     /// Adds a body at the end. After Ok a crash leaves just the bodies that are kept then; otherwise it leaves what it
     /// could leave before, or those.
     fn append(&mut self, _alloc: Global, body: &[u8]) -> Result<(), KeepFault>
-        requires { IsTrue self.old.is_ready }
+        requires { IsSome self.old.name }
         ensures ok { OnOk result (ToldAfter (kept (state S.Store self.old.conn)) (kept (state S.Store self.new.conn))
             (BodyAppended body.now)) }
         ensures memory { IsErrOf result KeepFault.Memory →
@@ -123,7 +125,7 @@ impl<S: Alter> Keeper for SqliteKeeper<S> {
             (λ bodies. LeavesJust (state S.Store self.new.conn) (bodies ++ body.now ∷ []))) }
         ensures crash { HasCleanDisk (state S.Store self.new.conn) → ForSome (kept (state S.Store self.old.conn))
             (λ bodies. LeavesOr (state S.Store self.old.conn) (state S.Store self.new.conn) (bodies ++ body.now ∷ [])) }
-        ensures ready { IsTrue self.new.is_ready }
+        ensures name { self.new.name ≡ self.old.name }
         ensures never_falls { self.old.faults ≤ self.new.faults }
         ensures cause { IsErrOf result KeepFault.Failed → Rose self.old.faults self.new.faults }
     {
@@ -134,7 +136,7 @@ impl<S: Alter> Keeper for SqliteKeeper<S> {
     /// Puts another body at that place. After Ok a crash leaves just the bodies that are kept then; otherwise it leaves
     /// what it could leave before, or those.
     fn replace(&mut self, _alloc: Global, place: u32, body: &[u8]) -> Result<(), KeepFault>
-        requires ready { IsTrue self.old.is_ready }
+        requires ready { IsSome self.old.name }
         requires place { ForSome (kept (state S.Store self.old.conn)) (HasPlace place) }
         ensures ok { OnOk result (ToldAfter (kept (state S.Store self.old.conn)) (kept (state S.Store self.new.conn))
             (BodyReplaced place body.now)) }
@@ -148,7 +150,7 @@ impl<S: Alter> Keeper for SqliteKeeper<S> {
         ensures crash { HasCleanDisk (state S.Store self.new.conn) → ForSome (kept (state S.Store self.old.conn))
             (λ bodies. LeavesOr (state S.Store self.old.conn) (state S.Store self.new.conn)
             (slice_set bodies (place - 1) body.now)) }
-        ensures ready { IsTrue self.new.is_ready }
+        ensures name { self.new.name ≡ self.old.name }
         ensures never_falls { self.old.faults ≤ self.new.faults }
         ensures cause { IsErrOf result KeepFault.Failed → Rose self.old.faults self.new.faults }
     {
