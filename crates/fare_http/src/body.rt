@@ -25,6 +25,7 @@ pub fn read_body<D: Door>(
     ensures waiting { D.waiting door.new ≡ D.waiting door.old }
     ensures held { D.held door.new ≡ D.held door.old }
     ensures current { D.current door.new ≡ D.current door.old }
+    ensures port { D.listens_at door.new ≡ D.listens_at door.old }
     ensures faults { D.faults door.new ≡ D.faults door.old }
 {
     let mut body = begun;

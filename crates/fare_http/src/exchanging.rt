@@ -23,6 +23,7 @@ pub fn exchange<R: Threads + Sync, D: Door, H: Handler>(
     ensures closed { D.current door.new ≡ None }
     ensures waiting { D.waiting door.new ≡ D.waiting door.old }
     ensures held { D.held door.new ≡ D.held door.old }
+    ensures port { D.listens_at door.new ≡ D.listens_at door.old }
     ensures faults { D.faults door.new ≡ D.faults door.old }
     ensures never_falls { D.cuts door.old ≤ D.cuts door.new }
 {

@@ -52,6 +52,7 @@ pub fn read_piece<D: Door>(door: &mut D, taken: &mut Vec<u8>, most: usize) -> Re
     ensures waiting { D.waiting door.new ≡ D.waiting door.old }
     ensures held { D.held door.new ≡ D.held door.old }
     ensures current { D.current door.new ≡ D.current door.old }
+    ensures port { D.listens_at door.new ≡ D.listens_at door.old }
     ensures faults { D.faults door.new ≡ D.faults door.old }
 {
     let mut piece = [0; PIECE];

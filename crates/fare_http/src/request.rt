@@ -104,6 +104,7 @@ pub fn read_whole<D: Door>(alloc: Global, door: &mut D) -> Result<Request, NoReq
     ensures waiting { D.waiting door.new ≡ D.waiting door.old }
     ensures held { D.held door.new ≡ D.held door.old }
     ensures current { D.current door.new ≡ D.current door.old }
+    ensures port { D.listens_at door.new ≡ D.listens_at door.old }
     ensures faults { D.faults door.new ≡ D.faults door.old }
 {
     let mut fields = [EMPTY_HEADER_SPAN; MOST_FIELDS];

@@ -14,6 +14,7 @@ pub fn send_all<D: Door>(door: &mut D, bytes: &[u8]) -> Result<(), Failed>
     ensures waiting { D.waiting door.new ≡ D.waiting door.old }
     ensures left { D.left door.new ≡ D.left door.old }
     ensures held { D.held door.new ≡ D.held door.old }
+    ensures port { D.listens_at door.new ≡ D.listens_at door.old }
     ensures faults { D.faults door.new ≡ D.faults door.old }
     ensures never_falls { D.cuts door.old ≤ D.cuts door.new }
     ensures cause { OnErr result (Rose (D.cuts door.old) (D.cuts door.new)) }

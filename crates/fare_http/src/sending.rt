@@ -36,6 +36,7 @@ pub fn send<D: Door>(door: &mut D, reply: Option<&Reply>) -> Exchange
     ensures closed { D.current door.new ≡ None }
     ensures waiting { D.waiting door.new ≡ D.waiting door.old }
     ensures held { D.held door.new ≡ D.held door.old }
+    ensures port { D.listens_at door.new ≡ D.listens_at door.old }
     ensures faults { D.faults door.new ≡ D.faults door.old }
     ensures never_falls { D.cuts door.old ≤ D.cuts door.new }
 {
@@ -54,6 +55,7 @@ fn send_answer<D: Door>(door: &mut D, reply: Option<&Reply>) -> Result<(), Faile
         (D.sent door.old) (D.sent door.new) (answer_bytes (option_copied reply.entry))) }
     ensures waiting { D.waiting door.new ≡ D.waiting door.old }
     ensures held { D.held door.new ≡ D.held door.old }
+    ensures port { D.listens_at door.new ≡ D.listens_at door.old }
     ensures faults { D.faults door.new ≡ D.faults door.old }
     ensures never_falls { D.cuts door.old ≤ D.cuts door.new }
     ensures cause { OnErr result (Rose (D.cuts door.old) (D.cuts door.new)) }
@@ -71,6 +73,7 @@ fn send_reply<D: Door>(door: &mut D, reply: &Reply) -> Result<(), Failed>
         (D.sent door.old) (D.sent door.new) (reply_bytes reply.now)) }
     ensures waiting { D.waiting door.new ≡ D.waiting door.old }
     ensures held { D.held door.new ≡ D.held door.old }
+    ensures port { D.listens_at door.new ≡ D.listens_at door.old }
     ensures faults { D.faults door.new ≡ D.faults door.old }
     ensures never_falls { D.cuts door.old ≤ D.cuts door.new }
     ensures cause { OnErr result (Rose (D.cuts door.old) (D.cuts door.new)) }
@@ -95,6 +98,7 @@ fn send_status<D: Door>(door: &mut D, status: Status) -> Result<(), Failed>
         (D.sent door.old) (D.sent door.new) (status_line status)) }
     ensures waiting { D.waiting door.new ≡ D.waiting door.old }
     ensures held { D.held door.new ≡ D.held door.old }
+    ensures port { D.listens_at door.new ≡ D.listens_at door.old }
     ensures faults { D.faults door.new ≡ D.faults door.old }
     ensures never_falls { D.cuts door.old ≤ D.cuts door.new }
     ensures cause { OnErr result (Rose (D.cuts door.old) (D.cuts door.new)) }

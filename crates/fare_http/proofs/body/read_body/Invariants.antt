@@ -13,6 +13,7 @@ invariant-pieces g l = record {
   held : g.D.Door.held l.door ≡ g.D.Door.held l.initial.door;
   current : g.D.Door.current l.door ≡ g.D.Door.current l.initial.door;
   faults : g.D.Door.faults l.door ≡ g.D.Door.faults l.initial.door;
+  port : g.D.Door.listens_at l.door ≡ g.D.Door.listens_at l.initial.door;
 }
 
 abbrev pub decreases-pieces : goal.decreases-pieces

@@ -20,5 +20,6 @@ pieces-preserved g c =
       left = now.left ∙ before.left;
       held = now.held ∙ before.held;
       faults = now.faults ∙ before.faults;
+      port = now.port ∙ before.port;
       never_falls = omega (arith, before.never_falls, now.never_falls);
     }

@@ -12,6 +12,7 @@ invariant-pieces g l = record {
   left : g.D.Door.left l.door ≡ g.D.Door.left l.initial.door;
   held : g.D.Door.held l.door ≡ g.D.Door.held l.initial.door;
   faults : g.D.Door.faults l.door ≡ g.D.Door.faults l.initial.door;
+  port : g.D.Door.listens_at l.door ≡ g.D.Door.listens_at l.initial.door;
   never_falls : g.D.Door.cuts l.initial.door ≤ g.D.Door.cuts l.door;
 }
 
