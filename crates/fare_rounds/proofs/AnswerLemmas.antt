@@ -3,7 +3,7 @@ use Rattle.std.proofs.Common.{◌≡◌, ℕ, ◌+◌, ◌<◌, ◌≤◌, suc, 
 use Rattle.std.specs.Prelude.{option_map}
 use Rattle.std.proofs.Math.Seq.{drop-cons}
 use Rattle.std.proofs.lemmas.List.{drop-set-lt, length-map, map-append, take_more, take_more_set}
-use Rattle.std.proofs.lemmas.List.Elements.{All-append, All-cons, All-nil, All-weaker}
+use Rattle.std.proofs.lemmas.List.Elements.{All-append, All-cons, All-nil}
 use Rattle.fare_outside.specs.Cause.{Rose}
 use Rattle.fare_outside.specs.Door.{TakesHeld, with_more_at}
 use Rattle.fare_http.specs.declared.reply.Reply.{Reply}
@@ -12,17 +12,19 @@ use Rattle.fare_http.specs.declared.sending.Exchange.TheVariants.{Served, Cut}
 use Rattle.fare_http.specs.Answers.{answer_bytes}
 use Rattle.fare_http.specs.Sending.{sent_more, SentPrefix}
 use Rattle.fare_rounds.specs.declared.entry.Entry.{Entry}
-use Rattle.fare_rounds.specs.Finishing.{Answered, Answers, InTurn, IsReplied, IsSent, SentAs, sent_each, served_count, cut_count}
+use Rattle.fare_rounds.specs.Finishing.{Answered, Answers, InTurn, IsReplied, IsSent, SentAs, failed_writes, sent_each, served_count, cut_count}
+use Rattle.fare_rounds.specs.Taking.{RoseBy}
+use Rattle.fare_rounds.proofs.GatherLemmas.{rose-both}
 
 -- how far the connections that are held have been answered
-pub record Answering (Fails : Type 0) (held_before held_now : List ℕ) (before now : Option (List (List ℕ)))
+pub record Answering (first last : ℕ) (held_before held_now : List ℕ) (before now : Option (List (List ℕ)))
     (replies : List (Option Reply)) (served cut_before cut_now : ℕ) : Type 0 where
   pub places : List ℕ
   pub answered : List Answered
   pub held : held_before ≡ places ++ held_now
   pub each : length places ≡ length answered
   pub replies_are : map (λ answer. answer.reply) answered ≡ replies
-  pub answers : Answers Fails places before now answered
+  pub answers : Answers places before now first last answered
   pub served_is : served ≡ served_count (map (λ answer. answer.ending) answered)
   pub cut_is : cut_now ≡ cut_before + cut_count (map (λ answer. answer.ending) answered)
 
@@ -47,35 +49,33 @@ sent_each-push (other ∷ places) [] place piece lists same = absurd (omega (ari
 sent_each-push (p ∷ places) (x ∷ pieces) place piece lists same =
     sent_each-push places pieces place piece (with_more_at (Some p) x lists) (omega (arith, same))
 
--- what was sent of one answer
-sent-of : (Fails : Type 0) (current : Option ℕ) (before now : Option (List (List ℕ))) (answer : List ℕ)
-    (ending : Exchange) → (ending ≡ Served → now ≡ sent_more current before answer)
-    → (ending ≡ Cut → SentPrefix current before now answer) → (ending ≡ Cut → Fails)
-    → (sent : List ℕ) × SentAs Fails ending answer sent × (now ≡ sent_more current before sent)
-sent-of Fails current before now answer Served whole part fails = (answer, refl, whole refl)
-sent-of Fails current before now answer Cut whole part fails =
-    let front = part refl in
-    (take front.0 answer, (fails refl, (front.0, front.1, refl)), front.2)
+failed_writes-append : (xs ys : List Answered) → failed_writes (xs ++ ys) ≡ failed_writes xs + failed_writes ys
+failed_writes-append [] ys = omega arith
+failed_writes-append (answer ∷ xs) ys = let rest = failed_writes-append xs ys in omega (arith, rest)
 
--- answers that were sent earlier were sent
-pub sent-later : (F G : Type 0) → (F → G) → (answer : Answered) → IsSent F answer → IsSent G answer
-sent-later F G later answer sent = by-ending answer.ending sent
-  where
-    by-ending : (ending : Exchange) → SentAs F ending (answer_bytes answer.reply) answer.sent
-        → SentAs G ending (answer_bytes answer.reply) answer.sent
-    by-ending Served sent = sent
-    by-ending Cut sent = (later sent.0, sent.1)
+-- what was sent of one answer, and how many of its writes failed
+sent-of : (first last : ℕ) (current : Option ℕ) (before now : Option (List (List ℕ))) (answer : List ℕ)
+    (ending : Exchange) → first ≤ last → (ending ≡ Served → now ≡ sent_more current before answer)
+    → (ending ≡ Cut → SentPrefix current before now answer) → (ending ≡ Cut → Rose first last)
+    → (failures : ℕ) × RoseBy failures first last × (sent : List ℕ) × SentAs failures ending answer sent
+    × (now ≡ sent_more current before sent)
+sent-of first last current before now answer Served grows whole part rose =
+    (0, omega (arith, grows), answer, refl, whole refl)
+sent-of first last current before now answer Cut grows whole part rose =
+    let front = part refl in
+    let risen : Rose first last = rose refl in
+    (1, omega (arith, risen), take front.0 answer, (omega arith, (front.0, front.1, refl)), front.2)
 
 -- the answer to no connection
-pub answering-none : (Fails : Type 0) (held : List ℕ) (sent : Option (List (List ℕ))) (cut : ℕ)
-    → Answering Fails held held sent sent [] 0 cut cut
-answering-none Fails held sent cut = record {
+pub answering-none : (cuts : ℕ) (held : List ℕ) (sent : Option (List (List ℕ))) (cut : ℕ)
+    → Answering cuts cuts held held sent sent [] 0 cut cut
+answering-none cuts held sent cut = record {
   places = [];
   answered = [];
   held = refl;
   each = refl;
   replies_are = refl;
-  answers = record { each = All-nil (IsSent Fails); sent = same sent };
+  answers = record { each = All-nil IsSent; failed = omega arith; sent = same sent };
   served_is = refl;
   cut_is = omega arith;
 }
@@ -99,23 +99,23 @@ sent-push (Some before) between now places pieces place piece same first second 
 pub answering-next : (first second third : ℕ) (held_before held_now held_next : List ℕ)
     (before between now : Option (List (List ℕ))) (replies : List (Option Reply)) (served cut_before cut_now : ℕ)
     (current : Option ℕ) (reply : Option Reply) (ending : Exchange)
-    → first ≤ second → second ≤ third
-    → Answering (Rose first second) held_before held_now before between replies served cut_before cut_now
+    → second ≤ third
+    → Answering first second held_before held_now before between replies served cut_before cut_now
     → TakesHeld held_now held_next current
     → (ending ≡ Served → now ≡ sent_more current between (answer_bytes reply))
     → (ending ≡ Cut → SentPrefix current between now (answer_bytes reply)) → (ending ≡ Cut → Rose second third)
-    → Answering (Rose first third) held_before held_next before now (replies ++ reply ∷ [])
+    → Answering first third held_before held_next before now (replies ++ reply ∷ [])
     (served + served_count (ending ∷ [])) cut_before (cut_now + cut_count (ending ∷ []))
 answering-next first second third held_before held_now held_next before between now replies served cut_before cut_now
-    current reply ending grew grows done takes whole part rose =
+    current reply ending grows done takes whole part rose =
     let place = takes.0 in
-    let sent = sent-of (Rose second third) current between now (answer_bytes reply) ending whole part rose in
-    let more : now ≡ sent_more (Some place) between sent.0 =
-    sent.2 ∙ ap (λ at. sent_more at between sent.0) takes.2 in
-    let answer : Answered = record { reply = reply; ending = ending; sent = sent.0 } in
-    let later : Rose first second → Rose first third = λ rose. omega (arith, grows, rose) in
-    let now-sent : IsSent (Rose first third) answer =
-    sent-later (Rose second third) (Rose first third) (λ rose. omega (arith, grew, rose)) answer sent.1 in
+    let sent = sent-of second third current between now (answer_bytes reply) ending grows whole part rose in
+    let more : now ≡ sent_more (Some place) between sent.2 =
+    sent.4 ∙ ap (λ at. sent_more at between sent.2) takes.2 in
+    let answer : Answered = record { reply = reply; ending = ending; sent = sent.2; failures = sent.0 } in
+    let now-sent : IsSent answer = sent.3 in
+    let failed : failed_writes (done.answered ++ answer ∷ []) ≡ failed_writes done.answered + sent.0 =
+    omega (arith, failed_writes-append done.answered (answer ∷ [])) in
     let pieces = map (λ (a : Answered). a.sent) done.answered in
     let same : length done.places ≡ length pieces =
     done.each ∙ sym (length-map done.answered (λ (a : Answered). a.sent)) in
@@ -127,11 +127,11 @@ answering-next first second third held_before held_now held_next before between 
       replies_are = map-append (λ (a : Answered). a.reply) done.answered (answer ∷ [])
           ∙ ap (λ front. front ++ reply ∷ []) done.replies_are;
       answers = record {
-        each = All-append (IsSent (Rose first third)) done.answered (answer ∷ [])
-            (All-weaker (IsSent (Rose first second)) (IsSent (Rose first third))
-            (sent-later (Rose first second) (Rose first third) later) done.answered done.answers.each)
-            (All-cons (IsSent (Rose first third)) answer [] now-sent (All-nil (IsSent (Rose first third))));
-        sent = sent-push before between now done.places pieces place sent.0 same done.answers.sent more
+        each = All-append IsSent done.answered (answer ∷ []) done.answers.each
+            (All-cons IsSent answer [] now-sent (All-nil IsSent));
+        failed = subst (λ count. RoseBy count first third) (sym failed)
+            (rose-both (failed_writes done.answered) sent.0 first second third done.answers.failed sent.1);
+        sent = sent-push before between now done.places pieces place sent.2 same done.answers.sent more
             ∙ ap (λ all. option_map (sent_each (done.places ++ place ∷ []) all) before)
             (sym (map-append (λ (a : Answered). a.sent) done.answered (answer ∷ [])));
       };
@@ -152,11 +152,11 @@ counts-each [] = refl
 counts-each (Served ∷ endings) = let rest = counts-each endings in omega (arith, rest)
 counts-each (Cut ∷ endings) = let rest = counts-each endings in omega (arith, rest)
 
-pub answering-counts : (Fails : Type 0) (held_before held_now : List ℕ) (before now : Option (List (List ℕ)))
+pub answering-counts : (first last : ℕ) (held_before held_now : List ℕ) (before now : Option (List (List ℕ)))
     (replies : List (Option Reply)) (served cut_before cut_now : ℕ)
-    → (done : Answering Fails held_before held_now before now replies served cut_before cut_now)
+    → (done : Answering first last held_before held_now before now replies served cut_before cut_now)
     → (served + cut_now ≡ cut_before + length replies) × (length held_before ≡ length replies + length held_now)
-answering-counts Fails held_before held_now before now replies served cut_before cut_now done =
+answering-counts first last held_before held_now before now replies served cut_before cut_now done =
     let count : length done.answered ≡ length replies =
     sym (length-map done.answered (λ (a : Answered). a.reply)) ∙ ap length done.replies_are in
     let endings = map (λ (a : Answered). a.ending) done.answered in (

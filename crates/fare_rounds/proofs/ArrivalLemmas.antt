@@ -1,5 +1,6 @@
 -- What was read from a connection, as an arrival.
-use Rattle.std.proofs.Common.{◌≡◌, ◌⊎◌, inl, inr, ℕ, List, Option, None, Some, refl, subst}
+use Rattle.std.proofs.Common.{◌≡◌, ◌⊎◌, ◌≤◌, inl, inr, ℕ, List, Option, None, Some, refl, subst, arith}
+use Rattle.fare_outside.specs.Cause.{Rose}
 use Rattle.fare_http.specs.declared.taken.Taken.{Taken}
 use Rattle.fare_http.specs.declared.taken.Taken.TheVariants.{Whole, Fixed, NoMemory, Cut}
 use Rattle.fare_http.specs.Heads.{Takes}
@@ -8,6 +9,7 @@ use Rattle.fare_http.specs.Requests.{IsWhole}
 use Rattle.fare_http.specs.Serving.{BringsTooLittle}
 use Rattle.fare_rounds.specs.declared.entry.Entry.{Entry}
 use Rattle.fare_rounds.specs.Entries.{entry_of, IsBrought}
+use Rattle.fare_rounds.specs.Taking.{RoseBy}
 
 -- an entry is what its connection brought
 pub entry-brought : (taken : Taken) (entry : Entry) (old new : Option (List ℕ))
@@ -25,11 +27,12 @@ entry-brought NoMemory entry old new whole fixed is =
     subst (λ (e : Entry). IsBrought old e.request e.reply) same tt
 entry-brought Cut entry old new whole fixed is = cc
 
--- where there is no entry, the connection ended too early or a read failed
-pub no-entry : (taken : Taken) (old new : Option (List ℕ)) (Fails : Type 0)
-    → OnCut taken (Takes old new (EndsInside new) ⊎ Fails) → None ≡ entry_of taken → BringsTooLittle old ⊎ Fails
-no-entry (Whole request) old new Fails cut is = absurd (cc)
-no-entry (Fixed reply) old new Fails cut is = absurd (cc)
-no-entry NoMemory old new Fails cut is = absurd (cc)
-no-entry Cut old new Fails (inl short) is = inl (new, short)
-no-entry Cut old new Fails (inr fails) is = inr fails
+-- where there is no entry, the connection ended too early or a read failed, which was counted
+pub no-entry : (taken : Taken) (old new : Option (List ℕ)) (first last : ℕ) → first ≤ last
+    → OnCut taken (Takes old new (EndsInside new) ⊎ Rose first last) → None ≡ entry_of taken
+    → (failures : ℕ) × RoseBy failures first last × (BringsTooLittle old ⊎ (1 ≤ failures))
+no-entry (Whole request) old new first last grows cut is = absurd (cc)
+no-entry (Fixed reply) old new first last grows cut is = absurd (cc)
+no-entry NoMemory old new first last grows cut is = absurd (cc)
+no-entry Cut old new first last grows (inl short) is = (0, omega (arith, grows), inl (new, short))
+no-entry Cut old new first last grows (inr rose) is = (1, omega (arith, rose), inr (omega arith))

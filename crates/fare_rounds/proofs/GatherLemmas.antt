@@ -2,34 +2,43 @@
 use Rattle.std.proofs.Common.{◌≡◌, ◌⊎◌, inl, inr, ℕ, ◌+◌, ◌<◌, ◌≤◌, min, true, List, [], ◌∷◌, ◌++◌, length, map, Option, None, Some, refl, sym, ap, ◌∙◌, subst, arith, append_assoc, append-nil, length-append}
 use Rattle.std.specs.Prelude.{IfSome, option_to_list, is_some}
 use Rattle.std.proofs.lemmas.List.{map-append, length-map}
-use Rattle.std.proofs.lemmas.List.Elements.{All-append, All-cons, All-nil, All-weaker}
-use Rattle.fare_outside.specs.Cause.{Rose}
+use Rattle.std.proofs.lemmas.List.Elements.{All-append, All-cons, All-nil}
 use Rattle.fare_outside.specs.Door.{NoneWaits, TakesFirst, with_one_more}
 use Rattle.fare_rounds.specs.Entries.{connection_count}
-use Rattle.fare_rounds.specs.Taking.{Arrival, cut_off, held, connection_of, entries_of, cut_among, places_from, held_places}
-use Rattle.fare_rounds.specs.Taking.{IsRead, TakesEach, with_lists, Gathering, Gathers, TakesOne, none_taken}
+use Rattle.fare_rounds.specs.Taking.{Arrival, cut_off, held, connection_of, entries_of, cut_among, failed_reads, places_from, held_places}
+use Rattle.fare_rounds.specs.Taking.{IsRead, RoseBy, TakesEach, with_lists, Gathering, Gathers, TakesOne, none_taken}
 
 -- how many connections were taken
 pub each-counts : (arrivals : List Arrival) → length (entries_of arrivals) + cut_among arrivals ≡ length arrivals
 each-counts [] = refl
-each-counts (cut_off connection ∷ arrivals) = let rest = each-counts arrivals in omega (arith, rest)
+each-counts (cut_off connection failures ∷ arrivals) = let rest = each-counts arrivals in omega (arith, rest)
 each-counts (held connection entry ∷ arrivals) = let rest = each-counts arrivals in omega (arith, rest)
 
 entries_of-append : (xs ys : List Arrival) → entries_of (xs ++ ys) ≡ entries_of xs ++ entries_of ys
 entries_of-append [] ys = refl
-entries_of-append (cut_off connection ∷ xs) ys = entries_of-append xs ys
+entries_of-append (cut_off connection failures ∷ xs) ys = entries_of-append xs ys
 entries_of-append (held connection entry ∷ xs) ys = ap (λ es. entry ∷ es) (entries_of-append xs ys)
 
 cut_among-append : (xs ys : List Arrival) → cut_among (xs ++ ys) ≡ cut_among xs + cut_among ys
 cut_among-append [] ys = omega arith
-cut_among-append (cut_off connection ∷ xs) ys = let rest = cut_among-append xs ys in omega (arith, rest)
+cut_among-append (cut_off connection failures ∷ xs) ys = let rest = cut_among-append xs ys in omega (arith, rest)
 cut_among-append (held connection entry ∷ xs) ys = cut_among-append xs ys
+
+failed_reads-append : (xs ys : List Arrival) → failed_reads (xs ++ ys) ≡ failed_reads xs + failed_reads ys
+failed_reads-append [] ys = omega arith
+failed_reads-append (cut_off connection failures ∷ xs) ys = let rest = failed_reads-append xs ys in omega (arith, rest)
+failed_reads-append (held connection entry ∷ xs) ys = failed_reads-append xs ys
+
+-- a count that rose twice
+pub rose-both : (some more first second third : ℕ) → RoseBy some first second → RoseBy more second third
+    → RoseBy (some + more) first third
+rose-both some more first second third before after = omega (arith, before, after)
 
 places_from-append : (place next : ℕ) (xs ys : List Arrival) → next ≡ place + length xs
     → places_from place (xs ++ ys) ≡ places_from place xs ++ places_from next ys
 places_from-append place next [] ys is =
     let same : place ≡ next = omega (arith, is) in ap (λ n. places_from n ys) same
-places_from-append place next (cut_off connection ∷ xs) ys is =
+places_from-append place next (cut_off connection failures ∷ xs) ys is =
     places_from-append (place + 1) next xs ys (omega (arith, is))
 places_from-append place next (held connection entry ∷ xs) ys is =
     ap (λ ps. place ∷ ps) (places_from-append (place + 1) next xs ys (omega (arith, is)))
@@ -67,30 +76,10 @@ told-both (Some a) b xs ys ps qs grown first second =
     ap (λ front. front ++ qs) first ∙ ap (λ back. places_from (length a) xs ++ back) later
     ∙ sym (places_from-append (length a) _ xs ys count)
 
--- a cause that shows earlier shows later
-pub gathers-later : (F G : Type 0) (old new : Gathering) (arrivals : List Arrival) → (F → G)
-    → Gathers F old new arrivals → Gathers G old new arrivals
-gathers-later F G old new arrivals later taken = record {
-  waiting = taken.waiting;
-  sent = taken.sent;
-  places = taken.places;
-  held = taken.held;
-  each = taken.each;
-  told = taken.told;
-  read = All-weaker (IsRead F) (IsRead G) read-later arrivals taken.read;
-  entries = taken.entries;
-  cut = taken.cut;
-}
-  where
-    read-later : (arrival : Arrival) → IsRead F arrival → IsRead G arrival
-    read-later (cut_off connection) (inl short) = inl short
-    read-later (cut_off connection) (inr fails) = inr (later fails)
-    read-later (held connection entry) brought = brought
-
 -- connections taken after others
-pub gathers-both : (Fails : Type 0) (old between new : Gathering) (xs ys : List Arrival)
-    → Gathers Fails old between xs → Gathers Fails between new ys → Gathers Fails old new (xs ++ ys)
-gathers-both Fails old between new xs ys first second = record {
+pub gathers-both : (old between new : Gathering) (xs ys : List Arrival)
+    → Gathers old between xs → Gathers between new ys → Gathers old new (xs ++ ys)
+gathers-both old between new xs ys first second = record {
   waiting = subst (TakesEach old.waiting new.waiting) (sym (map-append connection_of xs ys))
       (takes-both old.waiting between.waiting new.waiting _ _ first.waiting second.waiting);
   sent = with_lists-both _ _ old.sent between.sent new.sent first.sent second.sent
@@ -102,7 +91,9 @@ gathers-both Fails old between new xs ys first second = record {
       ∙ (omega (arith, first.each, second.each, length-append (entries_of xs) (entries_of ys)))
       ∙ ap length (sym (entries_of-append xs ys));
   told = told-both old.sent between.sent xs ys first.places second.places first.sent first.told second.told;
-  read = All-append (IsRead Fails) xs ys first.read second.read;
+  read = All-append IsRead xs ys first.read second.read;
+  failed = subst (λ count. RoseBy count old.cuts new.cuts) (sym (failed_reads-append xs ys))
+      (rose-both (failed_reads xs) (failed_reads ys) old.cuts between.cuts new.cuts first.failed second.failed);
   entries = second.entries ∙ ap (λ front. front ++ entries_of ys) first.entries
       ∙ append_assoc old.row.entries (entries_of xs) (entries_of ys)
       ∙ ap (λ back. old.row.entries ++ back) (sym (entries_of-append xs ys));
@@ -110,19 +101,20 @@ gathers-both Fails old between new xs ys first second = record {
 }
 
 -- one connection was taken
-pub gathers-one : (Fails : Type 0) (old new : Gathering) (left : Option (List ℕ)) (current : Option ℕ)
+pub gathers-one : (old new : Gathering) (left : Option (List ℕ)) (current : Option ℕ)
     → TakesFirst old.waiting new.waiting left → new.sent ≡ with_one_more old.sent → is_some current ≡ true
     → IfSome old.sent (λ lists. current ≡ Some (length lists))
-    → (one : TakesOne Fails left current old.held new.held old.row new.row)
-    → Gathers Fails old new (one.arrival ∷ [])
-gathers-one Fails old new left current first sent some place one = record {
+    → (one : TakesOne left current old.held new.held old.cuts new.cuts old.row new.row)
+    → Gathers old new (one.arrival ∷ [])
+gathers-one old new left current first sent some place one = record {
   waiting = take-first old.waiting new.waiting (connection_of one.arrival) first one.connection;
   sent = sent;
   places = held_places current one.arrival;
   held = one.held;
   each = count one.arrival current some;
   told = told one.arrival old.sent place;
-  read = All-cons (IsRead Fails) one.arrival [] one.read (All-nil (IsRead Fails));
+  read = All-cons IsRead one.arrival [] one.read (All-nil IsRead);
+  failed = one.failed;
   entries = one.entries;
   cut = one.cut;
 }
@@ -136,27 +128,28 @@ gathers-one Fails old new left current first sent some place one = record {
 
     count : (arrival : Arrival) (current : Option ℕ) → is_some current ≡ true
         → length (held_places current arrival) ≡ length (entries_of (arrival ∷ []))
-    count (cut_off connection) current some = refl
+    count (cut_off connection failures) current some = refl
     count (held connection entry) None some = cc
     count (held connection entry) (Some place) some = refl
 
     told : (arrival : Arrival) (sent : Option (List (List ℕ))) → IfSome sent (λ lists. current ≡ Some (length lists))
         → IfSome sent (λ lists. held_places current arrival ≡ places_from (length lists) (arrival ∷ []))
     told arrival None place = tt
-    told (cut_off connection) (Some lists) place = refl
+    told (cut_off connection failures) (Some lists) place = refl
     told (held connection entry) (Some lists) place = ap option_to_list place
 
 -- no connection was taken yet
-pub gathers-none : (Fails : Type 0) (waiting sent : Option (List (List ℕ)))
-    → Gathers Fails (none_taken waiting sent) (none_taken waiting sent) []
-gathers-none Fails waiting sent = record {
+pub gathers-none : (waiting sent : Option (List (List ℕ))) (cuts : ℕ)
+    → Gathers (none_taken waiting sent cuts) (none_taken waiting sent cuts) []
+gathers-none waiting sent cuts = record {
   waiting = take-none waiting;
   sent = same sent;
   places = [];
   held = refl;
   each = refl;
   told = nowhere sent;
-  read = All-nil (IsRead Fails);
+  read = All-nil IsRead;
+  failed = omega arith;
   entries = refl;
   cut = refl;
 }
@@ -173,32 +166,18 @@ gathers-none Fails waiting sent = record {
     nowhere None = tt
     nowhere (Some lists) = refl
 
--- a count that rose within a longer time rose in it
-pub rose-within : (first second third fourth : ℕ) → first ≤ second → third ≤ fourth → Rose second third
-    → Rose first fourth
-rose-within first second third fourth before after rose = omega (arith, before, after, rose)
-
 -- one connection more was taken
-pub gathers-next : (waiting sent : Option (List (List ℕ))) (between new : Gathering) (first second third : ℕ)
-    → first ≤ second → second ≤ third
-    → (arrivals : List Arrival) × Gathers (Rose first second) (none_taken waiting sent) between arrivals
-    → (arrival : Arrival) × Gathers (Rose second third) between new (arrival ∷ [])
-    → (arrivals : List Arrival) × Gathers (Rose first third) (none_taken waiting sent) new arrivals
-gathers-next waiting sent between new first second third before after taken one =
-    let old = none_taken waiting sent in (
-      taken.0 ++ one.0 ∷ [],
-      gathers-both (Rose first third) old between new taken.0 (one.0 ∷ [])
-          (gathers-later (Rose first second) (Rose first third) old between taken.0
-          (λ rose. rose-within first first second third (omega arith) after rose) taken.1)
-          (gathers-later (Rose second third) (Rose first third) between new (one.0 ∷ [])
-          (λ rose. rose-within first second third third before (omega arith) rose) one.1),
-    )
+pub gathers-next : (waiting sent : Option (List (List ℕ))) (cuts : ℕ) (between new : Gathering)
+    → (arrivals : List Arrival) × Gathers (none_taken waiting sent cuts) between arrivals
+    → (arrival : Arrival) × Gathers between new (arrival ∷ [])
+    → (arrivals : List Arrival) × Gathers (none_taken waiting sent cuts) new arrivals
+gathers-next waiting sent cuts between new taken one =
+    (taken.0 ++ one.0 ∷ [], gathers-both (none_taken waiting sent cuts) between new taken.0 (one.0 ∷ []) taken.1 one.1)
 
 -- it counts
-pub counts-next : (Fails : Type 0) (between new : Gathering)
-    → (arrival : Arrival) × Gathers Fails between new (arrival ∷ [])
+pub counts-next : (between new : Gathering) → (arrival : Arrival) × Gathers between new (arrival ∷ [])
     → connection_count new.row ≡ connection_count between.row + 1
-counts-next Fails between new one =
+counts-next between new one =
     omega (
       arith,
       one.1.cut,
@@ -208,9 +187,9 @@ counts-next Fails between new one =
     )
 
 -- the count is that of the connections taken
-pub counts-all : (Fails : Type 0) (waiting sent : Option (List (List ℕ))) (new : Gathering) (arrivals : List Arrival)
-    → Gathers Fails (none_taken waiting sent) new arrivals → connection_count new.row ≡ length arrivals
-counts-all Fails waiting sent new arrivals taken =
+pub counts-all : (waiting sent : Option (List (List ℕ))) (cuts : ℕ) (new : Gathering) (arrivals : List Arrival)
+    → Gathers (none_taken waiting sent cuts) new arrivals → connection_count new.row ≡ length arrivals
+counts-all waiting sent cuts new arrivals taken =
     omega (arith, taken.cut, ap length taken.entries, each-counts arrivals)
 
 -- all that waited were taken, or as many as may be
@@ -224,14 +203,14 @@ all-waiting (Some old) (Some new) connections most takes few (inl none) =
 all-waiting (Some old) (Some new) connections most takes few (inr full) =
     omega (arith, full, ap length takes.1, length-append takes.0 new, ap length takes.2, length-map takes.0 (λ (bytes : List ℕ). Some bytes))
 
-pub all-taken : (Fails : Type 0) (waiting sent : Option (List (List ℕ))) (new : Gathering) (most : ℕ)
-    → (arrivals : List Arrival) × Gathers Fails (none_taken waiting sent) new arrivals
+pub all-taken : (waiting sent : Option (List (List ℕ))) (cuts : ℕ) (new : Gathering) (most : ℕ)
+    → (arrivals : List Arrival) × Gathers (none_taken waiting sent cuts) new arrivals
     → connection_count new.row ≤ most → NoneWaits new.waiting ⊎ (connection_count new.row ≡ most)
     → IfSome waiting (λ lists. connection_count new.row ≡ min most (length lists))
-all-taken Fails waiting sent new most taken few why =
+all-taken waiting sent cuts new most taken few why =
     let connections = map connection_of taken.0 in
     let count : connection_count new.row ≡ length connections =
-    counts-all Fails waiting sent new taken.0 taken.1 ∙ sym (length-map taken.0 connection_of) in
+    counts-all waiting sent cuts new taken.0 taken.1 ∙ sym (length-map taken.0 connection_of) in
     rw count (all-waiting waiting new.waiting connections most taken.1.waiting (rw count at few) (rw count at why))
 
 -- where a further connection is taken only of those that are told to wait, none waited if none comes
@@ -249,12 +228,12 @@ none-before old (Some new) [] takes asked none =
 none-before old (Some new) (connection ∷ connections) takes asked none =
     let never : Some new ≡ None = asked (omega arith) in absurd (cc)
 
-pub none-waited : (Fails : Type 0) (waiting sent : Option (List (List ℕ))) (new : Gathering)
-    → (arrivals : List Arrival) × Gathers Fails (none_taken waiting sent) new arrivals
+pub none-waited : (waiting sent : Option (List (List ℕ))) (cuts : ℕ) (new : Gathering)
+    → (arrivals : List Arrival) × Gathers (none_taken waiting sent cuts) new arrivals
     → (0 < connection_count new.row → new.waiting ≡ None) → NoneWaits new.waiting
     → IfSome waiting (λ lists. lists ≡ [])
-none-waited Fails None sent new taken asked none = tt
-none-waited Fails (Some old) sent new taken asked none =
+none-waited None sent cuts new taken asked none = tt
+none-waited (Some old) sent cuts new taken asked none =
     let count : connection_count new.row ≡ length (map connection_of taken.0) =
-    counts-all Fails (Some old) sent new taken.0 taken.1 ∙ sym (length-map taken.0 connection_of) in
+    counts-all (Some old) sent cuts new taken.0 taken.1 ∙ sym (length-map taken.0 connection_of) in
     none-before old new.waiting (map connection_of taken.0) taken.1.waiting (λ some. asked (omega (arith, count, some))) none

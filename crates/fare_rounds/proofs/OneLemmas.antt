@@ -1,12 +1,14 @@
 -- A round of one connection.
-use Rattle.std.proofs.Common.{◌≡◌, ℕ, Bool, true, false, List, Option, [], ◌∷◌, sym, subst}
+use Rattle.std.proofs.Common.{◌≡◌, ◌≤◌, ℕ, Bool, true, false, List, Option, [], ◌∷◌, sym, subst, arith}
 use Rattle.std.specs.Prelude.{MatchBool}
 use Rattle.fare_http.specs.declared.reply.Reply.{Reply}
 use Rattle.fare_http.specs.declared.sending.Exchange.{Exchange}
 use Rattle.fare_http.specs.declared.sending.Exchange.TheVariants.{Served, Cut}
 use Rattle.fare_http.specs.Serving.{Exchanges, IsServed, whole, fixed, wanting, ended, unread, unsent}
+use Rattle.fare_outside.specs.Cause.{Rose}
 use Rattle.fare_rounds.specs.Entries.{is_publication}
-use Rattle.fare_rounds.specs.Rounds.{Exchanged, IsRound, RoundStep}
+use Rattle.fare_rounds.specs.Rounds.{Exchanged, IsRound, RoundStep, failures_of}
+use Rattle.fare_rounds.specs.Taking.{RoseBy}
 
 module _ {H : Type 0} (step : H → List ℕ → List ℕ → List ℕ → Option Reply → H → Type 0) where
   -- at its start a step of a round is one of the handler
@@ -35,11 +37,22 @@ module _ {H : Type 0} (step : H → List ℕ → List ℕ → List ℕ → Optio
   first-exchange Fails Cut connection old new sent (unsent answer fails served front) =
       unsent answer fails (first-served connection old new answer served) front
 
-  -- it is the exchange on that connection
-  pub one-exchange : (Fails : Type 0) (old new : H) (exchanged : Exchanged)
-      → IsRound step Fails old old (exchanged ∷ []) new
-      → Exchanges step exchanged.ending exchanged.connection old exchanged.sent new Fails
-  one-exchange Fails old new exchanged round =
-      subst (λ handler. Exchanges step exchanged.ending exchanged.connection old exchanged.sent handler Fails)
+  -- a cause that shows another
+  exchange-later : (F G : Type 0) → (F → G) → (ending : Exchange) (connection : Option (List ℕ)) (old new : H)
+      (sent : List ℕ) → Exchanges step ending connection old sent new F → Exchanges step ending connection old sent new G
+  exchange-later F G later Served connection old new sent served = served
+  exchange-later F G later Cut connection old new sent (ended short none stays) = ended short none stays
+  exchange-later F G later Cut connection old new sent (unread fails none stays) = unread (later fails) none stays
+  exchange-later F G later Cut connection old new sent (unsent answer fails served front) =
+      unsent answer (later fails) served front
+
+  -- it is the exchange on that connection, whose failures are among those that were counted
+  pub one-exchange : (first last : ℕ) (old new : H) (exchanged : Exchanged)
+      → IsRound step old old (exchanged ∷ []) new → RoseBy (failures_of (exchanged ∷ [])) first last
+      → Exchanges step exchanged.ending exchanged.connection old exchanged.sent new (Rose first last)
+  one-exchange first last old new exchanged round rose =
+      subst (λ handler. Exchanges step exchanged.ending exchanged.connection old exchanged.sent handler (Rose first last))
       (sym round.2)
-      (first-exchange Fails exchanged.ending exchanged.connection old round.0 exchanged.sent round.1)
+      (exchange-later (1 ≤ exchanged.failures) (Rose first last) (λ some. omega (arith, some, rose)) exchanged.ending
+      exchanged.connection old round.0 exchanged.sent
+      (first-exchange (1 ≤ exchanged.failures) exchanged.ending exchanged.connection old round.0 exchanged.sent round.1))

@@ -1,5 +1,5 @@
 -- The connections that were taken and the answers that were sent make a round.
-use Rattle.std.proofs.Common.{◌≡◌, ◌⊎◌, inl, inr, ℕ, ◌+◌, Bool, true, false, List, [], ◌∷◌, ◌++◌, length, map, Option, None, Some, refl, sym, ap, ◌∙◌, subst, arith, append_assoc, length-append}
+use Rattle.std.proofs.Common.{◌≡◌, ◌⊎◌, ◌≤◌, inl, inr, ℕ, ◌+◌, Bool, true, false, List, [], ◌∷◌, ◌++◌, length, map, Option, None, Some, refl, sym, ap, ◌∙◌, subst, arith, append_assoc, length-append}
 use Rattle.std.specs.Prelude.{All, IfSome, MatchBool, option_map}
 use Rattle.std.specs.List.{AllZip}
 use Rattle.std.proofs.lemmas.List.{length-map}
@@ -13,19 +13,20 @@ use Rattle.fare_http.specs.Answers.{answer_bytes}
 use Rattle.fare_http.specs.Serving.{BringsTooLittle, Exchanges, IsServed, whole, fixed, wanting, ended, unread, unsent}
 use Rattle.fare_rounds.specs.declared.entry.Entry.{Entry}
 use Rattle.fare_rounds.specs.Entries.{HasReply, IsBrought, IsViewed, Row, ViewsRound, connection_count, is_publication}
-use Rattle.fare_rounds.specs.Finishing.{Answered, InTurn, IsReplied, IsSent, SentAs, sent_each, served_count, cut_count}
+use Rattle.fare_rounds.specs.Finishing.{Answered, InTurn, IsReplied, IsSent, SentAs, failed_writes, sent_each, served_count, cut_count}
 use Rattle.fare_rounds.proofs.AnswerLemmas.{counts-each}
-use Rattle.fare_rounds.specs.Rounds.{Exchanged, IsRound, RoundStep}
-use Rattle.fare_rounds.specs.Taking.{Arrival, cut_off, held, connection_of, entries_of, cut_among, places_from, IsRead, with_lists}
+use Rattle.fare_rounds.specs.Rounds.{Exchanged, IsRound, RoundStep, failures_of}
+use Rattle.fare_rounds.specs.Taking.{Arrival, cut_off, held, connection_of, entries_of, cut_among, failed_reads, places_from, IsRead, with_lists}
 
 -- each connection that was taken with its exchange: nothing was sent where it was cut off, and else its answer
 pub merged : List Arrival → List Answered → List Exchanged
 merged [] answered = []
-merged (cut_off connection ∷ arrivals) answered =
-    record { connection = connection; ending = Cut; sent = [] } ∷ merged arrivals answered
+merged (cut_off connection failures ∷ arrivals) answered =
+    record { connection = connection; ending = Cut; sent = []; failures = failures } ∷ merged arrivals answered
 merged (held connection entry ∷ arrivals) [] = []
 merged (held connection entry ∷ arrivals) (answer ∷ answered) =
-    record { connection = connection; ending = answer.ending; sent = answer.sent } ∷ merged arrivals answered
+    record { connection = connection; ending = answer.ending; sent = answer.sent; failures = answer.failures }
+    ∷ merged arrivals answered
 
 -- they are the connections that were taken
 pub merged-connections : (arrivals : List Arrival) (answered : List Answered)
@@ -33,7 +34,7 @@ pub merged-connections : (arrivals : List Arrival) (answered : List Answered)
     → map (λ exchanged. exchanged.connection) (merged arrivals answered) ≡ map connection_of arrivals
 unfolding merged
 merged-connections [] answered same = refl
-merged-connections (cut_off connection ∷ arrivals) answered same =
+merged-connections (cut_off connection failures ∷ arrivals) answered same =
     ap (λ all. connection ∷ all) (merged-connections arrivals answered same)
 merged-connections (held connection entry ∷ arrivals) [] same = absurd (omega (arith, same))
 merged-connections (held connection entry ∷ arrivals) (answer ∷ answered) same =
@@ -47,7 +48,7 @@ pub merged-served : (arrivals : List Arrival) (answered : List Answered)
 unfolding merged
 merged-served [] [] same = refl
 merged-served [] (answer ∷ answered) same = absurd (omega (arith, same))
-merged-served (cut_off connection ∷ arrivals) answered same = merged-served arrivals answered same
+merged-served (cut_off connection failures ∷ arrivals) answered same = merged-served arrivals answered same
 merged-served (held connection entry ∷ arrivals) [] same = absurd (omega (arith, same))
 merged-served (held connection entry ∷ arrivals) (answer ∷ answered) same =
     by-ending answer.ending _ _ (merged-served arrivals answered (omega (arith, same)))
@@ -65,7 +66,7 @@ pub merged-cut : (arrivals : List Arrival) (answered : List Answered)
 unfolding merged
 merged-cut [] [] same = refl
 merged-cut [] (answer ∷ answered) same = absurd (omega (arith, same))
-merged-cut (cut_off connection ∷ arrivals) answered same =
+merged-cut (cut_off connection failures ∷ arrivals) answered same =
     let rest = merged-cut arrivals answered same in omega (arith, rest)
 merged-cut (held connection entry ∷ arrivals) [] same = absurd (omega (arith, same))
 merged-cut (held connection entry ∷ arrivals) (answer ∷ answered) same =
@@ -75,6 +76,19 @@ merged-cut (held connection entry ∷ arrivals) (answer ∷ answered) same =
         → cut_count (ending ∷ xs) ≡ cut + cut_count (ending ∷ ys)
     by-ending Served xs ys cut same = same
     by-ending Cut xs ys cut same = omega (arith, same)
+
+-- and so do their failures
+pub merged-failures : (arrivals : List Arrival) (answered : List Answered)
+    → length (entries_of arrivals) ≡ length answered
+    → failures_of (merged arrivals answered) ≡ failed_reads arrivals + failed_writes answered
+unfolding merged
+merged-failures [] [] same = refl
+merged-failures [] (answer ∷ answered) same = absurd (omega (arith, same))
+merged-failures (cut_off connection failures ∷ arrivals) answered same =
+    let rest = merged-failures arrivals answered same in omega (arith, rest)
+merged-failures (held connection entry ∷ arrivals) [] same = absurd (omega (arith, same))
+merged-failures (held connection entry ∷ arrivals) (answer ∷ answered) same =
+    let rest = merged-failures arrivals answered (omega (arith, same)) in omega (arith, rest)
 
 -- what was sent on the connection behind others on which nothing more is sent
 sent-behind : (before after : List (List ℕ)) (bytes : List ℕ)
@@ -89,7 +103,7 @@ sent-in-place : (before : List (List ℕ)) (place : ℕ) (arrivals : List Arriva
     ≡ before ++ map (λ exchanged. exchanged.sent) (merged arrivals answered)
 unfolding merged
 sent-in-place before place [] answered is same = refl
-sent-in-place before place (cut_off connection ∷ arrivals) answered is same =
+sent-in-place before place (cut_off connection failures ∷ arrivals) answered is same =
     let next : place + 1 ≡ length (before ++ [] ∷ []) = omega (arith, is, length-append before ([] ∷ [])) in
     ap (sent_each (places_from (place + 1) arrivals) (map (λ (a : Answered). a.sent) answered))
     (sym (append_assoc before ([] ∷ []) (map (λ (a : Arrival). []) arrivals)))
@@ -164,51 +178,51 @@ module _ {H : Type 0} (step : H → List ℕ → List ℕ → List ℕ → Optio
       refl
 
   -- an answer that was sent ends the exchange
-  exchange-ended : (Fails : Type 0) (start old new : H) (connection : Option (List ℕ)) (ending : Exchange)
+  exchange-ended : (failures : ℕ) (start old new : H) (connection : Option (List ℕ)) (ending : Exchange)
       (answer sent : List ℕ) → IsServed (RoundStep step start) connection old answer new
-      → SentAs Fails ending answer sent
-      → Exchanges (RoundStep step start) ending connection old sent new Fails
-  exchange-ended Fails start old new connection Served answer sent served is =
+      → SentAs failures ending answer sent
+      → Exchanges (RoundStep step start) ending connection old sent new (1 ≤ failures)
+  exchange-ended failures start old new connection Served answer sent served is =
       subst (λ bytes. IsServed (RoundStep step start) connection old bytes new) (sym is) served
-  exchange-ended Fails start old new connection Cut answer sent served part = unsent answer part.0 served part.1
+  exchange-ended failures start old new connection Cut answer sent served part = unsent answer part.0 served part.1
 
   -- the exchanges make a round
-  pub round-served : Shows → (Fails : Type 0) (start old new : H) (arrivals : List Arrival) (viewed : List Entry)
-      (answered : List Answered) → All (IsRead Fails) arrivals
+  pub round-served : Shows → (start old new : H) (arrivals : List Arrival) (viewed : List Entry)
+      (answered : List Answered) → All IsRead arrivals
       → AllZip (IsViewed (replies start)) (entries_of arrivals) viewed
-      → InTurn step viewed old (map (λ answer. answer.reply) answered) new → All (IsSent Fails) answered
-      → IsRound step Fails start old (merged arrivals answered) new
+      → InTurn step viewed old (map (λ answer. answer.reply) answered) new → All IsSent answered
+      → IsRound step start old (merged arrivals answered) new
   unfolding merged
-  round-served shows Fails start old new [] [] [] read views turn sent = turn
-  round-served shows Fails start old new [] [] (answer ∷ answered) read views turn sent = absurd turn
-  round-served shows Fails start old new [] (entry ∷ viewed) answered read views turn sent = absurd views
-  round-served shows Fails start old new (cut_off connection ∷ arrivals) viewed answered read views turn sent = (
+  round-served shows start old new [] [] [] read views turn sent = turn
+  round-served shows start old new [] [] (answer ∷ answered) read views turn sent = absurd turn
+  round-served shows start old new [] (entry ∷ viewed) answered read views turn sent = absurd views
+  round-served shows start old new (cut_off connection failures ∷ arrivals) viewed answered read views turn sent = (
     old,
-    cut-short (All-head (IsRead Fails) (cut_off connection) arrivals read),
-    round-served shows Fails start old new arrivals viewed answered
-        (All-tail (IsRead Fails) (cut_off connection) arrivals read) views turn sent,
+    cut-short (All-head IsRead (cut_off connection failures) arrivals read),
+    round-served shows start old new arrivals viewed answered
+        (All-tail IsRead (cut_off connection failures) arrivals read) views turn sent,
   )
     where
-      cut-short : BringsTooLittle connection ⊎ Fails
-          → Exchanges (RoundStep step start) Cut connection old [] old Fails
+      cut-short : BringsTooLittle connection ⊎ (1 ≤ failures)
+          → Exchanges (RoundStep step start) Cut connection old [] old (1 ≤ failures)
       cut-short (inl short) = ended short refl refl
       cut-short (inr fails) = unread fails refl refl
-  round-served shows Fails start old new (held connection entry ∷ arrivals) [] answered read views turn sent = absurd views
-  round-served shows Fails start old new (held connection entry ∷ arrivals) (view ∷ viewed) [] read views turn sent =
+  round-served shows start old new (held connection entry ∷ arrivals) [] answered read views turn sent = absurd views
+  round-served shows start old new (held connection entry ∷ arrivals) (view ∷ viewed) [] read views turn sent =
       absurd turn
-  round-served shows Fails start old new (held connection entry ∷ arrivals) (view ∷ viewed) (answer ∷ answered) read views
+  round-served shows start old new (held connection entry ∷ arrivals) (view ∷ viewed) (answer ∷ answered) read views
       turn sent =
       let between = turn.0 in
-      let brought = All-head (IsRead Fails) (held connection entry) arrivals read in
+      let brought = All-head IsRead (held connection entry) arrivals read in
       let replied = subst (λ request. IsReplied step request view.reply old answer.reply between) views.0.0 turn.1 in
       let served = entry-served shows start old between connection entry.request entry.reply view.reply answer.reply
       brought views.0.1 replied in (
         between,
-        exchange-ended Fails start old between connection answer.ending (answer_bytes answer.reply) answer.sent served
-            (All-head (IsSent Fails) answer answered sent),
-        round-served shows Fails start between new arrivals viewed answered
-            (All-tail (IsRead Fails) (held connection entry) arrivals read) views.1 turn.2
-            (All-tail (IsSent Fails) answer answered sent),
+        exchange-ended answer.failures start old between connection answer.ending (answer_bytes answer.reply) answer.sent served
+            (All-head IsSent answer answered sent),
+        round-served shows start between new arrivals viewed answered
+            (All-tail IsRead (held connection entry) arrivals read) views.1 turn.2
+            (All-tail IsSent answer answered sent),
       )
 
   -- each connection that was taken is counted once

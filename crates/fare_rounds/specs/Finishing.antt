@@ -1,5 +1,5 @@
 -- How the connections that a round holds are answered.
-use Rattle.std.specs.Prelude.{◌≡◌, ℕ, ◌+◌, List, [], ◌∷◌, Option, None, Some, All, MatchBool, map, option_map}
+use Rattle.std.specs.Prelude.{◌≡◌, ℕ, ◌+◌, ◌≤◌, List, [], ◌∷◌, Option, None, Some, All, MatchBool, map, option_map}
 use Rattle.fare_http.specs.declared.reply.Reply.{Reply}
 use Rattle.fare_http.specs.declared.request.Request.{Request}
 use Rattle.fare_http.specs.declared.sending.Exchange.{Exchange}
@@ -9,12 +9,20 @@ use Rattle.fare_http.specs.Serving.{IsFrontOf}
 use Rattle.fare_outside.specs.Door.{with_more_at}
 use Rattle.fare_rounds.specs.declared.entry.Entry.{Entry}
 use Rattle.fare_rounds.specs.Entries.{is_publication}
+use Rattle.fare_rounds.specs.Taking.{RoseBy}
 
--- an answer: the reply, none being want of memory, how its exchange ended, and the bytes sent
+-- an answer: the reply, none being want of memory, how its exchange ended, the bytes sent, and how many of its writes
+-- failed
 pub record Answered : Type 0 where
   pub reply : Option Reply
   pub ending : Exchange
   pub sent : List ℕ
+  pub failures : ℕ
+
+-- how many writes failed
+abbrev pub failed_writes : List Answered → ℕ
+failed_writes [] = 0
+failed_writes (answer ∷ answered) = answer.failures + failed_writes answered
 
 -- how many exchanges were served
 abbrev pub served_count : List Exchange → ℕ
@@ -29,13 +37,13 @@ cut_count (Served ∷ endings) = cut_count endings
 cut_count (Cut ∷ endings) = cut_count endings + 1
 
 -- these bytes of an answer were sent: all of them, or some first ones where a write failed
-abbrev pub SentAs : Type 0 → Exchange → List ℕ → List ℕ → Type 0
-SentAs Fails Served answer sent = sent ≡ answer
-SentAs Fails Cut answer sent = Fails × IsFrontOf answer sent
+abbrev pub SentAs : ℕ → Exchange → List ℕ → List ℕ → Type 0
+SentAs failures Served answer sent = sent ≡ answer
+SentAs failures Cut answer sent = (1 ≤ failures) × IsFrontOf answer sent
 
 -- an answer was sent
-abbrev pub IsSent : Type 0 → Answered → Type 0
-IsSent Fails answered = SentAs Fails answered.ending (answer_bytes answered.reply) answered.sent
+abbrev pub IsSent : Answered → Type 0
+IsSent answered = SentAs answered.failures answered.ending (answer_bytes answered.reply) answered.sent
 
 -- what was sent, with each of these pieces more on the connection of its place
 abbrev pub sent_each : List ℕ → List (List ℕ) → List (List ℕ) → List (List ℕ)
@@ -43,10 +51,11 @@ sent_each [] pieces lists = lists
 sent_each (place ∷ places) [] lists = lists
 sent_each (place ∷ places) (piece ∷ pieces) lists = sent_each places pieces (with_more_at (Some place) piece lists)
 
--- these answers were sent, each on the connection of its place, in order
-pub record Answers (Fails : Type 0) (places : List ℕ) (old new : Option (List (List ℕ))) (answered : List Answered)
+-- these answers were sent, each on the connection of its place, in order; each failed write was counted
+pub record Answers (places : List ℕ) (old new : Option (List (List ℕ))) (before after : ℕ) (answered : List Answered)
     : Type 0 where
-  pub each : All (IsSent Fails) answered
+  pub each : All IsSent answered
+  pub failed : RoseBy (failed_writes answered) before after
   pub sent : new ≡ option_map (sent_each places (map (λ answer. answer.sent) answered)) old
 
 module _ {H : Type 0} (step : H → List ℕ → List ℕ → List ℕ → Option Reply → H → Type 0) where

@@ -1,5 +1,4 @@
 ghost use Rattle.std.specs.Prelude.{◌≡◌, ◌≤◌, ◌+◌, [], List, None, length, map};
-ghost use Rattle.fare_outside.specs.Cause.{Rose};
 ghost use Rattle.fare_rounds.specs.Finishing.{Answered, Answers, InTurn, cut_count, served_count};
 
 use crate::{Counts, Entry, Round};
@@ -22,13 +21,13 @@ impl Round {
         requires { length (D.held door.old) ≡ length self.entries }
         ensures answered { (answered : List Answered)
             × InTurn H.step self.entries handler.old (map (λ answer. answer.reply) answered) handler.new
-            × Answers (Rose (D.cuts door.old) (D.cuts door.new)) (D.held door.old) (D.sent door.old) (D.sent door.new)
-            answered
+            × Answers (D.held door.old) (D.sent door.old) (D.sent door.new) (D.cuts door.old) (D.cuts door.new) answered
             × (result.served ≡ served_count (map (λ answer. answer.ending) answered))
             × (result.cut ≡ self.cut + cut_count (map (λ answer. answer.ending) answered)) }
         ensures none_held { D.held door.new ≡ [] }
         ensures none_current { D.current door.old ≡ None → D.current door.new ≡ None }
         ensures waiting { D.waiting door.new ≡ D.waiting door.old }
+        ensures port { D.listens_at door.new ≡ D.listens_at door.old }
         ensures faults { D.faults door.new ≡ D.faults door.old }
         ensures never_falls { D.cuts door.old ≤ D.cuts door.new }
     {
@@ -57,13 +56,13 @@ fn send_each<D: Door>(door: &mut D, entries: &[Entry], cut: u32) -> Counts
     requires few { length entries.now + cut ≤ 8 }
     ensures answered { (answered : List Answered)
         × (map (λ answer. answer.reply) answered ≡ map (λ entry. entry.reply) entries.now)
-        × Answers (Rose (D.cuts door.old) (D.cuts door.new)) (D.held door.old) (D.sent door.old) (D.sent door.new)
-        answered
+        × Answers (D.held door.old) (D.sent door.old) (D.sent door.new) (D.cuts door.old) (D.cuts door.new) answered
         × (result.served ≡ served_count (map (λ answer. answer.ending) answered))
         × (result.cut ≡ cut + cut_count (map (λ answer. answer.ending) answered)) }
     ensures none_held { D.held door.new ≡ [] }
     ensures none_current { D.current door.old ≡ None → D.current door.new ≡ None }
     ensures waiting { D.waiting door.new ≡ D.waiting door.old }
+    ensures port { D.listens_at door.new ≡ D.listens_at door.old }
     ensures faults { D.faults door.new ≡ D.faults door.old }
     ensures never_falls { D.cuts door.old ≤ D.cuts door.new }
 {

@@ -2,8 +2,8 @@ ghost use Rattle.std.specs.Prelude.{◌≡◌, ◌≢◌, ◌≤◌, ◌+◌, []
 ghost use Rattle.fare_outside.specs.Cause.{Rose};
 ghost use Rattle.fare_outside.specs.Door.{NoneWaits};
 ghost use Rattle.fare_rounds.specs.Finishing.{cut_count, served_count};
-ghost use Rattle.fare_rounds.specs.Rounds.{Exchanged, IsRound};
-ghost use Rattle.fare_rounds.specs.Taking.{TakesEach, with_lists};
+ghost use Rattle.fare_rounds.specs.Rounds.{Exchanged, IsRound, failures_of};
+ghost use Rattle.fare_rounds.specs.Taking.{RoseBy, TakesEach, with_lists};
 
 use crate::{Counts, DoorEnd, Round, take_round};
 use fare_http::Handler;
@@ -33,7 +33,8 @@ pub trait RoundHandler: Handler {
 }
 
 /// Serves one round of at most `most` connections, and says how the door ended it and how many exchanges ended in which
-/// way. The connections taken before `NoMore` or `Failed` are served.
+/// way. The connections taken before `NoMore` or `Failed` are served. A failed read or write cuts off its own exchange
+/// alone, and is counted by the door.
 pub fn serve_round<R: Threads + Sync, D: Door, H: RoundHandler>(
     rt: &R,
     alloc: Global,
@@ -45,7 +46,8 @@ pub fn serve_round<R: Threads + Sync, D: Door, H: RoundHandler>(
     requires few { most ≤ 8 }
     requires none_held { D.held door.old ≡ [] }
     ensures round { (round : List Exchanged)
-        × IsRound H.step (Rose (D.cuts door.old) (D.cuts door.new)) handler.old handler.old round handler.new
+        × IsRound H.step handler.old handler.old round handler.new
+        × RoseBy (failures_of round) (D.cuts door.old) (D.cuts door.new)
         × TakesEach (D.waiting door.old) (D.waiting door.new) (map (λ exchanged. exchanged.connection) round)
         × (D.sent door.new ≡ with_lists (map (λ exchanged. exchanged.sent) round) (D.sent door.old))
         × (result.1.served ≡ served_count (map (λ exchanged. exchanged.ending) round))
@@ -60,6 +62,7 @@ pub fn serve_round<R: Threads + Sync, D: Door, H: RoundHandler>(
     ensures none_held { D.held door.new ≡ [] }
     ensures none_current { D.current door.new ≡ None }
     ensures never_falls { D.cuts door.old ≤ D.cuts door.new }
+    ensures port { D.listens_at door.new ≡ D.listens_at door.old }
     ensures faults { D.faults door.old ≤ D.faults door.new }
 {
     let (mut round, end) = take_round(alloc, door, most);

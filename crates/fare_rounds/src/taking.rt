@@ -3,7 +3,7 @@ ghost use Rattle.std.specs.Prelude.{IfErr, IfSome, IsSome, OnErr, OnOk};
 ghost use Rattle.fare_outside.specs.Cause.{Rose};
 ghost use Rattle.fare_outside.specs.Door.{NoneWaits};
 ghost use Rattle.fare_rounds.specs.Entries.{connection_count};
-ghost use Rattle.fare_rounds.specs.Taking.{Arrival, Gathers, TakesNone, TakesOne, none_taken};
+ghost use Rattle.fare_rounds.specs.Taking.{Arrival, Gathers, TakesNone, TakesOne, gathering, none_taken};
 
 use crate::{DoorEnd, Entry, Round};
 use fare_http::read_request;
@@ -20,8 +20,8 @@ pub fn take_round<D: Door>(alloc: Global, door: &mut D, most: u32) -> (Round, Do
     requires few { most ≤ 8 }
     requires none_held { D.held door.old ≡ [] }
     ensures taken { (arrivals : List Arrival)
-        × Gathers (Rose (D.cuts door.old) (D.cuts door.new)) (none_taken (D.waiting door.old) (D.sent door.old))
-        (record { waiting = D.waiting door.new; sent = D.sent door.new; held = D.held door.new; row = result.0 })
+        × Gathers (none_taken (D.waiting door.old) (D.sent door.old) (D.cuts door.old))
+        (gathering (D.waiting door.new) (D.sent door.new) (D.held door.new) (D.cuts door.new) result.0)
         arrivals }
     ensures most { connection_count result.0 ≤ most }
     ensures open { result.1 ≡ DoorEnd.Open → 1 ≤ connection_count result.0 }
@@ -32,6 +32,7 @@ pub fn take_round<D: Door>(alloc: Global, door: &mut D, most: u32) -> (Round, Do
         IfSome (D.waiting door.old) (λ lists. connection_count result.0 ≡ min most (length lists)) }
     ensures none_current { D.current door.new ≡ None }
     ensures never_falls { D.cuts door.old ≤ D.cuts door.new }
+    ensures port { D.listens_at door.new ≡ D.listens_at door.old }
     ensures faults { D.faults door.old ≤ D.faults door.new }
 {
     let mut round = Round::new();
@@ -53,13 +54,13 @@ fn take_next<D: Door>(
     requires room { connection_count round.old < 8 }
     requires held { length (D.held door.old) < 8 }
     ensures taken { OnOk result ((arrival : Arrival)
-        × Gathers (Rose (D.cuts door.old) (D.cuts door.new))
-        (record { waiting = D.waiting door.old; sent = D.sent door.old; held = D.held door.old; row = round.old })
-        (record { waiting = D.waiting door.new; sent = D.sent door.new; held = D.held door.new; row = round.new })
+        × Gathers
+        (gathering (D.waiting door.old) (D.sent door.old) (D.held door.old) (D.cuts door.old) round.old)
+        (gathering (D.waiting door.new) (D.sent door.new) (D.held door.new) (D.cuts door.new) round.new)
         (arrival ∷ [])) }
     ensures ended { OnErr result (TakesNone
-        (record { waiting = D.waiting door.old; sent = D.sent door.old; held = D.held door.old; row = round.old })
-        (record { waiting = D.waiting door.new; sent = D.sent door.new; held = D.held door.new; row = round.new })) }
+        (gathering (D.waiting door.old) (D.sent door.old) (D.held door.old) (D.cuts door.old) round.old)
+        (gathering (D.waiting door.new) (D.sent door.new) (D.held door.new) (D.cuts door.new) round.new)) }
     ensures further { result ≡ Err DoorEnd.Open → is_first ≡ false }
     ensures asked { result ≡ Err DoorEnd.NoMore → is_first ≡ false → D.waiting door.old ≡ None }
     ensures none_waits { IfErr result (λ end. end ≢ DoorEnd.Failed → NoneWaits (D.waiting door.new)) }
@@ -67,6 +68,7 @@ fn take_next<D: Door>(
     ensures current { result ≡ Err DoorEnd.Open → D.current door.new ≡ D.current door.old }
     ensures none_current { result ≢ Err DoorEnd.Open → D.current door.new ≡ None }
     ensures never_falls { D.cuts door.old ≤ D.cuts door.new }
+    ensures port { D.listens_at door.new ≡ D.listens_at door.old }
     ensures faults { D.faults door.old ≤ D.faults door.new }
 {
     if !is_first && !door.more() {
@@ -88,12 +90,13 @@ impl Round {
         requires current { IsSome (D.current door.old) }
         requires room { connection_count self.old < 8 }
         requires held { length (D.held door.old) < 8 }
-        ensures taken { TakesOne (Rose (D.cuts door.old) (D.cuts door.new)) (D.left door.old) (D.current door.old)
-            (D.held door.old) (D.held door.new) self.old self.new }
+        ensures taken { TakesOne (D.left door.old) (D.current door.old) (D.held door.old) (D.held door.new)
+            (D.cuts door.old) (D.cuts door.new) self.old self.new }
         ensures none_current { D.current door.new ≡ None }
         ensures never_falls { D.cuts door.old ≤ D.cuts door.new }
         ensures sent { D.sent door.new ≡ D.sent door.old }
         ensures waiting { D.waiting door.new ≡ D.waiting door.old }
+        ensures port { D.listens_at door.new ≡ D.listens_at door.old }
         ensures faults { D.faults door.new ≡ D.faults door.old }
     {
         match Entry::of(read_request(alloc, door)) {

@@ -19,13 +19,13 @@ some-held false places some none = absurd (omega (arith, some, ap length none))
 
 pub add-requires-clause-served : goal.add-requires-clause-served
 add-requires-clause-served g c =
-    let counts = answering-counts _ _ _ _ _ _ _ _ _ c.entries.invariant.done in
+    let counts = answering-counts _ _ _ _ _ _ _ _ _ _ c.entries.invariant.done in
     let count = count-replies c.args.entries.now c.entries.entry-index c.entries-test.true in
     omega (arith, counts.0, count, c.requires.few, c.entries-test.true)
 
 pub add-requires-clause-cut : goal.add-requires-clause-cut
 add-requires-clause-cut g c =
-    let counts = answering-counts _ _ _ _ _ _ _ _ _ c.entries.invariant.done in
+    let counts = answering-counts _ _ _ _ _ _ _ _ _ _ c.entries.invariant.done in
     let count = count-replies c.args.entries.now c.entries.entry-index c.entries-test.true in
     omega (arith, counts.0, count, c.requires.few, c.entries-test.true)
 
@@ -35,7 +35,7 @@ entries-preserved g c =
     let entries : List Entry = c.args.entries.now in
     let i = c.entries.entry-index in
     let below = c.entries-test.true in
-    let counts = answering-counts _ _ _ _ _ _ _ _ _ before.done in
+    let counts = answering-counts _ _ _ _ _ _ _ _ _ _ before.done in
     let count = count-replies entries i below in
     let some : 0 < length (g.D.Door.held c.entries.door) = omega (arith, counts.1, count, c.requires.held, below) in
     let is = some-held c.resume.result (g.D.Door.held c.entries.door) some c.resume.ensures.none in
@@ -44,7 +44,7 @@ entries-preserved g c =
     let reply : Option Reply = c.entry-item.result.reply in
     let next = answering-next (g.D.Door.cuts c.args.door.now) (g.D.Door.cuts c.entries.door) (g.D.Door.cuts c.send.new.door)
     _ _ (g.D.Door.held c.resume.new.self) _ _ (g.D.Door.sent c.send.new.door) _ _ _ _ (g.D.Door.current c.resume.new.self)
-    reply c.send.result before.never_falls sent.never_falls before.done takes sent.served sent.cut sent.cause in
+    reply c.send.result sent.never_falls before.done takes sent.served sent.cut sent.cause in
     let replies : map (λ (e : Entry). e.reply) (take (i + 1) entries) ≡ map (λ (e : Entry). e.reply) (take i entries) ++ reply ∷ [] =
     ap (map (λ (e : Entry). e.reply)) (take_more entries i c.entry-item.result below)
     ∙ map-append (λ (e : Entry). e.reply) (take i entries) _
@@ -53,6 +53,7 @@ entries-preserved g c =
       done = rw (replies, c.add.ensures.served, c.add.ensures.cut, sent.held) next;
       none_current = λ none. sent.closed;
       waiting = sent.waiting ∙ c.resume.ensures.waiting ∙ before.waiting;
+      port = sent.port ∙ c.resume.ensures.port ∙ before.port;
       faults = sent.faults ∙ c.resume.ensures.faults ∙ before.faults;
       never_falls = omega (arith, before.never_falls, sent.never_falls);
     }

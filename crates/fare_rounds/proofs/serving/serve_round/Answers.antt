@@ -1,14 +1,11 @@
 use Rattle.std.proofs.Common.{◌≡◌, length, sym, ap, ◌∙◌, subst, arith}
 use Rattle.std.specs.Prelude.{IfSome}
 use Rattle.std.specs.List.{AllZip}
-use Rattle.fare_outside.specs.Cause.{Rose}
 use Rattle.fare_rounds.specs.Entries.{IsViewed}
-use Rattle.fare_rounds.specs.Finishing.{IsSent}
-use Rattle.fare_rounds.specs.Taking.{Gathering, entries_of, none_taken, places_from, TakesEach}
-use Rattle.std.proofs.lemmas.List.Elements.{All-weaker}
-use Rattle.fare_rounds.proofs.AnswerLemmas.{sent-later}
-use Rattle.fare_rounds.proofs.GatherLemmas.{gathers-later, rose-within}
-use Rattle.fare_rounds.proofs.RoundLemmas.{merged, merged-connections, merged-cut, merged-sent, merged-served, round-count, round-served}
+use Rattle.fare_rounds.specs.Finishing.{failed_writes}
+use Rattle.fare_rounds.specs.Taking.{RoseBy, entries_of, failed_reads, places_from, TakesEach}
+use Rattle.fare_rounds.proofs.GatherLemmas.{rose-both}
+use Rattle.fare_rounds.proofs.RoundLemmas.{merged, merged-connections, merged-cut, merged-failures, merged-sent, merged-served, round-count, round-served}
 use Rattle.fare_rounds.proofs.serving.serve_round.Goals as goal
 
 pub returns-clause-round : goal.returns-clause-round
@@ -23,11 +20,7 @@ returns-clause-round g c =
     let step = g.H.Handler.step in
     let replies = g.H.RoundHandler.reply in
     let start = c.args.handler.now in
-    let Fails = Rose (g.D.Door.cuts first) (g.D.Door.cuts door) in
-    let gathered : Gathering = record { waiting = g.D.Door.waiting between; sent = g.D.Door.sent between; held = g.D.Door.held between; row = c.take_round-round.result.0 } in
-    let gathers = gathers-later (Rose (g.D.Door.cuts first) (g.D.Door.cuts between)) Fails
-    (none_taken (g.D.Door.waiting first) (g.D.Door.sent first)) gathered arrivals
-    (λ rose. rose-within _ _ _ _ (omega arith) done.never_falls rose) taken.taken.1 in
+    let gathers = taken.taken.1 in
     let viewed = c.view.new.round in
     let views = c.view.ensures in
     let count = round-count step replies start _ _ c.take_round-round.result.0 viewed answered _ _ views done.answered.1
@@ -35,13 +28,13 @@ returns-clause-round g c =
     let same : length (entries_of arrivals) ≡ length answered = sym (count.1 ∙ ap length gathers.entries) in
     let zipped = subst (λ entries. AllZip (IsViewed (replies start)) entries viewed.entries) gathers.entries views.0 in
     let answers = done.answered.2 in
-    let sent = All-weaker (IsSent (Rose (g.D.Door.cuts between) (g.D.Door.cuts door))) (IsSent Fails)
-    (sent-later (Rose (g.D.Door.cuts between) (g.D.Door.cuts door)) Fails
-    (λ rose. rose-within _ _ _ _ taken.never_falls (omega arith) rose)) answered answers.each in
+    let rose = rose-both (failed_reads arrivals) (failed_writes answered) (g.D.Door.cuts first) (g.D.Door.cuts between)
+    (g.D.Door.cuts door) gathers.failed answers.failed in
     let told = subst (λ places. IfSome (g.D.Door.sent first) (λ lists. places ≡ places_from (length lists) arrivals))
     (sym gathers.held) gathers.told in (
       merged arrivals answered,
-      round-served step replies g.met.H.RoundHandler.shows Fails start start _ arrivals viewed.entries answered gathers.read zipped done.answered.1 sent,
+      round-served step replies g.met.H.RoundHandler.shows start start _ arrivals viewed.entries answered gathers.read zipped done.answered.1 answers.each,
+      subst (λ count. RoseBy count (g.D.Door.cuts first) (g.D.Door.cuts door)) (sym (merged-failures arrivals answered same)) rose,
       subst (TakesEach (g.D.Door.waiting first) (g.D.Door.waiting door)) (sym (merged-connections arrivals answered same))
           (rw done.waiting gathers.waiting),
       merged-sent (g.D.Door.sent first) (g.D.Door.sent between) (g.D.Door.sent door) (g.D.Door.held between) arrivals answered

@@ -1,5 +1,5 @@
 use Rattle.std.proofs.Common.{◌≡◌, sym, ◌∙◌, refl}
-use Rattle.fare_rounds.specs.Taking.{Gathering}
+use Rattle.fare_rounds.specs.Taking.{gathering}
 use Rattle.fare_rounds.proofs.GatherLemmas.{gathers-one}
 use Rattle.fare_rounds.proofs.taking.take_next.Goals as goal
 use Rattle.fare_rounds.proofs.taking.take_next.Goals.{else-not-is_first-via-then-not-is_first+else-not-more, else-not-is_first-via-else-not-is_first}
@@ -27,9 +27,10 @@ returns-in-Ok-true-clause-taken g c =
     let took = rw (true-is) at next.waiting in
     let grew = rw (true-is) at next.sent in
     let placed = rw (true-is) at next.place in
-    let old : Gathering = record { waiting = g.D.Door.waiting first; sent = g.D.Door.sent first; held = g.D.Door.held first; row = c.args.round.now } in
-    let new : Gathering = record { waiting = g.D.Door.waiting c.gather.new.door; sent = g.D.Door.sent c.gather.new.door; held = g.D.Door.held c.gather.new.door; row = c.gather.new.self } in
+    let old = gathering (g.D.Door.waiting first) (g.D.Door.sent first) (g.D.Door.held first) (g.D.Door.cuts first) c.args.round.now in
+    let last = c.gather.new.door in
+    let new = gathering (g.D.Door.waiting last) (g.D.Door.sent last) (g.D.Door.held last) (g.D.Door.cuts last) c.gather.new.self in
     let took-first = rw (same.0, sym gathered.waiting) at took in
     let grown = gathered.sent ∙ rw same.1 at grew in
     let place = rw same.1 at placed in
-    (one.arrival, gathers-one _ old new _ _ took-first grown (next.current ∙ true-is) place one)
+    (one.arrival, gathers-one old new _ _ took-first grown (next.current ∙ true-is) place one)

@@ -1,8 +1,7 @@
 use Rattle.std.proofs.Common.{◌≡◌, ◌≤◌, [], inl, inr, refl, ap, ◌∙◌, subst, arith, ◌+◌}
-use Rattle.fare_outside.specs.Cause.{Rose}
 use Rattle.fare_outside.specs.Door.{NoneWaits}
 use Rattle.fare_rounds.specs.Entries.{connection_count}
-use Rattle.fare_rounds.specs.Taking.{Gathering, TakesNone}
+use Rattle.fare_rounds.specs.Taking.{Gathering, TakesNone, gathering}
 use Rattle.fare_rounds.proofs.GatherLemmas.{all-taken, counts-next, gathers-next, gathers-none, none-waited}
 use Rattle.std.proofs.Common.{◌≢◌, Err}
 use Rattle.std.proofs.lemmas.Bool.Decides.{nat_tests}
@@ -14,10 +13,11 @@ connections-init g c =
     let door = c.args.door.now in
     record {
       gathered = rw (c.requires.none_held, c.new-round.ensures)
-          ([], gathers-none (Rose (g.D.Door.cuts door) (g.D.Door.cuts door)) (g.D.Door.waiting door) (g.D.Door.sent door));
+          ([], gathers-none (g.D.Door.waiting door) (g.D.Door.sent door) (g.D.Door.cuts door));
       count = rw c.new-round.ensures refl;
       none_current = λ no. absurd (omega (arith, no));
       never_falls = omega arith;
+      port = refl;
       faults = omega arith;
     }
 
@@ -34,15 +34,15 @@ returns-in-Err-clause-all g c = λ not-failed.
     let door = c.connections.door in
     let first = c.args.door.now in
     let before = c.connections.invariant in
-    let between : Gathering = record { waiting = g.D.Door.waiting door; sent = g.D.Door.sent door; held = g.D.Door.held door; row = c.connections.round } in
+    let between = gathering (g.D.Door.waiting door) (g.D.Door.sent door) (g.D.Door.held door) (g.D.Door.cuts door) c.connections.round in
     let now = c.take_next.new.door in
-    let new : Gathering = record { waiting = g.D.Door.waiting now; sent = g.D.Door.sent now; held = g.D.Door.held now; row = c.take_next.new.round } in
+    let new = gathering (g.D.Door.waiting now) (g.D.Door.sent now) (g.D.Door.held now) (g.D.Door.cuts now) c.take_next.new.round in
     let stays = c.in-Err.ensures.ended in
     let none : NoneWaits (g.D.Door.waiting door) = waits-none between new stays (c.in-Err.ensures.none_waits not-failed) in
     let count = count-stays between new stays in
     let few : connection_count c.connections.round ≤ c.args.most = omega (arith, before.count, c.connections-test.true) in
     rw count
-    (all-taken _ (g.D.Door.waiting first) (g.D.Door.sent first) between c.args.most before.gathered few (inl none))
+    (all-taken (g.D.Door.waiting first) (g.D.Door.sent first) (g.D.Door.cuts first) between c.args.most before.gathered few (inl none))
 
 pub returns-in-Err-clause-none_waited : goal.returns-in-Err-clause-none_waited
 returns-in-Err-clause-none_waited g c = λ no-more.
@@ -50,12 +50,12 @@ returns-in-Err-clause-none_waited g c = λ no-more.
     let first = c.args.door.now in
     let before = c.connections.invariant in
     let ended = c.in-Err.ensures in
-    let between : Gathering = record { waiting = g.D.Door.waiting door; sent = g.D.Door.sent door; held = g.D.Door.held door; row = c.connections.round } in
+    let between = gathering (g.D.Door.waiting door) (g.D.Door.sent door) (g.D.Door.held door) (g.D.Door.cuts door) c.connections.round in
     let now = c.take_next.new.door in
-    let new : Gathering = record { waiting = g.D.Door.waiting now; sent = g.D.Door.sent now; held = g.D.Door.held now; row = c.take_next.new.round } in
+    let new = gathering (g.D.Door.waiting now) (g.D.Door.sent now) (g.D.Door.held now) (g.D.Door.cuts now) c.take_next.new.round in
     let not-failed : c.in-Err.end ≢ Failed = λ failed. cc in
     let none : NoneWaits (g.D.Door.waiting door) = waits-none between new ended.ended (ended.none_waits not-failed) in
-    none-waited _ (g.D.Door.waiting first) (g.D.Door.sent first) between before.gathered
+    none-waited (g.D.Door.waiting first) (g.D.Door.sent first) (g.D.Door.cuts first) between before.gathered
     (λ some. ended.asked (ap Err no-more) (grind (arith, nat_tests, before.count))) none
 
 pub connections-preserved : goal.connections-preserved
@@ -65,15 +65,16 @@ connections-preserved g c =
     let now = c.take_next.new.door in
     let before = c.connections.invariant in
     let next = c.in_default.ensures in
-    let between : Gathering = record { waiting = g.D.Door.waiting door; sent = g.D.Door.sent door; held = g.D.Door.held door; row = c.connections.round } in
-    let new : Gathering = record { waiting = g.D.Door.waiting now; sent = g.D.Door.sent now; held = g.D.Door.held now; row = c.take_next.new.round } in
-    let count = counts-next _ between new next.taken in
+    let between = gathering (g.D.Door.waiting door) (g.D.Door.sent door) (g.D.Door.held door) (g.D.Door.cuts door) c.connections.round in
+    let new = gathering (g.D.Door.waiting now) (g.D.Door.sent now) (g.D.Door.held now) (g.D.Door.cuts now) c.take_next.new.round in
+    let count = counts-next between new next.taken in
     record {
-      gathered = gathers-next (g.D.Door.waiting first) (g.D.Door.sent first) between new (g.D.Door.cuts first) (g.D.Door.cuts door)
-          (g.D.Door.cuts now) before.never_falls next.never_falls before.gathered next.taken;
+      gathered = gathers-next (g.D.Door.waiting first) (g.D.Door.sent first) (g.D.Door.cuts first) between new
+          before.gathered next.taken;
       count = count ∙ ap (λ n. n + 1) before.count;
       none_current = λ some. next.none_current (λ same. cc);
       never_falls = omega (arith, before.never_falls, next.never_falls);
+      port = next.port ∙ before.port;
       faults = omega (arith, before.faults, next.faults);
     }
 
@@ -82,7 +83,7 @@ returns-clause-all g c = λ not-failed.
     let door = c.connections.door in
     let first = c.args.door.now in
     let now = c.connections.invariant in
-    let new : Gathering = record { waiting = g.D.Door.waiting door; sent = g.D.Door.sent door; held = g.D.Door.held door; row = c.connections.round } in
+    let new = gathering (g.D.Door.waiting door) (g.D.Door.sent door) (g.D.Door.held door) (g.D.Door.cuts door) c.connections.round in
     let count : connection_count c.connections.round ≡ c.args.most = omega (arith, now.count, c.connections-test.false, c.connections.auto.taken-end) in
     let few : connection_count c.connections.round ≤ c.args.most = omega (arith, count) in
-    all-taken _ (g.D.Door.waiting first) (g.D.Door.sent first) new c.args.most now.gathered few (inr count)
+    all-taken (g.D.Door.waiting first) (g.D.Door.sent first) (g.D.Door.cuts first) new c.args.most now.gathered few (inr count)

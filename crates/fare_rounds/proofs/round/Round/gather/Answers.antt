@@ -1,8 +1,6 @@
-use Rattle.std.proofs.Common.{◌≡◌, ◌<◌, ◌⊎◌, Bool, true, false, length, List, ℕ, refl, sym, ◌∙◌, arith, append-nil, add-zero}
+use Rattle.std.proofs.Common.{◌≡◌, ◌<◌, ◌+◌, Bool, true, false, length, List, ℕ, refl, sym, ◌∙◌, arith, append-nil, add-zero}
 use Rattle.std.specs.Bool.{OnFalse}
-use Rattle.fare_outside.specs.Cause.{Rose}
-use Rattle.fare_http.specs.Serving.{BringsTooLittle}
-use Rattle.fare_rounds.specs.Taking.{cut_off, held}
+use Rattle.fare_rounds.specs.Taking.{RoseBy, cut_off, held}
 use Rattle.fare_rounds.proofs.ArrivalLemmas.{entry-brought, no-entry}
 use Rattle.fare_rounds.proofs.round.Round.gather.Goals as goal
 
@@ -10,6 +8,10 @@ use Rattle.fare_rounds.proofs.round.Round.gather.Goals as goal
 has-room : (answer : Bool) (places : List ℕ) → length places < 8 → OnFalse answer (length places ≡ 8) → answer ≡ true
 has-room true places few full = refl
 has-room false places few full = absurd (omega (arith, full, few))
+
+-- one connection's failures are all
+rose-zero : (failures first last : ℕ) → RoseBy failures first last → RoseBy (failures + 0) first last
+rose-zero failures first last rose = omega (arith, rose)
 
 pub returns-in-Some-clause-taken : goal.returns-in-Some-clause-taken
 returns-in-Some-clause-taken g c =
@@ -24,6 +26,7 @@ returns-in-Some-clause-taken g c =
       connection = refl;
       held = rw (answered, read.held, read.current) at c.hold.ensures.held;
       read = entry-brought c.read_request.result c.in-Some.entry _ _ read.whole read.fixed is;
+      failed = omega (arith, read.never_falls, c.hold.ensures.cuts);
       entries = rw (sym seen) c.push.ensures.items;
       cut = rw (sym seen, add-zero) refl;
     }
@@ -34,13 +37,15 @@ returns-in-None-clause-taken g c =
     let closed = c.close.ensures in
     let is = sym c.in-None.is ∙ c.of.ensures in
     let seen = c.self.view_is in
-    let why : BringsTooLittle (g.D.Door.left c.args.door.now) ⊎ Rose (g.D.Door.cuts c.args.door.now) (g.D.Door.cuts c.close.new.self) =
-    rw closed.cuts (no-entry c.read_request.result _ _ _ read.cut is) in
+    let first = g.D.Door.cuts c.args.door.now in
+    let why = no-entry c.read_request.result (g.D.Door.left c.args.door.now) (g.D.Door.left c.read_request.new.door) first
+    (g.D.Door.cuts c.read_request.new.door) read.never_falls read.cut is in
     record {
-      arrival = cut_off (g.D.Door.left c.args.door.now);
+      arrival = cut_off (g.D.Door.left c.args.door.now) why.0;
       connection = refl;
       held = closed.held ∙ read.held ∙ sym (append-nil (g.D.Door.held c.args.door.now));
-      read = why;
+      read = why.2;
+      failed = rw closed.cuts (rose-zero why.0 first _ why.1);
       entries = rw (sym seen, append-nil) refl;
       cut = rw (sym seen) refl;
     }
