@@ -1,11 +1,12 @@
 -- What is known of a door over a port.
 use Rattle.std.specs.Prelude.{ℕ, Bool, List, Option, Some, None, replicate, if◌then◌else◌}
 
--- of a `TcpDoor`: how many connections are put aside, whether one is current, and how many of `listen` and `next`, and
--- of `read` and `write`, have failed
+-- of a `TcpDoor`: how many connections are put aside, whether one is current, the port at which it listens, and how many
+-- of `listen` and `next`, and of `read` and `write`, have failed
 pub record OpenDoor : Type 0 where
   pub held : ℕ
   pub is_current : Bool
+  pub port : Option ℕ
   pub faults : ℕ
   pub cuts : ℕ
 

@@ -20,6 +20,7 @@ pub struct TcpDoor {
     arrivals: TcpArrivals,
     current: Option<TcpPeer>,
     held: ArrayVec<TcpPeer, MOST_HELD>,
+    port: Option<u16>,
     faults: u64,
     cuts: u64,
 }
@@ -33,6 +34,7 @@ impl Model for TcpDoor {
     ghost view = { λ d. record {
       held = length d.held.items;
       is_current = is_some d.current;
+      port = d.port;
       faults = d.faults;
       cuts = d.cuts;
     } };
@@ -42,14 +44,14 @@ impl TcpDoor {
     /// A door that lets nobody in yet. A peer that sends or takes nothing for ten seconds, or keeps
     /// the door waiting for a minute in all, is cut off.
     pub fn new(rt: &HostRuntime) -> TcpDoor
-        ensures { result ≡ record { held = 0; is_current = false; faults = 0; cuts = 0 } }
+        ensures { result ≡ record { held = 0; is_current = false; port = None; faults = 0; cuts = 0 } }
     {
         TcpDoor::with_limits(rt, TcpLimits::default())
     }
 
     /// The same with other limits.
     pub fn with_limits(rt: &HostRuntime, limits: TcpLimits) -> TcpDoor
-        ensures { result ≡ record { held = 0; is_current = false; faults = 0; cuts = 0 } }
+        ensures { result ≡ record { held = 0; is_current = false; port = None; faults = 0; cuts = 0 } }
     {
         TcpDoor {
             runtime: *rt,
@@ -57,6 +59,7 @@ impl TcpDoor {
             arrivals: TcpArrivals::new(),
             current: None,
             held: ArrayVec::new(),
+            port: None,
             faults: 0,
             cuts: 0,
         }
@@ -74,13 +77,18 @@ impl Door for TcpDoor {
 
     ghost current = { place_of };
 
+    ghost listens_at = { λ door. door.port };
+
     ghost faults = { λ door. door.faults };
 
     ghost cuts = { λ door. door.cuts };
 
     fn listen(&mut self, port: u16) -> Result<(), Failed> {
         match self.arrivals.listen(&self.runtime, port) {
-            Ok(()) => Ok(()),
+            Ok(()) => {
+                self.port = Some(port);
+                Ok(())
+            }
             Err(_) => {
                 self.faults = raised(self.faults);
                 Err(Failed)

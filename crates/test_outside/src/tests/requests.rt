@@ -11,6 +11,7 @@ use std::thread::Threads;
 /// them.
 #[derive(Drop)]
 struct PiecesDoor {
+    port: Option<u16>,
     bytes: Vec<u8>,
     read: usize,
     sent: Vec<u8>,
@@ -28,11 +29,14 @@ impl Door for PiecesDoor {
 
     ghost current = { λ _. None };
 
+    ghost listens_at = { λ door. door.port };
+
     ghost faults = { λ _. 0 };
 
     ghost cuts = { λ _. 0 };
 
-    fn listen(&mut self, _port: u16) -> Result<(), Failed> {
+    fn listen(&mut self, port: u16) -> Result<(), Failed> {
+        self.port = Some(port);
         Ok(())
     }
 
@@ -72,6 +76,7 @@ impl Door for PiecesDoor {
 
 fn door_with(alloc: Global, bytes: &[u8]) -> Result<PiecesDoor, Fail> {
     Ok(PiecesDoor {
+        port: None,
         bytes: Vec::from_slice(alloc, bytes)?,
         read: 0,
         sent: Vec::new(alloc),
