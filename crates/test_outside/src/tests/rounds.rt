@@ -142,11 +142,18 @@ fn clerk_with(alloc: Global, list: &[u8]) -> Result<Clerk, Fail> {
 fn door_of(alloc: Global, connections: &[&[u8]]) -> Result<MemDoor, Fail>
     ensures { IfOk result (λ door. door.held ≡ []) }
 {
+    failing_door(alloc, connections, Vec::new(alloc))
+}
+
+/// A door to which these connections come, whose calls of these numbers fail.
+fn failing_door(alloc: Global, connections: &[&[u8]], fail: Vec<u32>) -> Result<MemDoor, Fail>
+    ensures { IfOk result (λ door. door.held ≡ []) }
+{
     let mut waiting = Bodies::new(alloc);
     for connection in connections {
         waiting.push(*connection)?;
     }
-    Ok(MemDoor::new(alloc, waiting, 4096, Vec::new(alloc))?)
+    Ok(MemDoor::new(alloc, waiting, 4096, fail)?)
 }
 
 fn serve<R: Threads + Sync, H: RoundHandler>(
@@ -320,6 +327,30 @@ Connection: close\r\n\r\nEDITION 18 2025-01-01 29\nEDITION 59 2025-01-01 68\n";
             3,
             b"HTTP/1.1 405 Method Not Allowed\r\nContent-Type: text/plain\r\n\
 Content-Length: 7\r\nAllow: POST\r\nConnection: close\r\n\r\nMETHOD\n"
+        )
+    );
+    Ok(())
+}
+
+#[test]
+fn a_failed_call_cuts_off_its_own_exchange_alone(rt: HostRuntime) -> Result<(), Fail> {
+    let alloc = rt.alloc();
+    let mut clerk = clerk_with(alloc, b"EDITION 18 2025-01-01 29\n")?;
+    // The calls: next and read for each connection, of which the first read fails, and then the
+    // writes, of which the first one fails.
+    let mut fail = vec![in alloc; 2]?;
+    fail.push(7)?;
+    let mut door = failing_door(alloc, &[EDITION_7, LIST, LIST], fail)?;
+    let (_, counts) = serve(&rt, alloc, &mut door, &mut clerk, 3);
+    assert_eq!(rt; counts, Counts { served: 1, cut: 2 });
+    assert!(rt; was_sent(&door, 0, b""));
+    assert!(rt; was_sent(&door, 1, b""));
+    assert!(rt;
+        was_sent(
+            &door,
+            2,
+            b"HTTP/1.1 200 OK\r\nContent-Type: text/plain\r\n\
+Content-Length: 25\r\nConnection: close\r\n\r\nEDITION 18 2025-01-01 29\n"
         )
     );
     Ok(())
