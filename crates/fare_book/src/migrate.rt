@@ -38,6 +38,7 @@ impl Book {
         ensures carried { IfErr result CarriesDamage }
 
         ensures ready { IsTrue (P.ready keeper.new) }
+        ensures name { P.opened_as keeper.new ≡ P.opened_as keeper.old }
         ensures never_falls { P.faults keeper.old ≤ P.faults keeper.new }
         ensures cause { IsErrOf result RestoreFault.KeeperFault → Rose (P.faults keeper.old) (P.faults keeper.new) }
     {
@@ -58,6 +59,7 @@ fn migrate_bodies<P: Keeper>(
     ensures ok { IfOk result (λ count. ToldAfter (P.bodies keeper.old) (P.bodies keeper.new) (IsMigrated count)) }
     ensures err { IfErr result (λ _. ToldAfter (P.bodies keeper.old) (P.bodies keeper.new) StopsShort) }
     ensures cut_off { IfErr result IsCutOff }
+    ensures name { P.opened_as keeper.new ≡ P.opened_as keeper.old }
     ensures served { IsServed (P.ready keeper.new) (P.faults keeper.old) (P.faults keeper.new)
         (IsErrOf result RestoreFault.KeeperFault) }
 {
@@ -82,6 +84,7 @@ fn migrate_body<P: Keeper>(
         ToldAfter (P.bodies keeper.old) (P.bodies keeper.new) (Respells place replaced)) }
     ensures err { IfErr result (λ _. ToldAfter (P.bodies keeper.old) (P.bodies keeper.new) (MayRespell place)) }
     ensures cut_off { IfErr result IsCutOff }
+    ensures name { P.opened_as keeper.new ≡ P.opened_as keeper.old }
     ensures served { IsServed (P.ready keeper.new) (P.faults keeper.old) (P.faults keeper.new)
         (IsErrOf result RestoreFault.KeeperFault) }
 {

@@ -39,6 +39,7 @@ impl Book {
         ensures carried { IfErr result CarriesFault }
 
         ensures ready { IsTrue (P.ready keeper.new) }
+        ensures name { P.opened_as keeper.new ≡ P.opened_as keeper.old }
         ensures never_falls { P.faults keeper.old ≤ P.faults keeper.new }
         ensures cause { IsErrOf result PublishFault.KeeperFault → Rose (P.faults keeper.old) (P.faults keeper.new) }
     {
@@ -65,6 +66,7 @@ impl Book {
         ensures carried { IfErr result CarriesFault }
 
         ensures ready { IsTrue (P.ready keeper.new) }
+        ensures name { P.opened_as keeper.new ≡ P.opened_as keeper.old }
         ensures never_falls { P.faults keeper.old ≤ P.faults keeper.new }
         ensures cause { IsErrOf result PublishFault.KeeperFault → Rose (P.faults keeper.old) (P.faults keeper.new) }
     {
@@ -83,6 +85,7 @@ impl Book {
         ensures opens { Opens self.old self.new result (P.bodies keeper.old) (P.bodies keeper.new) }
         ensures bodies { Stay (P.bodies keeper.old) (P.bodies keeper.new) }
         ensures carried { IfErr result CarriesDamage }
+        ensures name { P.opened_as keeper.new ≡ P.opened_as keeper.old }
         ensures served { IsServed (P.ready keeper.new) (P.faults keeper.old) (P.faults keeper.new)
             (IsErrOf result RestoreFault.KeeperFault) }
     {
@@ -102,6 +105,7 @@ impl Book {
         requires ready { IsTrue (P.ready keeper.old) }
         requires settled { self.old.settled ≡ true }
         ensures offers { Offers self.old.editions edition result self.new (P.bodies keeper.old) (P.bodies keeper.new) }
+        ensures name { P.opened_as keeper.new ≡ P.opened_as keeper.old }
         ensures served { IsServed (P.ready keeper.new) (P.faults keeper.old) (P.faults keeper.new)
             (IsErrOf result PublishFault.KeeperFault) }
     {
@@ -129,6 +133,7 @@ impl Book {
         requires settled { self.old.settled ≡ true }
         requires new { IsNewTo self.old.editions edition }
         ensures offers { Offers self.old.editions edition result self.new (P.bodies keeper.old) (P.bodies keeper.new) }
+        ensures name { P.opened_as keeper.new ≡ P.opened_as keeper.old }
         ensures served { IsServed (P.ready keeper.new) (P.faults keeper.old) (P.faults keeper.new)
             (IsErrOf result PublishFault.KeeperFault) }
     {

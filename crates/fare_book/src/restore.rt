@@ -36,6 +36,7 @@ impl Book {
 
         ensures bodies { Stay (P.bodies keeper.old) (P.bodies keeper.new) }
         ensures ready { IsTrue (P.ready keeper.new) }
+        ensures name { P.opened_as keeper.new ≡ P.opened_as keeper.old }
         ensures never_falls { P.faults keeper.old ≤ P.faults keeper.new }
         ensures cause { IsErrOf result RestoreFault.KeeperFault → Rose (P.faults keeper.old) (P.faults keeper.new) }
     {
@@ -61,6 +62,7 @@ impl Book {
         ensures settled { IfOk result (λ book. book.settled ≡ true) }
         ensures carried { IfErr result CarriesDamage }
         ensures bodies { Stay (P.bodies keeper.old) (P.bodies keeper.new) }
+        ensures name { P.opened_as keeper.new ≡ P.opened_as keeper.old }
         ensures served { IsServed (P.ready keeper.new) (P.faults keeper.old) (P.faults keeper.new)
             (IsErrOf result RestoreFault.KeeperFault) }
     {

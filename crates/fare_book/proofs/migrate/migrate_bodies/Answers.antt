@@ -1,4 +1,4 @@
-use Rattle.std.proofs.Common.{◌≡◌, ◌<◌, length, Err, rules, arith}
+use Rattle.std.proofs.Common.{◌≡◌, ◌∙◌, ◌<◌, length, Err, rules, arith}
 use Rattle.std.specs.Int.{from_bool}
 use Rattle.fare_book.proofs.Migrations.{at_most_one, goes_on, room, stands_next, stops}
 use Rattle.fare_book.proofs.migrate.migrate_bodies.Goals as goal
@@ -27,5 +27,6 @@ loop-index-preserved g c =
       come = rw more come;
       few = omega (arith, more, at_most_one c.in_ok-replaced.replaced, c.loop-index.invariant.few);
       ready = c.in_ok-replaced.ensures.served.ready;
+      name = c.in_ok-replaced.ensures.name ∙ c.loop-index.invariant.name;
       never_falls = omega (arith, c.loop-index.invariant.never_falls, c.in_ok-replaced.ensures.served.never_falls);
     }

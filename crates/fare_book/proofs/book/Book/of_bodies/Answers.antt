@@ -1,4 +1,4 @@
-use Rattle.std.proofs.Common.{◌≡◌, ◌+◌, length, true, Ok, Err, rules, arith, sym}
+use Rattle.std.proofs.Common.{◌≡◌, ◌∙◌, ◌+◌, length, true, Ok, Err, rules, arith, sym}
 use Rattle.fare_book.specs.Editions.{with_body}
 use Rattle.fare_book.specs.Restored.{FitsFault}
 use Rattle.fare_book.proofs.Bodies.{length-stay, stay-trans, whole-all, whole-step, whole-stop}
@@ -25,6 +25,7 @@ loop-index-preserved g c =
       length = longer;
       settled = settled;
       ready = c.in_ok-body.ensures.ready;
+      name = c.in_ok-body.ensures.name ∙ c.loop-index.invariant.name;
       never_falls = omega (arith, c.loop-index.invariant.never_falls, c.in_ok-body.ensures.never_falls);
     }
 

@@ -12,5 +12,6 @@ invariant-loop-index g l = record {
   length : length l.book.editions ≡ l.index;
   settled : l.book.settled ≡ true;
   ready : IsTrue (g.P.Keeper.ready l.keeper);
+  name : g.P.Keeper.opened_as l.keeper ≡ g.P.Keeper.opened_as l.initial.keeper;
   never_falls : g.P.Keeper.faults l.initial.keeper ≤ g.P.Keeper.faults l.keeper;
 }
