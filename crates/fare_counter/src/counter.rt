@@ -70,6 +70,7 @@ impl<'k, P: Keeper, Q: Reasoner + Drop> Handler for Counter<'k, P, Q> {
 
     ghost step = { λ old method path body reply new.
         (new.desk.keeper.ghost_name ≡ old.desk.keeper.ghost_name)
+        × (P.opened_as new.desk.keeper.now ≡ P.opened_as old.desk.keeper.now)
         × IsCounterStep
         (state old.desk.book (P.bodies old.desk.keeper.now) (P.faults old.desk.keeper.now))
         (state new.desk.book (P.bodies new.desk.keeper.now) (P.faults new.desk.keeper.now))

@@ -114,6 +114,7 @@ impl<'k, P: Keeper, Q: Quoter + Drop> Desk<'k, P, Q> {
         text: &[u8],
     ) -> Result<Reply, NoMemory>
         ensures same_reference { self.new.keeper.ghost_name ≡ self.old.keeper.ghost_name }
+        ensures name { P.opened_as self.new.keeper.now ≡ P.opened_as self.old.keeper.now }
         ensures publication { IsPublication
             (state self.old.book (P.bodies self.old.keeper.now) (P.faults self.old.keeper.now))
             (state self.new.book (P.bodies self.new.keeper.now) (P.faults self.new.keeper.now))
@@ -133,6 +134,7 @@ impl<'k, P: Keeper, Q: Quoter + Drop> Handler for Desk<'k, P, Q> {
 
     ghost step = { λ old method path body reply new.
         (new.keeper.ghost_name ≡ old.keeper.ghost_name)
+        × (P.opened_as new.keeper.now ≡ P.opened_as old.keeper.now)
         × IsDeskStep
         (state old.book (P.bodies old.keeper.now) (P.faults old.keeper.now))
         (state new.book (P.bodies new.keeper.now) (P.faults new.keeper.now))
