@@ -13,6 +13,7 @@
 //! - `opening`: the word, with its first seat;
 //! - `sharing`: how many workers share a search;
 //! - `prepared`: all that a search on some workers needs, and the search;
+//! - `turnstile`: a gate that counts the workers;
 //! - `quoter`: the quoter that shares its search out.
 //!
 //! Each of these stands on those above it.
@@ -29,6 +30,7 @@ mod seating;
 mod shares;
 mod sharing;
 mod threads;
+mod turnstile;
 mod word;
 mod worker;
 
@@ -36,6 +38,7 @@ pub use pieces::MOST_WORKERS;
 pub use prepared::Prepared;
 pub use quoter::SplitQuoter;
 pub use sharing::LEAST_SHARED_WORK;
+pub use turnstile::Turnstile;
 
 #[cfg(test)]
 mod tests;

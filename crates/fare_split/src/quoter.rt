@@ -8,6 +8,7 @@ use crate::pieces::MOST_WORKERS;
 use crate::prepared::Prepared;
 use crate::shares::whole_work;
 use crate::sharing::workers_for;
+use crate::turnstile::Turnstile;
 use fare_branch::BranchQuoter;
 use fare_component::Table;
 use fare_outside::{Gate, NoMemory, OpenGate};
@@ -63,6 +64,18 @@ impl<'g, G: Gate> SplitQuoter<'g, G> {
 }
 
 impl Quoter for SplitQuoter<'_, OpenGate> {
+    fn quote<R: Threads + Sync>(
+        &self,
+        rt: &R,
+        alloc: Global,
+        edition: &Edition,
+        trip: &Trip,
+    ) -> Result<Option<(Construction, u64)>, NoMemory> {
+        self.best(rt, alloc, edition, trip)
+    }
+}
+
+impl Quoter for SplitQuoter<'_, Turnstile> {
     fn quote<R: Threads + Sync>(
         &self,
         rt: &R,
