@@ -23,7 +23,7 @@ use Rattle.fare_units.proofs.NextLemmas.{front_start, front_unit, greatest_same}
 use Rattle.fare_bounds.specs.Covers.{rest_at}
 use Rattle.fare_homing.specs.declared.homing.Homing.{Homing}
 use Rattle.fare_branch.specs.declared.stacking.Open.{Open}
-use Rattle.fare_branch.specs.Costs.{part_least, units_floor}
+use Rattle.fare_branch.specs.Costs.{part_least, true_cost, units_floor}
 use Rattle.fare_homing.specs.Homing.{IsUpTo, homing_at}
 use Rattle.fare_branch.specs.Ending.{needs_more}
 use Rattle.fare_branch.specs.Floors.{IsFloorAnswer}
@@ -40,7 +40,6 @@ use Rattle.fare_branch.proofs.OverLemmas.{behind_is_over}
 use Rattle.fare_homing.proofs.ReachLemmas.{up_more}
 use Rattle.fare_branch.proofs.SameLemmas.{AreFirst}
 use Rattle.fare_branch.proofs.ShutLemmas.{own_behind, own_in_two, own_are_first, shut_alone, both_true, floor_by}
-use Rattle.fare_branch.proofs.StackLemmas.{true_cost}
 use Rattle.fare_branch.proofs.SumLemmas.{kept_member, sum_up, sum_up_members}
 use Rattle.fare_branch.proofs.TrueCostLemmas.{true_least, true_up}
 
