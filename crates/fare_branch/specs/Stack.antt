@@ -6,8 +6,7 @@ use Rattle.fare_tariff.specs.Tariff.{Tariff}
 use Rattle.fare_rules.specs.declared.part.Part.{Part}
 use Rattle.fare_rules.specs.Best.{IsLawful}
 use Rattle.fare_rules.specs.Construction.{own, first_of, last_of, start_of, end_of}
-use Rattle.fare_component.specs.declared.table.entry.Entry.{Entry}
-use Rattle.fare_component.specs.Table.{Pricing, entries_of}
+use Rattle.fare_component.specs.Table.{Pricing}
 use Rattle.fare_bounds.specs.Covers.{rest_at}
 use Rattle.fare_homing.specs.declared.homing.Homing.{Homing}
 use Rattle.fare_branch.specs.declared.stacking.Open.{Open}
