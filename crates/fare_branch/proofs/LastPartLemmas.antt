@@ -1,10 +1,10 @@
 -- Which part may be the last of a unit that goes on behind the first parts of a lawful construction, and that what is
 -- known of its cost is under what is behind.
-use Rattle.std.proofs.Common.{◌≡◌, ℕ, zero, suc, ◌+◌, ◌-◌, ◌<◌, ◌≤◌, Bool, true, false, ◌&&◌, ◌||◌, not, List, [], ◌∷◌, ◌++◌, length, set, refl, ap, sym, subst, ◌∙◌, inl, inr, arith}
+use Rattle.std.proofs.Common.{◌≡◌, ℕ, zero, suc, ◌+◌, ◌-◌, ◌<◌, ◌≤◌, Bool, true, false, ◌||◌, not, List, [], ◌∷◌, ◌++◌, length, set, refl, ap, sym, subst, ◌∙◌, inl, inr, arith}
 use Rattle.std.specs.Prelude.{Option, None, filter}
 use Rattle.std.specs.List.{list_any, range_with_len}
 use Rattle.std.proofs.Math.ListN.{length-append}
-use Rattle.std.proofs.lemmas.Bool.{cases_eq, eqb-true}
+use Rattle.std.proofs.lemmas.Bool.{cases_eq}
 use Rattle.std.proofs.lemmas.List.{get_or_past, get_or-set_same, get_or-set_other}
 use Rattle.std.proofs.lemmas.Option.{none-some}
 use Rattle.fare_codes.specs.Day.{day_number}
@@ -15,8 +15,8 @@ use Rattle.fare_rules.specs.declared.part.Part.{Part}
 use Rattle.fare_rules.specs.Construction.{end_of, fare_of, first_of, greatest_unit, is_own, last_of, own, part_at, places, start_of, unit_of}
 use Rattle.fare_rules.specs.Numbers.{numbers}
 use Rattle.fare_rules.specs.Span.{first_day}
-use Rattle.fare_rules.specs.Shape.{holds_ow, is_hr, is_ow}
-use Rattle.fare_rules.specs.UnitRules.{allows_stay_of, clashed, clashes, forbids_stay, has_misfit, is_clash, is_misfit, is_misfitted, is_mistimed, misfitted, mistimed, stay}
+use Rattle.fare_rules.specs.Shape.{is_ow}
+use Rattle.fare_rules.specs.UnitRules.{allows_stay_of, clashed, clashes, forbids_stay, has_misfit, is_clash, is_misfit, stay}
 use Rattle.fare_rules.specs.Best.{IsLawful}
 use Rattle.fare_rules.proofs.LawfulLemmas.{kept}
 use Rattle.fare_rules.proofs.MemberLemmas.{Member, member_numbers}
@@ -28,23 +28,15 @@ use Rattle.fare_homing.specs.Homing.{IsUpTo}
 use Rattle.fare_branch.specs.LastParts.{forbids_any, may_be_last, stay_until}
 use Rattle.fare_branch.specs.Stack.{goes_on}
 use Rattle.fare_branch.proofs.GoesOnLemmas.{going_on, not_so}
+use Rattle.fare_branch.proofs.PairLemmas.{allows, fits, last_half, not_true, own_place}
 use Rattle.fare_branch.proofs.SameLemmas.{fare_same}
 use Rattle.fare_branch.proofs.ShutLemmas.{any_at, both_true}
 use Rattle.fare_branch.proofs.StackFloorLemmas.{first_is, firsts, has_first_in}
 use Rattle.fare_branch.proofs.StackRowLemmas.{own_here, own_over, own_done}
-use Rattle.fare_branch.proofs.SumLemmas.{kept_member}
-use Rattle.fare_branch.proofs.UnitLemmas.{alone_in, own_has, unit_in}
+use Rattle.fare_branch.proofs.UnitLemmas.{own_has, unit_in}
 
 true_false : true ≡ false → ⊥
 true_false e = cc
-
-not_true : (b : Bool) → b ≡ false → not b ≡ true
-not_true true e = absurd (true_false e)
-not_true false e = refl
-
-second_false : (a b : Bool) → a ≡ true → (a && b) ≡ false → b ≡ false
-second_false true b e f = f
-second_false false b e f = absurd (true_false (sym e))
 
 -- a number of a row that is put in place of one that is under no more keeps what is under the numbers
 pub row_kept : (row : List (Option ℕ)) (p : ℕ) (item : Option ℕ) → p < length row → ((most : ℕ) → IsUpTo most (rest_at row p) → IsUpTo most item) → (i most : ℕ) → IsUpTo most (rest_at row i) → IsUpTo most (rest_at (set row p item) i)
@@ -87,14 +79,6 @@ none_in_range test first (suc n) fails = rw (fails first (omega arith) (omega ar
 none_of : (test : ℕ → Bool) (xs : List ℕ) → ((k : ℕ) → Member k xs → test k ≡ false) → list_any test xs ≡ false
 none_of test [] fails = refl
 none_of test (x ∷ xs) fails = rw (fails x (inl refl)) (none_of test xs (λ k m. fails k (inr m)))
-
--- a part of a unit has its number, and a place
-own_place : (parts : List Part) (unit k : ℕ) → Member k (own parts unit) → (1 ≤ k) × (k ≤ length parts) × (unit_of parts k ≡ unit)
-unfolding own
-own_place parts unit k m =
-    let h = kept_member (is_own parts unit) 1 (length parts + 1 - 1) k m in
-    let past : k < 1 + (length parts + 1 - 1) = h.1 in
-    (h.0, omega arith, eqb-true (unit_of parts k) unit h.2)
 
 module _ (tariff : Tariff) (trip : Itinerary) (front rest : List Part) (price : ℕ) (lawful : IsLawful tariff trip (front ++ rest) price) (unit : ℕ) (from_one : 1 ≤ unit) (in_front : unit ≤ greatest_unit front (places front)) (goes : goes_on (front ++ rest) (length front) unit ≡ true) where
   abbrev last : ℕ
@@ -150,12 +134,11 @@ module _ (tariff : Tariff) (trip : Itinerary) (front rest : List Part) (price : 
   clash_is : (j : ℕ) → 1 ≤ j → j ≤ length front → is_clash tariff longer (length front + 1) j ≡ is_clash tariff (front ++ rest) last j
   clash_is j one most = rw (unit_last, unit_first j one most, fare_first j one most, fare_last) refl
 
-  fits : has_misfit tariff (front ++ rest) last ≡ false
-  unfolding misfitted
-  fits =
-      not_so (has_misfit tariff (front ++ rest) last) (λ t.
-      true_false (sym (any_at (has_misfit tariff (front ++ rest)) last (own (front ++ rest) unit) last_in t)
-      ∙ find_none (is_misfitted tariff (front ++ rest)) 1 (greatest_unit (front ++ rest) (places (front ++ rest)) + 1) (kept tariff trip (front ++ rest) price lawful).combine unit from_one (let most : unit ≤ greatest_unit (front ++ rest) (places (front ++ rest)) = high in omega arith)))
+  two : first_of (own (front ++ rest) unit) < last_of (own (front ++ rest) unit)
+  two =
+      let begun : first_of (own (front ++ rest) unit) ≤ length front = (going_on tariff trip (front ++ rest) price lawful (length front) unit goes).begun in
+      let after : length front < last = past in
+      omega arith
 
   agrees : clashes tariff (front ++ rest) last ≡ false
   unfolding clashed
@@ -168,7 +151,7 @@ module _ (tariff : Tariff) (trip : Itinerary) (front rest : List Part) (price : 
   longer_fits =
       let after : length front < last = past in
       none_in_range (is_misfit tariff longer (length front + 1)) 1 (length front + 1 - 1)
-      (λ j one less. misfit_is j one (omega arith) ∙ not_so (is_misfit tariff (front ++ rest) last j) (λ t. true_false (sym (any_at (is_misfit tariff (front ++ rest) last) j (numbers 1 last) (member_numbers 1 last j one (omega arith)) t) ∙ fits)))
+      (λ j one less. misfit_is j one (omega arith) ∙ not_so (is_misfit tariff (front ++ rest) last j) (λ t. true_false (sym (any_at (is_misfit tariff (front ++ rest) last) j (numbers 1 last) (member_numbers 1 last j one (omega arith)) t) ∙ fits tariff trip (front ++ rest) price lawful unit from_one high two)))
 
   longer_agrees : clashes tariff longer (length front + 1) ≡ false
   longer_agrees =
@@ -183,34 +166,15 @@ module _ (tariff : Tariff) (trip : Itinerary) (front rest : List Part) (price : 
       let here : (has_misfit tariff longer (length front + 1) || clashes tariff longer (length front + 1)) ≡ false = rw (longer_fits, longer_agrees) refl in
       subst P (sym long) here
 
-  -- the unit is one of half round trips
-  pub no_ow : holds_ow tariff (front ++ rest) (own (front ++ rest) unit) ≡ false
-  no_ow =
-      not_so (holds_ow tariff (front ++ rest) (own (front ++ rest) unit)) (λ t.
-      let one = alone_in tariff trip (front ++ rest) price lawful unit from_one high t in
-      let first : first_of (own (front ++ rest) unit) ≡ one.0 = ap first_of one.1 in
-      let end : last_of (own (front ++ rest) unit) ≡ one.0 = ap last_of one.1 in
-      let begun : first_of (own (front ++ rest) unit) ≤ length front = (going_on tariff trip (front ++ rest) price lawful (length front) unit goes).begun in
-      let after : length front < last = past in
-      omega arith)
-
   pub not_ow : is_ow tariff (front ++ rest) last ≡ false
-  not_ow = not_so (is_ow tariff (front ++ rest) last) (λ t. true_false (sym (any_at (is_ow tariff (front ++ rest)) last (own (front ++ rest) unit) last_in t) ∙ no_ow))
+  not_ow = last_half tariff trip (front ++ rest) price lawful unit from_one high two
 
   -- and each rule of it allows the stay
   abbrev days : ℕ
   days = stay trip (front ++ rest) (own (front ++ rest) unit)
 
-  allowed : list_any (forbids_stay tariff (front ++ rest) days) (own (front ++ rest) unit) ≡ false
-  unfolding mistimed is_hr
-  allowed =
-      let most : unit ≤ greatest_unit (front ++ rest) (places (front ++ rest)) = high in
-      let timed : is_mistimed tariff trip (front ++ rest) unit ≡ false = find_none (is_mistimed tariff trip (front ++ rest)) 1 (greatest_unit (front ++ rest) (places (front ++ rest)) + 1) (kept tariff trip (front ++ rest) price lawful).stay unit from_one (omega arith) in
-      let half : not (holds_ow tariff (front ++ rest) (own (front ++ rest) unit)) ≡ true = not_true (holds_ow tariff (front ++ rest) (own (front ++ rest) unit)) no_ow in
-      second_false (not (holds_ow tariff (front ++ rest) (own (front ++ rest) unit))) (list_any (forbids_stay tariff (front ++ rest) days) (own (front ++ rest) unit)) half timed
-
-  allows : (k : ℕ) → Member k (own (front ++ rest) unit) → forbids_stay tariff (front ++ rest) days k ≡ false
-  allows k m = not_so (forbids_stay tariff (front ++ rest) days k) (λ t. true_false (sym (any_at (forbids_stay tariff (front ++ rest) days) k (own (front ++ rest) unit) m t) ∙ allowed))
+  allowed : (k : ℕ) → Member k (own (front ++ rest) unit) → forbids_stay tariff (front ++ rest) days k ≡ false
+  allowed = allows tariff trip (front ++ rest) price lawful unit from_one high two
 
   longer_allows : (k : ℕ) → Member k (own longer unit) → forbids_stay tariff longer days k ≡ false
   longer_allows k m =
@@ -221,14 +185,14 @@ module _ (tariff : Tariff) (trip : Itinerary) (front rest : List Part) (price : 
       elim (cases_eq k (length front + 1)) [
         | inl e ↦
             let P : ℕ → Type 0 = λ j. forbids_stay tariff longer days j ≡ false in
-            subst P (sym e) (ap (λ fare. not (allows_stay_of tariff days fare)) fare_last ∙ allows last last_in)
+            subst P (sym e) (ap (λ fare. not (allows_stay_of tariff days fare)) fare_last ∙ allowed last last_in)
         | inr other ↦
             let within_front : k ≤ length front = omega arith in
             let of_unit : unit_of (front ++ rest) k ≡ unit = sym (unit_first k one within_front) ∙ place.2 in
             let all_parts : length (front ++ rest) ≡ length front + length rest = length-append front rest in
             let Q : ℕ → Type 0 = λ u. Member k (own (front ++ rest) u) in
             ap (λ fare. not (allows_stay_of tariff days fare)) (fare_first k one within_front)
-            ∙ allows k (subst Q of_unit (own_has tariff trip (front ++ rest) price lawful k one (omega arith)))
+            ∙ allowed k (subst Q of_unit (own_has tariff trip (front ++ rest) price lawful k one (omega arith)))
       ]
 
   -- the stay is told by the first parts and by where the last part begins

@@ -27,6 +27,8 @@ use Rattle.fare_branch.proofs.CostLemmas.{unit_from_one}
 use Rattle.fare_branch.proofs.UnitLemmas.{all, own_has, unit_in, alone_in, holds_none}
 use Rattle.fare_branch.proofs.GoesOnLemmas.{going_on, goes_not, goes_on_from, on_same, none_above, home_behind, own_first, own_last, own_two, two_ends}
 use Rattle.fare_branch.proofs.NearLemmas.{EndsBy, unit_ends_by}
+use Rattle.fare_homing.specs.Pairs.{HasPair}
+use Rattle.fare_branch.proofs.PairLemmas.{pair_of}
 use Rattle.fare_branch.proofs.OnwardLemmas.{ends_rise, must_close_from, closed_whole, ends_home, either_left, either_right}
 use Rattle.fare_branch.specs.Costs.{true_cost}
 use Rattle.fare_branch.specs.Stack.{goes_on, IsOver, LastsBy}
@@ -117,6 +119,25 @@ module _ (tariff : Tariff) (trip : Itinerary) (parts : List Part) (price : ℕ) 
       let same : begin_after trip (point_behind parts k) ≡ start_of trip parts (k + 1) = begins_next k high in
       let above : start_of trip parts (k + 1) < end_of parts (k + 1) = cover.above (k + 1) (omega arith) high in
       omega arith
+
+  -- and a later one begins where it ends, or behind that
+  starts_behind : (k z : ℕ) → 1 ≤ k → k < z → z ≤ length parts → end_of parts k ≤ start_of trip parts z
+  starts_behind k zero low less within = absurd (omega arith)
+  starts_behind k (suc m) low less within =
+      let n : m + 1 ≡ suc m = omega arith in
+      let P : ℕ → Type 0 = λ z. begin_after trip (point_behind parts m) ≡ start_of trip parts z in
+      let begins : begin_after trip (point_behind parts m) ≡ start_of trip parts (suc m) = subst P n (begins_next m (omega arith)) in
+      let later : point_behind parts m ≤ begin_after trip (point_behind parts m) = begins_later trip (point_behind parts m) in
+      let before : end_of parts k ≤ point_behind parts m = ends_before k m low (omega arith) (omega arith) in
+      omega arith
+    where
+      ends_before : (k m : ℕ) → 1 ≤ k → k ≤ m → m ≤ length parts → end_of parts k ≤ point_behind parts m
+      ends_before k zero low le within = absurd (omega arith)
+      ends_before k (suc m) low le within =
+          elim (cases_eq k (suc m)) [
+            | inl same ↦ let P : ℕ → Type 0 = λ j. end_of parts j ≤ point_behind parts (suc m) in subst P (sym same) (omega arith)
+            | inr other ↦ let rise : end_of parts k < end_of parts (suc m) = ends_rise trip parts (all tariff trip parts price lawful) k (suc m) low (omega arith) within in omega arith
+          ]
 
   -- a unit of half round trips has two parts or more; of three or more the last ends in the city where the first begins
   half_shape : (unit : ℕ) → 1 ≤ unit → unit ≤ greatest_unit parts (places parts) → (xs : List ℕ) → own parts unit ≡ xs → holds_ow tariff parts xs ≡ false → (2 ≤ length xs) × (3 ≤ length xs → comes_home trip parts xs ≡ true)
@@ -334,7 +355,15 @@ module _ (tariff : Tariff) (trip : Itinerary) (parts : List Part) (price : ℕ) 
             let some : 2 ≤ length (own parts (unit_of parts (k + 1))) = shape.0 in
             let may : may_end_at tariff trip (begin_after trip (point_behind parts k)) (home_at parts (unit_of parts (k + 1))) ≡ true = subst Q begins (half_ends_by (unit_of parts (k + 1)) mine_low mine_high (own parts (unit_of parts (k + 1))) refl (omega arith) none_ow) in
             let cost = first_costs tariff trip parts price lawful (k + 1) (omega arith) high way first less in
-            let up : IsUpTo (true_cost tariff trip parts (k + 1) + c.0) (whole (point_behind parts k) (home_at parts (unit_of parts (k + 1)))) = up_more (true_cost tariff trip parts (k + 1) + homing.0) (true_cost tariff trip parts (k + 1) + c.0) (whole (point_behind parts k) (home_at parts (unit_of parts (k + 1)))) (omega arith) (first_under are (point_behind parts k) (end_of parts (k + 1)) (home_at parts (unit_of parts (k + 1))) (entry tariff trip parts price lawful (k + 1)) (true_cost tariff trip parts (k + 1)) homing.0 contained cost h.0 may homing.1) in
+            let last_costs : true_cost tariff trip parts (last_of (own parts (unit_of parts (k + 1)))) ≤ c.0 = c.5.costs in
+            let g = going_on tariff trip parts price lawful (k + 1) (unit_of parts (k + 1)) (goes less) in
+            let F : ℕ → Type 0 = λ f. end_of parts f ≤ start_of trip parts (last_of (own parts (unit_of parts (k + 1)))) in
+            let G : ℕ → Type 0 = λ f. true_cost tariff trip parts f + true_cost tariff trip parts (last_of (own parts (unit_of parts (k + 1)))) ≤ true_cost tariff trip parts (k + 1) + c.0 in
+            let H : ℕ → Type 0 = λ a. HasPair tariff trip a (home_at parts (unit_of parts (k + 1))) (true_cost tariff trip parts (k + 1) + c.0) in
+            let pair : HasPair tariff trip (begin_after trip (point_behind parts k)) (home_at parts (unit_of parts (k + 1))) (true_cost tariff trip parts (k + 1) + c.0) =
+            subst H begins (pair_of tariff trip parts price lawful (unit_of parts (k + 1)) mine_low mine_high apart (true_cost tariff trip parts (k + 1) + c.0) (subst F (sym first) (starts_behind (k + 1) (last_of (own parts (unit_of parts (k + 1)))) (omega arith) less g.within)) (subst G (sym first) (omega arith))) in
+            let up : IsUpTo (true_cost tariff trip parts (k + 1) + c.0) (whole (point_behind parts k) (home_at parts (unit_of parts (k + 1)))) =
+            first_under are (point_behind parts k) (end_of parts (k + 1)) (home_at parts (unit_of parts (k + 1))) (entry tariff trip parts price lawful (k + 1)) (true_cost tariff trip parts (k + 1)) homing.0 (true_cost tariff trip parts (k + 1) + c.0) contained cost h.0 may homing.1 (omega arith) pair in
             let rise : point_behind parts k < end_of parts (k + 1) = rises in
             let past : end_of parts (k + 1) < home_at parts (unit_of parts (k + 1)) = h.0 in
             let o : Stands (k + 1) (unit_of parts (k + 1) - 1) (point_behind parts k) ((true_cost tariff trip parts (k + 1) + c.0) + c.1) =
