@@ -23,7 +23,7 @@ use Rattle.fare_bounds.specs.Covers.{least_cost, rest_at}
 use Rattle.fare_homing.specs.declared.homing.Homing.{Homing}
 use Rattle.fare_branch.specs.declared.ahead.Ahead.{Ahead}
 use Rattle.fare_branch.specs.Ahead.{AreAhead, AreBehindHalf, IsBehindNext, IsHalfRow, must_go_from}
-use Rattle.fare_branch.specs.Costs.{or_nothing, part_least, units_floor}
+use Rattle.fare_branch.specs.Costs.{or_nothing, part_least, true_cost, units_floor}
 use Rattle.fare_branch.specs.Floors.{IsFloorAnswer}
 use Rattle.fare_branch.specs.Joining.{is_stuck}
 use Rattle.fare_homing.specs.Homing.{IsUpTo, homing_at, is_same_city, may_end_at}
@@ -33,7 +33,7 @@ use Rattle.fare_branch.proofs.OverLemmas.{all_over, alone_behind, apart, behind_
 use Rattle.fare_homing.proofs.ReachLemmas.{up_more}
 use Rattle.fare_branch.proofs.ShutLemmas.{own_behind}
 use Rattle.fare_branch.proofs.StackFloorLemmas.{first_is, firsts, has_first_in, not_stuck, not_shut, spent_up}
-use Rattle.fare_branch.proofs.StackLemmas.{true_cost, begins_at, home_at, over_down}
+use Rattle.fare_branch.proofs.StackLemmas.{begins_at, home_at, over_down}
 use Rattle.fare_branch.proofs.SumLemmas.{kept_member, unit_up_to}
 use Rattle.fare_branch.proofs.TrueCostLemmas.{alone_cost, no_single, true_least}
 use Rattle.fare_branch.proofs.UnitLemmas.{member_kept, own_has, range_has}
@@ -75,7 +75,7 @@ module _ (table : Pricing) (homing : Homing) (are : AreHomingsOf table.edition t
   unit_is = ap (λ (p : Part). p.unit) (next_part front part rest)
 
   abbrev Stands : ℕ → ℕ → ℕ → ℕ → Type 0
-  Stands k u i cost = IsOver table.trip (cell homing.closing) (cell homing.jaw) (rest_at homing.rest) (front ++ part ∷ rest) k u i cost
+  Stands k u i cost = IsOver table.edition table.trip (cell homing.closing) (cell homing.jaw) (rest_at homing.rest) (front ++ part ∷ rest) k u i cost
 
   mine : Member (length front + 1) (own (front ++ part ∷ rest) (unit_of (front ++ part ∷ rest) (length front + 1)))
   mine = own_has table.edition table.trip (front ++ part ∷ rest) price lawful (length front + 1) (omega arith) high
@@ -192,7 +192,7 @@ module _ (table : Pricing) (homing : Homing) (are : AreHomingsOf table.edition t
       (row_is_under table homing are front part rest price lawful cost over way under row (subst P below_it known) start begins false row_is (λ t. absurd (true_false (sym t))) (λ f. first))
     where
       first_now : (part : Part) (rest : List Part) (price cost : ℕ) (lawful : IsLawful table.edition table.trip (front ++ part ∷ rest) price)
-          → IsOver table.trip (cell homing.closing) (cell homing.jaw) (rest_at homing.rest) (front ++ part ∷ rest) (length front + 1) (greatest_unit (front ++ part ∷ rest) (places (front ++ part ∷ rest))) (end_of (front ++ part ∷ rest) (length front + 1)) cost
+          → IsOver table.edition table.trip (cell homing.closing) (cell homing.jaw) (rest_at homing.rest) (front ++ part ∷ rest) (length front + 1) (greatest_unit (front ++ part ∷ rest) (places (front ++ part ∷ rest))) (end_of (front ++ part ∷ rest) (length front + 1)) cost
           → unit_of (front ++ part ∷ rest) (length front + 1) ≡ unit → unit ≡ greatest_unit front (places front) + 1 → first_of (own (front ++ part ∷ rest) (unit_of (front ++ part ∷ rest) (length front + 1))) ≡ length front + 1
       first_now part rest price cost lawful over e new =
           let most : first_of (own (front ++ part ∷ rest) (unit_of (front ++ part ∷ rest) (length front + 1))) ≤ length front + 1 = first_by table.edition table.trip (front ++ part ∷ rest) price lawful (cell homing.closing) (cell homing.jaw) (cell homing.whole) (rest_at homing.rest) are (length front) (high table homing are front part rest price lawful) cost over in
@@ -246,11 +246,11 @@ module _ (table : Pricing) (homing : Homing) (are : AreHomingsOf table.edition t
         (ahead.spent + part_least table.edition table.trip (front ++ part ∷ rest) (length front + 1) + up.0, ap (option_map (λ more. ahead.spent + part_least table.edition table.trip (front ++ part ∷ rest) (length front + 1) + more)) up.1, omega arith)
 
     next_over : (part : Part) (rest : List Part) (price : ℕ) → IsLawful table.edition table.trip (front ++ part ∷ rest) price
-        → IsOver table.trip (cell homing.closing) (cell homing.jaw) (rest_at homing.rest) (front ++ part ∷ rest) (length front + 1) (greatest_unit (front ++ part ∷ rest) (places (front ++ part ∷ rest))) (end_of (front ++ part ∷ rest) (length front + 1))
+        → IsOver table.edition table.trip (cell homing.closing) (cell homing.jaw) (rest_at homing.rest) (front ++ part ∷ rest) (length front + 1) (greatest_unit (front ++ part ∷ rest) (places (front ++ part ∷ rest))) (end_of (front ++ part ∷ rest) (length front + 1))
         (sum_by (true_cost table.edition table.trip (front ++ part ∷ rest)) (range_with_len (length front + 1 + 1) (length rest)))
     next_over part rest price lawful =
         let n : length (front ++ part ∷ rest) ≡ length front + suc (length rest) = length-append front (part ∷ rest) in
-        let P : ℕ → Type 0 = λ j. IsOver table.trip (cell homing.closing) (cell homing.jaw) (rest_at homing.rest) (front ++ part ∷ rest) (length front + 1) (greatest_unit (front ++ part ∷ rest) (places (front ++ part ∷ rest))) j (sum_by (true_cost table.edition table.trip (front ++ part ∷ rest)) (range_with_len (length front + 1 + 1) (length rest))) in
+        let P : ℕ → Type 0 = λ j. IsOver table.edition table.trip (cell homing.closing) (cell homing.jaw) (rest_at homing.rest) (front ++ part ∷ rest) (length front + 1) (greatest_unit (front ++ part ∷ rest) (places (front ++ part ∷ rest))) j (sum_by (true_cost table.edition table.trip (front ++ part ∷ rest)) (range_with_len (length front + 1 + 1) (length rest))) in
         subst P (behind_next (front ++ part ∷ rest) (length front)) (all_over table.edition table.trip (front ++ part ∷ rest) price lawful (cell homing.closing) (cell homing.jaw) (cell homing.whole) (rest_at homing.rest) are (length rest) (length front + 1) (omega arith))
 
     alone_by : AreOver table homing front (greatest_unit front (places front)) ahead.alone → (part : Part) (rest : List Part) (price : ℕ) → IsLawful table.edition table.trip (front ++ part ∷ rest) price → is_ow table.edition (front ++ part ∷ rest) (length front + 1) ≡ true
@@ -260,7 +260,7 @@ module _ (table : Pricing) (homing : Homing) (are : AreHomingsOf table.edition t
         let cost : ℕ = sum_by (true_cost table.edition table.trip (front ++ part ∷ rest)) (range_with_len (length front + 1 + 1) (length rest)) in
         let up_to_end = high table homing are front part rest price lawful in
         let o = alone_behind table.edition table.trip (front ++ part ∷ rest) price lawful (cell homing.closing) (cell homing.jaw) (cell homing.whole) (rest_at homing.rest) are (length front) up_to_end (sum_by (true_cost table.edition table.trip (front ++ part ∷ rest)) (range_with_len (length front + 1 + 1) (length rest))) over way in
-        let down = over_down table.trip (cell homing.closing) (cell homing.jaw) (rest_at homing.rest) (front ++ part ∷ rest) (length front) (greatest_unit front (places front)) (greatest_unit (front ++ part ∷ rest) (places (front ++ part ∷ rest))) (end_of (front ++ part ∷ rest) (length front + 1))
+        let down = over_down table.edition table.trip (cell homing.closing) (cell homing.jaw) (rest_at homing.rest) (front ++ part ∷ rest) (length front) (greatest_unit front (places front)) (greatest_unit (front ++ part ∷ rest) (places (front ++ part ∷ rest))) (end_of (front ++ part ∷ rest) (length front + 1))
         (sum_by (true_cost table.edition table.trip (front ++ part ∷ rest)) (range_with_len (length front + 1 + 1) (length rest))) (fewer table.edition table.trip front (part ∷ rest) price lawful) (λ v low most. none_new table.edition table.trip front (part ∷ rest) price lawful v low) o in
         let S : ℕ → Type 0 = λ i. IsUpTo (sum_by (true_cost table.edition table.trip (front ++ part ∷ rest)) (range_with_len (length front + 1 + 1) (length rest))) (rest_at ahead.alone i) in
         by_cost part rest price lawful (rest_at ahead.alone part.end)

@@ -21,7 +21,7 @@ use Rattle.fare_branch.proofs.SumLemmas.{kept_member}
 true_false : true ≡ false → ⊥
 true_false e = cc
 
-not_so : (b : Bool) → (b ≡ true → ⊥) → b ≡ false
+pub not_so : (b : Bool) → (b ≡ true → ⊥) → b ≡ false
 not_so true h = absurd (h refl)
 not_so false h = refl
 

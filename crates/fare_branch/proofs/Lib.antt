@@ -24,6 +24,9 @@ pub mod CrossingLemmas
 pub mod StackRowLemmas
 pub mod StackFloorLemmas
 pub mod StackLemmas
+pub mod PairLemmas
+pub mod LastPartLemmas
+pub mod OverLastLemmas
 pub mod GoesOnLemmas
 pub mod TrueCostLemmas
 pub mod OverLemmas

@@ -27,11 +27,14 @@ use Rattle.fare_branch.proofs.CostLemmas.{unit_from_one}
 use Rattle.fare_branch.proofs.UnitLemmas.{all, own_has, unit_in, alone_in, holds_none}
 use Rattle.fare_branch.proofs.GoesOnLemmas.{going_on, goes_not, goes_on_from, on_same, none_above, home_behind, own_first, own_last, own_two, two_ends}
 use Rattle.fare_branch.proofs.NearLemmas.{EndsBy, unit_ends_by}
+use Rattle.fare_homing.specs.Pairs.{HasPair}
+use Rattle.fare_branch.proofs.PairLemmas.{pair_of}
 use Rattle.fare_branch.proofs.OnwardLemmas.{ends_rise, must_close_from, closed_whole, ends_home, either_left, either_right}
-use Rattle.fare_branch.specs.Stack.{goes_on, IsOver}
+use Rattle.fare_branch.specs.Costs.{true_cost}
+use Rattle.fare_branch.specs.Stack.{goes_on, IsOver, LastsBy}
 use Rattle.fare_homing.proofs.ReachLemmas.{up_more}
 use Rattle.fare_homing.proofs.UnderLemmas.{alone_under, between_under, first_under, last_closes_under, last_jaw_under, nothing_left}
-use Rattle.fare_branch.proofs.StackLemmas.{true_cost, home_at, begins_at, over_more, over_same, over_down, over_up, Opens, opens, from_open, step_over}
+use Rattle.fare_branch.proofs.StackLemmas.{home_at, begins_at, lasts_more, over_more, over_same, over_down, over_up, Opens, opens, from_open, step_over}
 use Rattle.fare_branch.proofs.ShutLemmas.{any_at, long_ends_at_home}
 use Rattle.fare_branch.proofs.SumLemmas.{greatest_fewer, unit_up_to}
 use Rattle.fare_branch.proofs.TrueCostLemmas.{entry, entry_there, alone_cost, first_costs, back_costs, between_costs}
@@ -117,6 +120,25 @@ module _ (tariff : Tariff) (trip : Itinerary) (parts : List Part) (price : ℕ) 
       let above : start_of trip parts (k + 1) < end_of parts (k + 1) = cover.above (k + 1) (omega arith) high in
       omega arith
 
+  -- and a later one begins where it ends, or behind that
+  starts_behind : (k z : ℕ) → 1 ≤ k → k < z → z ≤ length parts → end_of parts k ≤ start_of trip parts z
+  starts_behind k zero low less within = absurd (omega arith)
+  starts_behind k (suc m) low less within =
+      let n : m + 1 ≡ suc m = omega arith in
+      let P : ℕ → Type 0 = λ z. begin_after trip (point_behind parts m) ≡ start_of trip parts z in
+      let begins : begin_after trip (point_behind parts m) ≡ start_of trip parts (suc m) = subst P n (begins_next m (omega arith)) in
+      let later : point_behind parts m ≤ begin_after trip (point_behind parts m) = begins_later trip (point_behind parts m) in
+      let before : end_of parts k ≤ point_behind parts m = ends_before k m low (omega arith) (omega arith) in
+      omega arith
+    where
+      ends_before : (k m : ℕ) → 1 ≤ k → k ≤ m → m ≤ length parts → end_of parts k ≤ point_behind parts m
+      ends_before k zero low le within = absurd (omega arith)
+      ends_before k (suc m) low le within =
+          elim (cases_eq k (suc m)) [
+            | inl same ↦ let P : ℕ → Type 0 = λ j. end_of parts j ≤ point_behind parts (suc m) in subst P (sym same) (omega arith)
+            | inr other ↦ let rise : end_of parts k < end_of parts (suc m) = ends_rise trip parts (all tariff trip parts price lawful) k (suc m) low (omega arith) within in omega arith
+          ]
+
   -- a unit of half round trips has two parts or more; of three or more the last ends in the city where the first begins
   half_shape : (unit : ℕ) → 1 ≤ unit → unit ≤ greatest_unit parts (places parts) → (xs : List ℕ) → own parts unit ≡ xs → holds_ow tariff parts xs ≡ false → (2 ≤ length xs) × (3 ≤ length xs → comes_home trip parts xs ≡ true)
   half_shape unit low high xs e none =
@@ -140,7 +162,7 @@ module _ (tariff : Tariff) (trip : Itinerary) (parts : List Part) (price : ℕ) 
 
   module _ (closing jaw whole : ℕ → ℕ → Option ℕ) (left : ℕ → Option ℕ) (are : AreHomings tariff trip closing jaw whole left) where
     abbrev Stands : ℕ → ℕ → ℕ → ℕ → Type 0
-    Stands k u i cost = IsOver trip closing jaw left parts k u i cost
+    Stands k u i cost = IsOver tariff trip closing jaw left parts k u i cost
 
     at_city : (start i j x : ℕ) → is_same_city trip start j ≡ true → IsUpTo x (homing_at trip closing jaw start i j) → IsUpTo x (closing i j)
     at_city start i j x t up = rw t at up
@@ -208,7 +230,7 @@ module _ (tariff : Tariff) (trip : Itinerary) (parts : List Part) (price : ℕ) 
       under_same : (i x : ℕ) → Stands (k + 1) (unit_of parts (k + 1) - 1) i x → Stands k (unit_of parts (k + 1) - 1) i x
       under_same i x o =
           let low_mine : 1 ≤ unit_of parts (k + 1) = mine_low in
-          over_same trip closing jaw left parts (k + 1) k (unit_of parts (k + 1) - 1) i x (λ v low most. other_same v (λ e. omega arith)) o
+          over_same tariff trip closing jaw left parts (k + 1) k (unit_of parts (k + 1) - 1) i x (λ v low most. other_same v (λ e. omega arith)) o
 
       under_most : unit_of parts (k + 1) - 1 ≤ greatest_unit parts (places parts)
       under_most = let most : unit_of parts (k + 1) ≤ greatest_unit parts (places parts) = mine_high in omega arith
@@ -234,13 +256,13 @@ module _ (tariff : Tariff) (trip : Itinerary) (parts : List Part) (price : ℕ) 
 
         -- so what is over the units behind it is over those before it
         pub alone_behind : Stands k (greatest_unit parts (places parts)) (end_of parts (k + 1)) behind
-        alone_behind = over_same trip closing jaw left parts (k + 1) k (greatest_unit parts (places parts)) (end_of parts (k + 1)) behind (λ v low most. alone_same v) over
+        alone_behind = over_same tariff trip closing jaw left parts (k + 1) k (greatest_unit parts (places parts)) (end_of parts (k + 1)) behind (λ v low most. alone_same v) over
 
         alone_over : Stands k (greatest_unit parts (places parts)) (point_behind parts k) (true_cost tariff trip parts (k + 1) + behind)
         alone_over =
             let up : IsUpTo (true_cost tariff trip parts (k + 1)) (whole (point_behind parts k) (end_of parts (k + 1))) = alone_under are (point_behind parts k) (end_of parts (k + 1)) (entry tariff trip parts price lawful (k + 1)) (true_cost tariff trip parts (k + 1)) contained (alone_cost tariff trip parts price lawful (k + 1) (omega arith) high way) in
             let o : Stands (k + 1) (greatest_unit parts (places parts)) (point_behind parts k) (true_cost tariff trip parts (k + 1) + behind) = step_over tariff trip closing jaw whole left are parts (k + 1) (greatest_unit parts (places parts)) (point_behind parts k) (end_of parts (k + 1)) (true_cost tariff trip parts (k + 1)) behind rises within up (λ v low most t. home_later v t) over in
-            over_same trip closing jaw left parts (k + 1) k (greatest_unit parts (places parts)) (point_behind parts k) (true_cost tariff trip parts (k + 1) + behind) (λ v low most. alone_same v) o
+            over_same tariff trip closing jaw left parts (k + 1) k (greatest_unit parts (places parts)) (point_behind parts k) (true_cost tariff trip parts (k + 1) + behind) (λ v low most. alone_same v) o
 
       -- a half round trip stands first, between or last in its unit
       module _ (way : is_ow tariff parts (k + 1) ≡ false) where
@@ -272,14 +294,14 @@ module _ (tariff : Tariff) (trip : Itinerary) (parts : List Part) (price : ℕ) 
           goes : goes_on parts (k + 1) (unit_of parts (k + 1)) ≡ true
           goes = goes_on_from parts (k + 1) (unit_of parts (k + 1)) first_by less
 
-          opened : Opens trip closing jaw left parts (k + 1) (unit_of parts (k + 1)) (end_of parts (k + 1)) behind
-          opened = opens trip closing jaw left parts (k + 1) (unit_of parts (k + 1)) (end_of parts (k + 1)) behind mine_low goes (over_down trip closing jaw left parts (k + 1) (unit_of parts (k + 1)) (greatest_unit parts (places parts)) (end_of parts (k + 1)) behind mine_high (λ v low most. above_not_next v low) over)
+          opened : Opens tariff trip closing jaw left parts (k + 1) (unit_of parts (k + 1)) (end_of parts (k + 1)) behind
+          opened = opens tariff trip closing jaw left parts (k + 1) (unit_of parts (k + 1)) (end_of parts (k + 1)) behind mine_low goes (over_down tariff trip closing jaw left parts (k + 1) (unit_of parts (k + 1)) (greatest_unit parts (places parts)) (end_of parts (k + 1)) behind mine_high (λ v low most. above_not_next v low) over)
 
         -- where it is the last of its unit, what is behind it is over the units before that
         pub last_behind : last_of (own parts (unit_of parts (k + 1))) ≡ k + 1 → Stands k (unit_of parts (k + 1) - 1) (end_of parts (k + 1)) behind
         last_behind last =
             let next : goes_on parts (k + 1) (unit_of parts (k + 1)) ≡ false = goes_not parts (k + 1) (unit_of parts (k + 1)) (λ a b. omega arith) in
-            under_same (end_of parts (k + 1)) behind (over_down trip closing jaw left parts (k + 1) (unit_of parts (k + 1) - 1) (greatest_unit parts (places parts)) (end_of parts (k + 1)) behind under_most (λ v low most. from_mine (k + 1) next above_not_next v low) over)
+            under_same (end_of parts (k + 1)) behind (over_down tariff trip closing jaw left parts (k + 1) (unit_of parts (k + 1) - 1) (greatest_unit parts (places parts)) (end_of parts (k + 1)) behind under_most (λ v low most. from_mine (k + 1) next above_not_next v low) over)
 
         -- and it ends where its unit may
         pub last_may : last_of (own parts (unit_of parts (k + 1))) ≡ k + 1 → may_end_at tariff trip (begins_at trip parts (unit_of parts (k + 1))) (end_of parts (k + 1)) ≡ true
@@ -333,7 +355,15 @@ module _ (tariff : Tariff) (trip : Itinerary) (parts : List Part) (price : ℕ) 
             let some : 2 ≤ length (own parts (unit_of parts (k + 1))) = shape.0 in
             let may : may_end_at tariff trip (begin_after trip (point_behind parts k)) (home_at parts (unit_of parts (k + 1))) ≡ true = subst Q begins (half_ends_by (unit_of parts (k + 1)) mine_low mine_high (own parts (unit_of parts (k + 1))) refl (omega arith) none_ow) in
             let cost = first_costs tariff trip parts price lawful (k + 1) (omega arith) high way first less in
-            let up : IsUpTo (true_cost tariff trip parts (k + 1) + c.0) (whole (point_behind parts k) (home_at parts (unit_of parts (k + 1)))) = up_more (true_cost tariff trip parts (k + 1) + homing.0) (true_cost tariff trip parts (k + 1) + c.0) (whole (point_behind parts k) (home_at parts (unit_of parts (k + 1)))) (omega arith) (first_under are (point_behind parts k) (end_of parts (k + 1)) (home_at parts (unit_of parts (k + 1))) (entry tariff trip parts price lawful (k + 1)) (true_cost tariff trip parts (k + 1)) homing.0 contained cost h.0 may homing.1) in
+            let last_costs : true_cost tariff trip parts (last_of (own parts (unit_of parts (k + 1)))) ≤ c.0 = c.5.costs in
+            let g = going_on tariff trip parts price lawful (k + 1) (unit_of parts (k + 1)) (goes less) in
+            let F : ℕ → Type 0 = λ f. end_of parts f ≤ start_of trip parts (last_of (own parts (unit_of parts (k + 1)))) in
+            let G : ℕ → Type 0 = λ f. true_cost tariff trip parts f + true_cost tariff trip parts (last_of (own parts (unit_of parts (k + 1)))) ≤ true_cost tariff trip parts (k + 1) + c.0 in
+            let H : ℕ → Type 0 = λ a. HasPair tariff trip a (home_at parts (unit_of parts (k + 1))) (true_cost tariff trip parts (k + 1) + c.0) in
+            let pair : HasPair tariff trip (begin_after trip (point_behind parts k)) (home_at parts (unit_of parts (k + 1))) (true_cost tariff trip parts (k + 1) + c.0) =
+            subst H begins (pair_of tariff trip parts price lawful (unit_of parts (k + 1)) mine_low mine_high apart (true_cost tariff trip parts (k + 1) + c.0) (subst F (sym first) (starts_behind (k + 1) (last_of (own parts (unit_of parts (k + 1)))) (omega arith) less g.within)) (subst G (sym first) (omega arith))) in
+            let up : IsUpTo (true_cost tariff trip parts (k + 1) + c.0) (whole (point_behind parts k) (home_at parts (unit_of parts (k + 1)))) =
+            first_under are (point_behind parts k) (end_of parts (k + 1)) (home_at parts (unit_of parts (k + 1))) (entry tariff trip parts price lawful (k + 1)) (true_cost tariff trip parts (k + 1)) homing.0 (true_cost tariff trip parts (k + 1) + c.0) contained cost h.0 may homing.1 (omega arith) pair in
             let rise : point_behind parts k < end_of parts (k + 1) = rises in
             let past : end_of parts (k + 1) < home_at parts (unit_of parts (k + 1)) = h.0 in
             let o : Stands (k + 1) (unit_of parts (k + 1) - 1) (point_behind parts k) ((true_cost tariff trip parts (k + 1) + c.0) + c.1) =
@@ -341,12 +371,13 @@ module _ (tariff : Tariff) (trip : Itinerary) (parts : List Part) (price : ℕ) 
             (λ v low most t. (home_behind tariff trip parts price lawful k v low high (omega arith) first less t, (home_later v t).1)) c.4 in
             let here : goes_on parts k (unit_of parts (k + 1)) ≡ false = goes_not parts k (unit_of parts (k + 1)) (λ a b. omega arith) in
             let m : Stands k (greatest_unit parts (places parts)) (point_behind parts k) ((true_cost tariff trip parts (k + 1) + c.0) + c.1) =
-            over_up trip closing jaw left parts k (unit_of parts (k + 1) - 1) (greatest_unit parts (places parts)) (point_behind parts k) ((true_cost tariff trip parts (k + 1) + c.0) + c.1) under_most (λ v low most. from_mine k here above_not v low) (under_same (point_behind parts k) ((true_cost tariff trip parts (k + 1) + c.0) + c.1) o) in
-            over_more trip closing jaw left parts k (greatest_unit parts (places parts)) (point_behind parts k) ((true_cost tariff trip parts (k + 1) + c.0) + c.1) (true_cost tariff trip parts (k + 1) + behind) (omega arith) m
+            over_up tariff trip closing jaw left parts k (unit_of parts (k + 1) - 1) (greatest_unit parts (places parts)) (point_behind parts k) ((true_cost tariff trip parts (k + 1) + c.0) + c.1) under_most (λ v low most. from_mine k here above_not v low) (under_same (point_behind parts k) ((true_cost tariff trip parts (k + 1) + c.0) + c.1) o) in
+            over_more tariff trip closing jaw left parts k (greatest_unit parts (places parts)) (point_behind parts k) ((true_cost tariff trip parts (k + 1) + c.0) + c.1) (true_cost tariff trip parts (k + 1) + behind) (omega arith) m
 
         between_over : first_of (own parts (unit_of parts (k + 1))) < k + 1 → k + 1 < last_of (own parts (unit_of parts (k + 1))) → Stands k (greatest_unit parts (places parts)) (point_behind parts k) (true_cost tariff trip parts (k + 1) + behind)
         between_over first less =
             let c = opened less in
+            let rise : point_behind parts k < end_of parts (k + 1) = rises in
             let sum : c.0 + c.1 ≤ behind = c.2 in
             let h = home_later (unit_of parts (k + 1)) (goes less) in
             let long : 3 ≤ length (own parts (unit_of parts (k + 1))) = three first less in
@@ -357,23 +388,28 @@ module _ (tariff : Tariff) (trip : Itinerary) (parts : List Part) (price : ℕ) 
             let low_homing : closes.0 ≤ c.0 = closes.2 in
             let up : IsUpTo (true_cost tariff trip parts (k + 1) + c.0) (closing (point_behind parts k) (home_at parts (unit_of parts (k + 1)))) = up_more (cost.0 + closes.0) (true_cost tariff trip parts (k + 1) + c.0) (closing (point_behind parts k) (home_at parts (unit_of parts (k + 1)))) (omega arith) (between_under are (point_behind parts k) (end_of parts (k + 1)) (home_at parts (unit_of parts (k + 1))) (entry tariff trip parts price lawful (k + 1)) cost.0 closes.0 contained cost.1 h.0 (ends_apart (unit_of parts (k + 1)) (k + 1) mine_low mine_high long (own_has tariff trip parts price lawful (k + 1) (omega arith) high) less city) closes.1) in
             let here : goes_on parts k (unit_of parts (k + 1)) ≡ true = goes_on_from parts k (unit_of parts (k + 1)) (omega arith) (omega arith) in
-            let o : Stands k (unit_of parts (k + 1)) (point_behind parts k) ((true_cost tariff trip parts (k + 1) + c.0) + c.1) = from_open trip closing jaw left parts k (unit_of parts (k + 1)) (point_behind parts k) (true_cost tariff trip parts (k + 1) + c.0) c.1 mine_low here (from_city (begins_at trip parts (unit_of parts (k + 1))) (point_behind parts k) (home_at parts (unit_of parts (k + 1))) (true_cost tariff trip parts (k + 1) + c.0) city up) (under_same (home_at parts (unit_of parts (k + 1))) c.1 c.4) in
-            let m : Stands k (greatest_unit parts (places parts)) (point_behind parts k) ((true_cost tariff trip parts (k + 1) + c.0) + c.1) = over_up trip closing jaw left parts k (unit_of parts (k + 1)) (greatest_unit parts (places parts)) (point_behind parts k) ((true_cost tariff trip parts (k + 1) + c.0) + c.1) mine_high (λ v low most. above_not v low) o in
-            over_more trip closing jaw left parts k (greatest_unit parts (places parts)) (point_behind parts k) ((true_cost tariff trip parts (k + 1) + c.0) + c.1) (true_cost tariff trip parts (k + 1) + behind) (omega arith) m
+            let o : Stands k (unit_of parts (k + 1)) (point_behind parts k) ((true_cost tariff trip parts (k + 1) + c.0) + c.1) = from_open tariff trip closing jaw left parts k (unit_of parts (k + 1)) (point_behind parts k) (true_cost tariff trip parts (k + 1) + c.0) c.1 mine_low here (from_city (begins_at trip parts (unit_of parts (k + 1))) (point_behind parts k) (home_at parts (unit_of parts (k + 1))) (true_cost tariff trip parts (k + 1) + c.0) city up) (under_same (home_at parts (unit_of parts (k + 1))) c.1 c.4)
+            (lasts_more tariff trip parts (last_of (own parts (unit_of parts (k + 1)))) (point_behind parts k) (end_of parts (k + 1)) c.0 (true_cost tariff trip parts (k + 1) + c.0) (omega arith) (omega arith) c.5) in
+            let m : Stands k (greatest_unit parts (places parts)) (point_behind parts k) ((true_cost tariff trip parts (k + 1) + c.0) + c.1) = over_up tariff trip closing jaw left parts k (unit_of parts (k + 1)) (greatest_unit parts (places parts)) (point_behind parts k) ((true_cost tariff trip parts (k + 1) + c.0) + c.1) mine_high (λ v low most. above_not v low) o in
+            over_more tariff trip closing jaw left parts k (greatest_unit parts (places parts)) (point_behind parts k) ((true_cost tariff trip parts (k + 1) + c.0) + c.1) (true_cost tariff trip parts (k + 1) + behind) (omega arith) m
 
         last_over : first_of (own parts (unit_of parts (k + 1))) < k + 1 → last_of (own parts (unit_of parts (k + 1))) ≡ k + 1 → Stands k (greatest_unit parts (places parts)) (point_behind parts k) (true_cost tariff trip parts (k + 1) + behind)
         last_over first last =
             let low_mine : 1 ≤ unit_of parts (k + 1) = mine_low in
             let next : goes_on parts (k + 1) (unit_of parts (k + 1)) ≡ false = goes_not parts (k + 1) (unit_of parts (k + 1)) (λ a b. omega arith) in
-            let o : Stands (k + 1) (unit_of parts (k + 1) - 1) (end_of parts (k + 1)) behind = over_down trip closing jaw left parts (k + 1) (unit_of parts (k + 1) - 1) (greatest_unit parts (places parts)) (end_of parts (k + 1)) behind under_most (λ v low most. from_mine (k + 1) next above_not_next v low) over in
+            let o : Stands (k + 1) (unit_of parts (k + 1) - 1) (end_of parts (k + 1)) behind = over_down tariff trip closing jaw left parts (k + 1) (unit_of parts (k + 1) - 1) (greatest_unit parts (places parts)) (end_of parts (k + 1)) behind under_most (λ v low most. from_mine (k + 1) next above_not_next v low) over in
             let cost = back_costs tariff trip parts price lawful (k + 1) (omega arith) high way last in
             let up : IsUpTo (true_cost tariff trip parts (k + 1)) (homing_at trip closing jaw (begins_at trip parts (unit_of parts (k + 1))) (point_behind parts k) (end_of parts (k + 1))) = last_up (begins_at trip parts (unit_of parts (k + 1))) cost in
             let home : end_of parts (k + 1) ≡ home_at parts (unit_of parts (k + 1)) = ap (end_of parts) (sym last) in
+            let L : ℕ → Type 0 = λ j. LastsBy tariff trip parts j (point_behind parts k) (true_cost tariff trip parts (k + 1)) in
+            let begins : begin_after trip (point_behind parts k) ≡ start_of trip parts (k + 1) = begins_next k high in
+            let later : point_behind parts k ≤ begin_after trip (point_behind parts k) = begins_later trip (point_behind parts k) in
+            let by_last : LastsBy tariff trip parts (last_of (own parts (unit_of parts (k + 1)))) (point_behind parts k) (true_cost tariff trip parts (k + 1)) = subst L (sym last) (record { begins = omega arith; costs = omega arith }) in
             let P : ℕ → Type 0 = λ j. IsUpTo (true_cost tariff trip parts (k + 1)) (homing_at trip closing jaw (begins_at trip parts (unit_of parts (k + 1))) (point_behind parts k) j) in
             let Q : ℕ → Type 0 = λ j. Stands k (unit_of parts (k + 1) - 1) j behind in
             let here : goes_on parts k (unit_of parts (k + 1)) ≡ true = goes_on_from parts k (unit_of parts (k + 1)) (omega arith) (omega arith) in
-            let m : Stands k (unit_of parts (k + 1)) (point_behind parts k) (true_cost tariff trip parts (k + 1) + behind) = from_open trip closing jaw left parts k (unit_of parts (k + 1)) (point_behind parts k) (true_cost tariff trip parts (k + 1)) behind mine_low here (subst P home up) (subst Q home (under_same (end_of parts (k + 1)) behind o)) in
-            over_up trip closing jaw left parts k (unit_of parts (k + 1)) (greatest_unit parts (places parts)) (point_behind parts k) (true_cost tariff trip parts (k + 1) + behind) mine_high (λ v low most. above_not v low) m
+            let m : Stands k (unit_of parts (k + 1)) (point_behind parts k) (true_cost tariff trip parts (k + 1) + behind) = from_open tariff trip closing jaw left parts k (unit_of parts (k + 1)) (point_behind parts k) (true_cost tariff trip parts (k + 1)) behind mine_low here (subst P home up) (subst Q home (under_same (end_of parts (k + 1)) behind o)) by_last in
+            over_up tariff trip closing jaw left parts k (unit_of parts (k + 1)) (greatest_unit parts (places parts)) (point_behind parts k) (true_cost tariff trip parts (k + 1) + behind) mine_high (λ v low most. above_not v low) m
 
         half_over : Stands k (greatest_unit parts (places parts)) (point_behind parts k) (true_cost tariff trip parts (k + 1) + behind)
         half_over =
@@ -397,7 +433,7 @@ module _ (tariff : Tariff) (trip : Itinerary) (parts : List Part) (price : ℕ) 
         let last : point_behind parts (length parts) ≡ count trip = behind_all parts ∙ (all tariff trip parts price lawful).last in
         let P : ℕ → Type 0 = λ j. left (point_behind parts j) ≡ Some 0 in
         let end : left (point_behind parts k) ≡ Some 0 = subst P (sym here) (ap left last ∙ nothing_left are) in
-        over_up trip closing jaw left parts k 0 (greatest_unit parts (places parts)) (point_behind parts k) 0 (omega arith) (λ v low most. none_behind v) (0, end, omega arith)
+        over_up tariff trip closing jaw left parts k 0 (greatest_unit parts (places parts)) (point_behind parts k) 0 (omega arith) (λ v low most. none_behind v) (0, end, omega arith)
       where
         none_behind : (v : ℕ) → goes_on parts k v ≡ false
         none_behind v = not_so (goes_on parts k v) (λ t. let g = going_on tariff trip parts price lawful k v t in let past : k < last_of (own parts v) = g.behind in let most : last_of (own parts v) ≤ length parts = g.within in omega arith)
@@ -436,10 +472,10 @@ module _ (tariff : Tariff) (trip : Itinerary) (front rest : List Part) (price : 
 -- what the parts behind the first parts of a lawful construction cost is over the units of these that go on
 pub behind_is_over : (tariff : Tariff) (trip : Itinerary) (closing jaw whole : ℕ → ℕ → Option ℕ) (left : ℕ → Option ℕ) → AreHomings tariff trip closing jaw whole left
     → (front rest : List Part) (price : ℕ) → IsLawful tariff trip (front ++ rest) price
-    → IsOver trip closing jaw left (front ++ rest) (length front) (greatest_unit front (places front)) (end_of front (length front)) (sum_by (true_cost tariff trip (front ++ rest)) (range_with_len (length front + 1) (length rest)))
+    → IsOver tariff trip closing jaw left (front ++ rest) (length front) (greatest_unit front (places front)) (end_of front (length front)) (sum_by (true_cost tariff trip (front ++ rest)) (range_with_len (length front + 1) (length rest)))
 behind_is_over tariff trip closing jaw whole left are front rest price lawful =
     let n : length (front ++ rest) ≡ length front + length rest = length-append front rest in
     let o = all_over tariff trip (front ++ rest) price lawful closing jaw whole left are (length rest) (length front) (sym n) in
-    let P : ℕ → Type 0 = λ i. IsOver trip closing jaw left (front ++ rest) (length front) (greatest_unit (front ++ rest) (places (front ++ rest))) i (sum_by (true_cost tariff trip (front ++ rest)) (range_with_len (length front + 1) (length rest))) in
-    over_down trip closing jaw left (front ++ rest) (length front) (greatest_unit front (places front)) (greatest_unit (front ++ rest) (places (front ++ rest))) (end_of front (length front)) (sum_by (true_cost tariff trip (front ++ rest)) (range_with_len (length front + 1) (length rest)))
+    let P : ℕ → Type 0 = λ i. IsOver tariff trip closing jaw left (front ++ rest) (length front) (greatest_unit (front ++ rest) (places (front ++ rest))) i (sum_by (true_cost tariff trip (front ++ rest)) (range_with_len (length front + 1) (length rest))) in
+    over_down tariff trip closing jaw left (front ++ rest) (length front) (greatest_unit front (places front)) (greatest_unit (front ++ rest) (places (front ++ rest))) (end_of front (length front)) (sum_by (true_cost tariff trip (front ++ rest)) (range_with_len (length front + 1) (length rest)))
     (fewer tariff trip front rest price lawful) (λ v low high. none_new tariff trip front rest price lawful v low) (subst P (behind_front front rest) o)

@@ -23,7 +23,7 @@ use Rattle.fare_units.proofs.NextLemmas.{front_start, front_unit, greatest_same}
 use Rattle.fare_bounds.specs.Covers.{rest_at}
 use Rattle.fare_homing.specs.declared.homing.Homing.{Homing}
 use Rattle.fare_branch.specs.declared.stacking.Open.{Open}
-use Rattle.fare_branch.specs.Costs.{part_least, units_floor}
+use Rattle.fare_branch.specs.Costs.{part_least, true_cost, units_floor}
 use Rattle.fare_homing.specs.Homing.{IsUpTo, homing_at}
 use Rattle.fare_branch.specs.Ending.{needs_more}
 use Rattle.fare_branch.specs.Floors.{IsFloorAnswer}
@@ -40,7 +40,6 @@ use Rattle.fare_branch.proofs.OverLemmas.{behind_is_over}
 use Rattle.fare_homing.proofs.ReachLemmas.{up_more}
 use Rattle.fare_branch.proofs.SameLemmas.{AreFirst}
 use Rattle.fare_branch.proofs.ShutLemmas.{own_behind, own_in_two, own_are_first, shut_alone, both_true, floor_by}
-use Rattle.fare_branch.proofs.StackLemmas.{true_cost}
 use Rattle.fare_branch.proofs.SumLemmas.{kept_member, sum_up, sum_up_members}
 use Rattle.fare_branch.proofs.TrueCostLemmas.{true_least, true_up}
 
@@ -75,7 +74,7 @@ module _ (tariff : Tariff) (trip : Itinerary) (front rest : List Part) (price : 
       let most : found.0 ≤ length front + 1 - 1 = found.2 in
       (found.0, found.1, omega arith, found.3)
 
-  in_all : (unit : ℕ) → 1 ≤ unit → unit ≤ greatest_unit front (places front) → unit ≤ greatest_unit (front ++ rest) (places (front ++ rest))
+  pub in_all : (unit : ℕ) → 1 ≤ unit → unit ≤ greatest_unit front (places front) → unit ≤ greatest_unit (front ++ rest) (places (front ++ rest))
   in_all unit low high =
       let n : length (front ++ rest) ≡ length front + length rest = length-append front rest in
       let a = begun unit low high in
@@ -117,7 +116,7 @@ module _ (tariff : Tariff) (trip : Itinerary) (front rest : List Part) (price : 
       first_is = ap first_of in_two
 
       -- where no part is behind, the unit doesn't go on
-      stays : own_behind tariff trip front rest unit ≡ [] → goes_on (front ++ rest) (length front) unit ≡ false
+      pub stays : own_behind tariff trip front rest unit ≡ [] → goes_on (front ++ rest) (length front) unit ≡ false
       stays none =
           let whole : own (front ++ rest) unit ≡ x ∷ xs = in_two ∙ ap (λ ys. (x ∷ xs) ++ ys) none ∙ append-nil (x ∷ xs) in
           let last : last_of (own (front ++ rest) unit) ≡ last_of (x ∷ xs) = ap last_of whole in
@@ -129,14 +128,14 @@ module _ (tariff : Tariff) (trip : Itinerary) (front rest : List Part) (price : 
         whole_is : own (front ++ rest) unit ≡ (x ∷ xs) ++ k ∷ more
         whole_is = in_two ∙ ap (λ ys. (x ∷ xs) ++ ys) some
 
-        last_is : last_of (own (front ++ rest) unit) ≡ last_of (k ∷ more)
+        pub last_is : last_of (own (front ++ rest) unit) ≡ last_of (k ∷ more)
         last_is = ap last_of whole_is ∙ last_append (x ∷ xs) k more
 
         last_place : (length front < last_of (k ∷ more)) × (last_of (k ∷ more) ≤ length (front ++ rest)) × (unit_of (front ++ rest) (last_of (k ∷ more)) ≡ unit)
         last_place = let P : List ℕ → Type 0 = λ ys. Member (last_of (k ∷ more)) ys in behind_place unit (last_of (k ∷ more)) (subst P (sym some) (last_one k more))
 
         -- else it does
-        goes : goes_on (front ++ rest) (length front) unit ≡ true
+        pub goes : goes_on (front ++ rest) (length front) unit ≡ true
         goes =
             let first : first_of (own (front ++ rest) unit) ≡ x = first_is in
             let last : last_of (own (front ++ rest) unit) ≡ last_of (k ∷ more) = last_is in
@@ -185,7 +184,7 @@ module _ (tariff : Tariff) (trip : Itinerary) (front rest : List Part) (price : 
             ]
 
         -- and comes home where it may
-        home_may : may_come_to tariff trip (start_of trip front x) (nat_lt 1 (length (x ∷ xs))) (end_of (front ++ rest) (last_of (k ∷ more))) ≡ true
+        pub home_may : may_come_to tariff trip (start_of trip front x) (nat_lt 1 (length (x ∷ xs))) (end_of (front ++ rest) (last_of (k ∷ more))) ≡ true
         home_may = may_by (nat_lt 1 (length (x ∷ xs))) refl (ends_near tariff trip front rest price lawful unit low (in_all unit low high) x xs k more firsts whole_is)
           where
             may_by : (closes : Bool) → nat_lt 1 (length (x ∷ xs)) ≡ closes → EndsNear tariff trip front rest price lawful unit low (in_all unit low high) x xs (last_of (k ∷ more))
@@ -198,7 +197,7 @@ module _ (tariff : Tariff) (trip : Itinerary) (front rest : List Part) (price : 
             may_by false c (inl city) = either_left (bytes_eq (end_city trip (front ++ rest) (last_of (k ∷ more))) (start_city trip front x)) (lie_together tariff (end_city trip (front ++ rest) (last_of (k ∷ more))) (start_city trip front x)) city
             may_by false c (inr country) = either_right (bytes_eq (end_city trip (front ++ rest) (last_of (k ∷ more))) (start_city trip front x)) (lie_together tariff (end_city trip (front ++ rest) (last_of (k ∷ more))) (start_city trip front x)) country.1
 
-        home_within : (end_of front (length front) ≤ end_of (front ++ rest) (last_of (k ∷ more))) × (end_of (front ++ rest) (last_of (k ∷ more)) ≤ count trip)
+        pub home_within : (end_of front (length front) ≤ end_of (front ++ rest) (last_of (k ∷ more))) × (end_of (front ++ rest) (last_of (k ∷ more)) ≤ count trip)
         home_within =
             let n : length (front ++ rest) ≡ length front + length rest = length-append front rest in
             let place = firsts x (inl refl) in
@@ -231,7 +230,7 @@ module _ (table : Pricing) (homing : Homing) (front : List Part) (u : ℕ) (high
   over_stuck stuck = stays_by (λ rest price lawful x xs e k more some. not_stuck table.edition table.trip front rest price lawful (suc u) (omega arith) high x xs e k more some stuck)
 
   -- some part comes to the unit, which must have more
-  goes_by : (rest : List Part) (price : ℕ) (lawful : IsLawful table.edition table.trip (front ++ rest) price) (x : ℕ) (xs : List ℕ) → own front (suc u) ≡ x ∷ xs → needs_more table.edition table.trip front (own front (suc u)) ≡ true
+  pub goes_by : (rest : List Part) (price : ℕ) (lawful : IsLawful table.edition table.trip (front ++ rest) price) (x : ℕ) (xs : List ℕ) → own front (suc u) ≡ x ∷ xs → needs_more table.edition table.trip front (own front (suc u)) ≡ true
       → (k : ℕ) × (more : List ℕ) × (own_behind table.edition table.trip front rest (suc u) ≡ k ∷ more)
   goes_by rest price lawful x xs e must =
       let P : List ℕ → Type 0 = λ ys. needs_more table.edition table.trip front ys ≡ true in

@@ -33,7 +33,7 @@ use Rattle.fare_homing.specs.Homing.{IsUpTo, first_cost, between_cost, back_cost
 use Rattle.fare_homing.proofs.ReachLemmas.{lesser_first, lesser_second}
 use Rattle.fare_branch.proofs.CostLemmas.{not_half, half, at_least_up, one_way_least, half_part, member_place}
 use Rattle.fare_branch.proofs.UnitLemmas.{all, own_has, alone_in, holds_none, single_there, single_not}
-use Rattle.fare_branch.proofs.StackLemmas.{true_cost}
+use Rattle.fare_branch.specs.Costs.{true_cost}
 use Rattle.fare_branch.proofs.SumLemmas.{sum_up_members, kept_member}
 
 true_false : true ≡ false → ⊥

@@ -42,7 +42,7 @@ AreBehindHalf table homing first unit numbers =
     (part : Part) (rest : List Part) (price cost : ℕ)
     → IsLawful table.edition table.trip (first ++ part ∷ rest) price → part.unit ≡ unit
     → is_ow table.edition (first ++ part ∷ rest) (length first + 1) ≡ false
-    → IsOver table.trip (cell homing.closing) (cell homing.jaw) (rest_at homing.rest) (first ++ part ∷ rest)
+    → IsOver table.edition table.trip (cell homing.closing) (cell homing.jaw) (rest_at homing.rest) (first ++ part ∷ rest)
     (length first + 1) (greatest_unit (first ++ part ∷ rest) (places (first ++ part ∷ rest)))
     (end_of (first ++ part ∷ rest) (length first + 1)) cost → IsUpTo cost (rest_at numbers part.end)
 

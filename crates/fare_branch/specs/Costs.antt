@@ -3,9 +3,10 @@ use Rattle.std.specs.Prelude.{ℕ, List, Option, Some, None, sum_by, if◌then�
 use Rattle.fare_trip.specs.Itinerary.{Itinerary}
 use Rattle.fare_tariff.specs.Tariff.{Tariff}
 use Rattle.fare_rules.specs.declared.part.Part.{Part}
-use Rattle.fare_rules.specs.Construction.{start_of, end_of, part_at, own, units}
+use Rattle.fare_rules.specs.Construction.{start_of, end_of, part_at, own, unit_of, units}
+use Rattle.fare_rules.specs.Shape.{is_ow}
 use Rattle.fare_component.specs.Table.{entry_of}
-use Rattle.fare_rules.specs.UnitPrice.{unit_price}
+use Rattle.fare_rules.specs.UnitPrice.{part_cost, unit_price}
 use Rattle.fare_units.specs.Shut.{is_shut}
 use Rattle.fare_bounds.specs.Covers.{least_cost}
 
@@ -22,6 +23,12 @@ fare_least tariff trip a b number = least_cost (entry_of tariff trip a b number)
 abbrev pub part_least : Tariff → Itinerary → List Part → ℕ → ℕ
 part_least tariff trip parts k =
     or_nothing (fare_least tariff trip (start_of trip parts k) (end_of parts k) (part_at parts k).fare)
+
+-- what a part costs: a one way fare the price of its unit, and a half round trip its amount
+abbrev pub true_cost : Tariff → Itinerary → List Part → ℕ → ℕ
+true_cost tariff trip parts k =
+    if is_ow tariff parts k then unit_price tariff trip parts (unit_of parts k)
+    else part_cost tariff trip parts (own parts (unit_of parts k)) k
 
 -- what the parts of a unit cost at least
 abbrev pub unit_least : Tariff → Itinerary → List Part → ℕ → ℕ

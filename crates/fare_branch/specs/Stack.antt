@@ -10,6 +10,7 @@ use Rattle.fare_component.specs.Table.{Pricing}
 use Rattle.fare_bounds.specs.Covers.{rest_at}
 use Rattle.fare_homing.specs.declared.homing.Homing.{Homing}
 use Rattle.fare_branch.specs.declared.stacking.Open.{Open}
+use Rattle.fare_branch.specs.Costs.{true_cost}
 use Rattle.fare_branch.specs.Ending.{needs_more}
 use Rattle.fare_homing.specs.Homing.{IsUpTo, may_end_at, is_same_city, homing_at}
 use Rattle.fare_homing.specs.Rows.{cell}
@@ -18,17 +19,23 @@ use Rattle.fare_homing.specs.Rows.{cell}
 abbrev pub goes_on : List Part → ℕ → ℕ → Bool
 goes_on parts k unit = nat_le (first_of (own parts unit)) k && nat_lt k (last_of (own parts unit))
 
+-- the last part of a unit begins at a point or behind it, and costs no more than a number
+pub record LastsBy (tariff : Tariff) (trip : Itinerary) (parts : List Part) (k i cost : ℕ) : Type 0 where
+  pub begins : i ≤ start_of trip parts k
+  pub costs : true_cost tariff trip parts k ≤ cost
+
 -- a cost is over the units, up to a number, that go on behind a place: from a point on, each comes home where it does,
 -- the greatest number first, and behind that there is what is behind where no unit is open
-abbrev pub IsOver : Itinerary → (ℕ → ℕ → Option ℕ) → (ℕ → ℕ → Option ℕ) → (ℕ → Option ℕ) → List Part → ℕ → ℕ → ℕ
-    → ℕ → Type 0
-IsOver trip closing jaw left parts k zero i cost = IsUpTo cost (left i)
-IsOver trip closing jaw left parts k (suc u) i cost =
+abbrev pub IsOver : Tariff → Itinerary → (ℕ → ℕ → Option ℕ) → (ℕ → ℕ → Option ℕ) → (ℕ → Option ℕ) → List Part → ℕ → ℕ
+    → ℕ → ℕ → Type 0
+IsOver tariff trip closing jaw left parts k zero i cost = IsUpTo cost (left i)
+IsOver tariff trip closing jaw left parts k (suc u) i cost =
     (goes_on parts k (suc u) ≡ true → (x : ℕ) × (y : ℕ) × (x + y ≤ cost)
     × IsUpTo x (homing_at trip closing jaw (start_of trip parts (first_of (own parts (suc u)))) i
     (end_of parts (last_of (own parts (suc u)))))
-    × IsOver trip closing jaw left parts k u (end_of parts (last_of (own parts (suc u)))) y)
-    × (goes_on parts k (suc u) ≡ false → IsOver trip closing jaw left parts k u i cost)
+    × IsOver tariff trip closing jaw left parts k u (end_of parts (last_of (own parts (suc u)))) y
+    × LastsBy tariff trip parts (last_of (own parts (suc u))) i x)
+    × (goes_on parts k (suc u) ≡ false → IsOver tariff trip closing jaw left parts k u i cost)
 
 -- numbers are under what is behind each point from the end of some first parts on, over the units up to a number, in
 -- every construction that begins with the parts
@@ -36,7 +43,7 @@ abbrev pub AreOver : Pricing → Homing → List Part → ℕ → List (Option �
 AreOver table homing first unit numbers =
     (rest : List Part) (price i cost : ℕ) → IsLawful table.edition table.trip (first ++ rest) price
     → end_of first (length first) ≤ i → i ≤ count table.trip
-    → IsOver table.trip (cell homing.closing) (cell homing.jaw) (rest_at homing.rest) (first ++ rest) (length first)
+    → IsOver table.edition table.trip (cell homing.closing) (cell homing.jaw) (rest_at homing.rest) (first ++ rest) (length first)
     unit i cost → IsUpTo cost (rest_at numbers i)
 
 -- a unit that begins at a point may come home at another: in the same city, or, where it has one part so far, in its

@@ -10,6 +10,7 @@
 //! - `joining`: whether a part may come to a unit of first parts again;
 //! - `costs`: what parts cost at least;
 //! - `floors`: what first parts cost at least, with all that may follow;
+//! - `lasting`: what the last part of a unit that goes on costs at least;
 //! - `stacking`: what first parts cost at least, with all that may follow, since what begins must end;
 //! - `ahead`: what is behind the part that comes next at least;
 //! - `barred`: whether the rules on stays and on combined fares bar first parts;
@@ -31,6 +32,7 @@ mod diving;
 mod ending;
 mod floors;
 mod joining;
+mod lasting;
 mod own_bound;
 mod partial;
 mod pieces;

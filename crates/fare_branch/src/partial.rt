@@ -131,9 +131,7 @@ impl Partial {
         ensures made { IsMadeWith table.now result }
     {
         let _sectors = table.trip().count();
-        let mut longer = copied(self.parts());
-        let _room = longer.try_push(part);
-        longer
+        with_last(self.parts(), part)
     }
 }
 
@@ -147,4 +145,14 @@ fn copied(parts: &[Part]) -> Construction
         let _room = copied.try_push(*part);
     }
     copied
+}
+
+/// A construction of some parts with one more at their end.
+pub(crate) fn with_last(parts: &[Part], part: Part) -> Construction
+    requires { length parts.now < MOST_PARTS }
+    ensures { result ≡ parts.now ++ part ∷ [] }
+{
+    let mut longer = copied(parts);
+    let _room = longer.try_push(part);
+    longer
 }

@@ -15,6 +15,7 @@ ghost use Rattle.fare_branch.specs.Stack.{IsOpenUnit, may_come_to};
 use crate::costs::units_floor;
 use crate::ending::needs_more;
 use crate::joining::{first_place, is_stuck, part_count};
+use crate::lasting::{Going, greater_of, over_lasts};
 use crate::partial::Partial;
 use fare_bounds::lesser;
 use fare_component::Table;
@@ -157,6 +158,36 @@ fn open_unit(table: &Table, parts: &[Part], unit: usize) -> Open
     }
 }
 
+/// What is behind each point at least over a unit of first parts that goes on: by its cheapest way home, and by what its
+/// last part costs.
+fn over_going(
+    table: &Table,
+    homing: &Homing,
+    partial: &Partial,
+    unit: usize,
+    opened: Open,
+    behind: &[Option<u64>; MOST_POINTS],
+) -> [Option<u64>; MOST_POINTS]
+    requires made { IsMadeWith table.now partial.now }
+    requires low { 1 ≤ unit }
+    requires high { unit ≤ greatest_unit partial.now (places partial.now) }
+    requires behind { AreOver table.now homing.now partial.now (unit - 1) behind.now }
+    requires opened { IsOpenUnit table.now partial.now unit opened }
+    ensures { AreOver table.now homing.now partial.now unit result }
+{
+    let _sectors = table.trip().count();
+    let row = over_open(table, homing, partial.end(), opened, behind);
+    let homes = homes_of(table, partial.end(), opened, behind);
+    let going = Going {
+        table,
+        front: partial,
+        unit,
+        start: opened.start,
+    };
+    let lasts = over_lasts(&going, opened.must, &homes, behind);
+    greater_of(&row, &lasts)
+}
+
 /// What is behind each point at least over one unit more of first parts.
 #[tactic(auto, using(crate::proofs::StackFloorLemmas::over_shut_unit, crate::proofs::StackFloorLemmas::over_stuck_unit, crate::proofs::StackFloorLemmas::over_no_unit, crate::proofs::StackFloorLemmas::over_open_unit))]
 pub(crate) fn over_unit(
@@ -178,7 +209,7 @@ pub(crate) fn over_unit(
     }
     let opened = open_unit(table, parts, unit);
     if !is_stuck(table, partial, unit) {
-        return over_open(table, homing, partial.end(), opened, behind);
+        return over_going(table, homing, partial, unit, opened, behind);
     }
     if opened.must {
         return [None; MOST_POINTS];

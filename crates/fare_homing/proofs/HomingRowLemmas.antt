@@ -1,5 +1,5 @@
 -- The numbers of homing from a trip's end back, one point on.
-use Rattle.std.proofs.Common.{◌≡◌, ℕ, zero, suc, ◌+◌, ◌<◌, ◌≤◌, ◌⊎◌, true, false, List, [], length, get_or, set, replicate, refl, ap, sym, subst, ◌∙◌, inl, inr, arith}
+use Rattle.std.proofs.Common.{◌≡◌, ℕ, zero, suc, ◌+◌, ◌<◌, ◌≤◌, ◌⊎◌, false, List, [], length, get_or, set, replicate, refl, ap, sym, subst, ◌∙◌, inl, inr, arith}
 use Rattle.std.specs.Prelude.{Option, Some, None, slice_index_or}
 use Rattle.std.proofs.lemmas.Bool.{both_ways, cases_Bool, cases_eq}
 use Rattle.std.proofs.lemmas.Option.{none-some, same_Some}
@@ -14,8 +14,9 @@ use Rattle.fare_rules.proofs.CoverLemmas.{begins_later}
 use Rattle.fare_component.specs.declared.table.entry.Entry.{Entry}
 use Rattle.fare_component.proofs.LawLemmas.{entry_is_of_fare}
 use Rattle.fare_bounds.specs.Covers.{rest_at}
-use Rattle.fare_homing.specs.Homing.{single_cost, first_cost, between_cost, back_cost, is_same_city, may_end_at, homing_at}
-use Rattle.fare_homing.specs.HomingRows.{AreHomings, AreHomingsAt, behind_between, IsClosing, IsJaw, IsOnward, IsPart, IsWhole}
+use Rattle.fare_homing.specs.Homing.{IsUpTo, single_cost, first_cost, between_cost, back_cost, is_same_city, may_end_at, homing_at}
+use Rattle.fare_homing.specs.HomingRows.{AreHomings, AreHomingsAt, behind_between, IsByFirst, IsClosing, IsJaw, IsOnward, IsPart, IsWhole}
+use Rattle.fare_homing.specs.Pairs.{HasPair}
 use Rattle.fare_homing.specs.Least.{IsAt, IsLeastOf, IsReached, IsSum}
 use Rattle.fare_homing.specs.Rows.{cell, AreCountries, EndWithin}
 use Rattle.fare_homing.proofs.LeastLemmas.{least_none, least_one, least_same, reached_by, sum_same}
@@ -69,28 +70,31 @@ module _ (tariff : Tariff) (trip : Itinerary) where
 
   module _ (i : ℕ) where
     -- what one unit costs at least that ends at a point: where it may, by what is behind its first part, and else alone
-    pub whole_by : (closings jaws : ℕ → ℕ → Option ℕ) (j : ℕ) (alone : Option ℕ) (first behind : ℕ → Option ℕ) (found : Option ℕ) → may_end_at tariff trip (begin_after trip i) j ≡ true
+    pub whole_by : (closings jaws : ℕ → ℕ → Option ℕ) (j : ℕ) (alone : Option ℕ) (first behind : ℕ → Option ℕ) (half found : Option ℕ)
         → ((b : ℕ) → homing_at trip closings jaws (begin_after trip i) b j ≡ behind b) → IsLeastOf (IsPart tariff trip single_cost (begin_after trip i) j) alone
-        → ((b : ℕ) → IsLeastOf (IsPart tariff trip first_cost (begin_after trip i) b) (first b)) → IsLeastOf (IsReached alone first behind i j) found
-        → IsLeastOf (IsWhole tariff trip closings jaws i j) found
-    whole_by closings jaws j alone first behind found may is one each least =
+        → ((b : ℕ) → IsLeastOf (IsPart tariff trip first_cost (begin_after trip i) b) (first b)) → IsLeastOf (IsReached None first behind i j) half
+        → ((most : ℕ) → IsUpTo most alone → IsUpTo most found) → ((most cost : ℕ) → IsUpTo most half → most ≤ cost → HasPair tariff trip (begin_after trip i) j cost → IsUpTo cost found)
+        → IsWhole tariff trip closings jaws i j found
+    whole_by closings jaws j alone first behind half found is one each least kept raised =
         let Step : ℕ → ℕ → Type 0 = IsPart tariff trip first_cost (begin_after trip i) in
         let homing : ℕ → Option ℕ = λ b. homing_at trip closings jaws (begin_after trip i) b j in
-        least_same (λ n. IsPart tariff trip single_cost (begin_after trip i) j n ⊎ IsSum Step behind i j n) (IsWhole tariff trip closings jaws i j) found
-        (λ n h. elim h [ inl part ↦ inl part | inr s ↦ inr (may, sum_same Step Step behind homing i j n (λ b x step. step) (λ b past. is b) s) ])
-        (λ n h. elim h [ inl part ↦ inl part | inr s ↦ inr (sum_same Step Step homing behind i j n (λ b x step. step) (λ b past. sym (is b)) s.1) ])
-        (reached_by (IsPart tariff trip single_cost (begin_after trip i) j) Step alone first behind i j found one each least)
+        let known = reached_by (λ n. ⊥) Step None first behind i j half (least_none (λ n. ⊥) (λ n h. h)) each least in
+        record {
+          alone = λ n part. kept n (one.lowest n part);
+          first = λ n cost by low pair. raised n cost (known.lowest n (inr (sum_same Step Step homing behind i j n (λ b x step. step) (λ b past. sym (is b)) by.1))) low pair;
+        }
 
     pub whole_alone : (closings jaws : ℕ → ℕ → Option ℕ) (j : ℕ) (alone : Option ℕ) → may_end_at tariff trip (begin_after trip i) j ≡ false
-        → IsLeastOf (IsPart tariff trip single_cost (begin_after trip i) j) alone → IsLeastOf (IsWhole tariff trip closings jaws i j) alone
-    whole_alone closings jaws j alone may one =
-        least_same (IsPart tariff trip single_cost (begin_after trip i) j) (IsWhole tariff trip closings jaws i j) alone (λ n part. inl part)
-        (λ n h. elim h [ inl part ↦ part | inr s ↦ absurd (both_ways (may_end_at tariff trip (begin_after trip i) j) may s.0) ]) one
+        → IsLeastOf (IsPart tariff trip single_cost (begin_after trip i) j) alone → IsWhole tariff trip closings jaws i j alone
+    whole_alone closings jaws j alone may one = record {
+      alone = λ n part. one.lowest n part;
+      first = λ n cost by low pair. absurd (both_ways (may_end_at tariff trip (begin_after trip i) j) may by.0);
+    }
 
     -- the numbers of a point, each by the least of its parts and of the whole units that come first
     pub rows_are : (closings jaws : ℕ → ℕ → Option ℕ) (rests closing jaw whole between last within : ℕ → Option ℕ) (rest : Option ℕ)
         → ((j : ℕ) → IsLeastOf (IsPart tariff trip between_cost (begin_after trip i) j) (between j)) → ((j : ℕ) → IsLeastOf (IsPart tariff trip back_cost (begin_after trip i) j) (last j))
-        → ((j : ℕ) → IsLeastOf (IsWhole tariff trip closings jaws i j) (whole j))
+        → ((j : ℕ) → IsWhole tariff trip closings jaws i j (whole j))
         → ((j : ℕ) → IsLeastOf (IsReached (last j) between (λ b. behind_between trip (closings b) b j) i j) (within j)) → ((j : ℕ) → IsLeastOf (IsReached (within j) whole (λ b. closings b j) i j) (closing j))
         → ((j : ℕ) → IsLeastOf (IsReached (last j) whole (λ b. jaws b j) i j) (jaw j)) → IsLeastOf (IsOnward trip rests whole i) rest
         → AreHomingsAt tariff trip i closings jaws rests closing jaw whole rest
@@ -135,8 +139,10 @@ module _ (tariff : Tariff) (trip : Itinerary) where
         → ((j : ℕ) → closing j ≡ None) → ((j : ℕ) → jaw j ≡ None) → ((j : ℕ) → whole j ≡ None) → IsLeastOf (λ n. (i ≡ count trip) × (n ≡ 0)) rest
         → AreHomingsAt tariff trip i closings jaws rests closing jaw whole rest
     nothing_behind past closings jaws rests closing jaw whole rest no_closing no_jaw no_whole here = record {
-      wholes = λ j. subst (IsLeastOf (IsWhole tariff trip closings jaws i j)) (sym (no_whole j)) (least_none (IsWhole tariff trip closings jaws i j)
-          (λ n h. elim h [ inl part ↦ no_part past single_cost j n part | inr s ↦ no_part past first_cost s.1.end s.1.cost s.1.steps ]));
+      wholes = λ j. record {
+        alone = λ n part. absurd (no_part past single_cost j n part);
+        first = λ n cost by low pair. absurd (no_part past first_cost by.1.end by.1.cost by.1.steps);
+      };
       closes = λ j. subst (IsLeastOf (IsClosing tariff trip closings whole i j)) (sym (no_closing j)) (least_none (IsClosing tariff trip closings whole i j)
           (λ n h. elim h [
             | inl part ↦ elim part [ inl last ↦ no_part past back_cost j n last | inr s ↦ no_part past between_cost s.end s.cost s.steps ]
@@ -154,15 +160,12 @@ module _ (tariff : Tariff) (trip : Itinerary) where
     -- the numbers of a point stay what they are where those of the points behind it do
     module _ (closings jaws new_closings new_jaws : ℕ → ℕ → Option ℕ) (rests new_rests whole new_whole : ℕ → Option ℕ)
         (cs : (b j : ℕ) → i < b → new_closings b j ≡ closings b j) (js : (b j : ℕ) → i < b → new_jaws b j ≡ jaws b j) (rs : (b : ℕ) → i < b → new_rests b ≡ rests b) (w : (b : ℕ) → new_whole b ≡ whole b) where
-      whole_on : (j n : ℕ) → IsWhole tariff trip closings jaws i j n → IsWhole tariff trip new_closings new_jaws i j n
-      whole_on j n h = elim h [
-        | inl part ↦ inl part
-        | inr s ↦ inr (
-          s.0,
-          sum_same (IsPart tariff trip first_cost (begin_after trip i)) (IsPart tariff trip first_cost (begin_after trip i)) (λ b. homing_at trip closings jaws (begin_after trip i) b j) (λ b. homing_at trip new_closings new_jaws (begin_after trip i) b j) i j n
-              (λ b x step. step) (λ b past. homing_same trip closings jaws new_closings new_jaws (begin_after trip i) b j (cs b j past) (js b j past)) s.1,
-        )
-      ]
+      first_on : (j n : ℕ) → IsByFirst tariff trip closings jaws i j n → IsByFirst tariff trip new_closings new_jaws i j n
+      first_on j n s = (
+        s.0,
+        sum_same (IsPart tariff trip first_cost (begin_after trip i)) (IsPart tariff trip first_cost (begin_after trip i)) (λ b. homing_at trip closings jaws (begin_after trip i) b j) (λ b. homing_at trip new_closings new_jaws (begin_after trip i) b j) i j n
+            (λ b x step. step) (λ b past. homing_same trip closings jaws new_closings new_jaws (begin_after trip i) b j (cs b j past) (js b j past)) s.1,
+      )
 
       unit_on : (behind new : ℕ → Option ℕ) (j n : ℕ) → ((b : ℕ) → i < b → new b ≡ behind b) → IsSum (IsAt whole) behind i j n → IsSum (IsAt new_whole) new i j n
       unit_on behind new j n same s = sum_same (IsAt whole) (IsAt new_whole) behind new i j n (λ b x e. w b ∙ e) same s
@@ -188,8 +191,11 @@ module _ (tariff : Tariff) (trip : Itinerary) where
         → ((j : ℕ) → new_closing j ≡ closing j) → ((j : ℕ) → new_jaw j ≡ jaw j) → ((j : ℕ) → new_whole j ≡ whole j) → new_rest ≡ rest
         → AreHomingsAt tariff trip i closings jaws rests closing jaw whole rest → AreHomingsAt tariff trip i new_closings new_jaws new_rests new_closing new_jaw new_whole new_rest
     same_rows closings jaws new_closings new_jaws rests new_rests closing jaw whole new_closing new_jaw new_whole rest new_rest cs js rs c e w r rows = record {
-      wholes = λ j. subst (IsLeastOf (IsWhole tariff trip new_closings new_jaws i j)) (sym (w j)) (least_same (IsWhole tariff trip closings jaws i j) (IsWhole tariff trip new_closings new_jaws i j) (whole j)
-          (whole_on closings jaws new_closings new_jaws rests new_rests whole new_whole cs js rs w j) (whole_on new_closings new_jaws closings jaws new_rests rests new_whole whole cs_back js_back rs_back w_back j) (rows.wholes j));
+      wholes = λ j. record {
+        alone = λ n part. subst (IsUpTo n) (sym (w j)) ((rows.wholes j).alone n part);
+        first = λ n cost by low pair. subst (IsUpTo cost) (sym (w j))
+            ((rows.wholes j).first n cost (first_on new_closings new_jaws closings jaws new_rests rests new_whole whole cs_back js_back rs_back w_back j n by) low pair);
+      };
       closes = λ j. subst (IsLeastOf (IsClosing tariff trip new_closings new_whole i j)) (sym (c j)) (least_same (IsClosing tariff trip closings whole i j) (IsClosing tariff trip new_closings new_whole i j) (closing j)
           (closing_on closings jaws new_closings new_jaws rests new_rests whole new_whole cs js rs w j) (closing_on new_closings new_jaws closings jaws new_rests rests new_whole whole cs_back js_back rs_back w_back j) (rows.closes j));
       ends = λ j. subst (IsLeastOf (IsJaw tariff trip new_jaws new_whole i j)) (sym (e j)) (least_same (IsJaw tariff trip jaws whole i j) (IsJaw tariff trip new_jaws new_whole i j) (jaw j)

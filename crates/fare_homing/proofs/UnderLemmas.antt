@@ -9,6 +9,7 @@ use Rattle.fare_component.specs.Table.{entries_of}
 use Rattle.fare_homing.specs.Homing.{IsUpTo, first_cost, between_cost, back_cost, may_end_at, is_same_city, homing_at}
 use Rattle.fare_homing.specs.HomingRows.{AreHomings, behind_between, IsPart}
 use Rattle.fare_homing.specs.Least.{IsSum, capped_sum}
+use Rattle.fare_homing.specs.Pairs.{HasPair}
 use Rattle.fare_homing.proofs.HomingRowLemmas.{part_after}
 use Rattle.fare_homing.proofs.ReachLemmas.{capped_low, up_more}
 
@@ -21,16 +22,17 @@ sum_of Step behind i b j cost rest low less step later = record { end = b; rises
 
 module _ {tariff : Tariff} {trip : Itinerary} {closing jaw whole : ℕ → ℕ → Option ℕ} {left : ℕ → Option ℕ} (are : AreHomings tariff trip closing jaw whole left) where
   pub alone_under : (i j : ℕ) (entry : Entry) (cost : ℕ) → Contains (entries_of tariff trip (begin_after trip i) j) entry → entry.single ≡ Some cost → IsUpTo cost (whole i j)
-  alone_under i j entry cost there e = ((are.at i).wholes j).lowest cost (inl (record { entry = entry; there = there; costs = e }))
+  alone_under i j entry cost there e = ((are.at i).wholes j).alone cost (record { entry = entry; there = there; costs = e })
 
-  pub first_under : (i b j : ℕ) (entry : Entry) (cost behind : ℕ) → Contains (entries_of tariff trip (begin_after trip i) b) entry → first_cost entry ≡ Some cost → b < j
-      → may_end_at tariff trip (begin_after trip i) j ≡ true → homing_at trip closing jaw (begin_after trip i) b j ≡ Some behind → IsUpTo (cost + behind) (whole i j)
-  first_under i b j entry cost behind there e less ends later =
+  pub first_under : (i b j : ℕ) (entry : Entry) (cost behind all : ℕ) → Contains (entries_of tariff trip (begin_after trip i) b) entry → first_cost entry ≡ Some cost → b < j
+      → may_end_at tariff trip (begin_after trip i) j ≡ true → homing_at trip closing jaw (begin_after trip i) b j ≡ Some behind → cost + behind ≤ all → HasPair tariff trip (begin_after trip i) j all → IsUpTo all (whole i j)
+  first_under i b j entry cost behind all there e less ends later sum pair =
       let part : IsPart tariff trip first_cost (begin_after trip i) b cost = record { entry = entry; there = there; costs = e } in
-      sum_under (whole i j) cost behind (((are.at i).wholes j).lowest (capped_sum cost behind) (inr (
+      let low : capped_sum cost behind ≤ cost + behind = capped_low cost behind in
+      ((are.at i).wholes j).first (capped_sum cost behind) all (
         ends,
         sum_of (IsPart tariff trip first_cost (begin_after trip i)) (λ k. homing_at trip closing jaw (begin_after trip i) k j) i b j cost behind (part_after tariff trip first_cost i b cost part).0 less part later,
-      )))
+      ) (omega arith) pair
 
   pub between_under : (i b j : ℕ) (entry : Entry) (cost behind : ℕ) → Contains (entries_of tariff trip (begin_after trip i) b) entry → between_cost entry ≡ Some cost → b < j
       → is_same_city trip j b ≡ false → closing b j ≡ Some behind → IsUpTo (cost + behind) (closing i j)

@@ -1,13 +1,14 @@
 -- HomingRows: the numbers of homing at each point, by those of the points behind it.
-use Rattle.std.specs.Prelude.{◌≡◌, ℕ, ◌+◌, true, ◌⊎◌, Option, None, if◌then◌else◌}
+use Rattle.std.specs.Prelude.{◌≡◌, ℕ, ◌+◌, ◌≤◌, true, ◌⊎◌, Option, None, if◌then◌else◌}
 use Rattle.fare_trip.specs.Itinerary.{Itinerary, count}
 use Rattle.fare_tariff.specs.Tariff.{Tariff}
 use Rattle.fare_rules.specs.Construction.{begin_after}
 use Rattle.fare_component.specs.declared.table.entry.Entry.{Entry}
 use Rattle.fare_component.specs.Table.{entries_of}
 use Rattle.fare_homing.specs.Homing.{single_cost, first_cost, between_cost, back_cost, may_end_at, is_same_city}
-use Rattle.fare_homing.specs.Homing.{homing_at}
+use Rattle.fare_homing.specs.Homing.{IsUpTo, homing_at}
 use Rattle.fare_homing.specs.Least.{IsAt, IsCost, IsLeastOf, IsSum}
+use Rattle.fare_homing.specs.Pairs.{HasPair}
 
 -- what a part from a point to another costs, by what it is in its unit
 abbrev pub IsPart : Tariff → Itinerary → (Entry → Option ℕ) → ℕ → ℕ → ℕ → Type 0
@@ -20,10 +21,13 @@ IsByFirst tariff trip closing jaw i j cost =
     × IsSum (IsPart tariff trip first_cost (begin_after trip i))
     (λ b. homing_at trip closing jaw (begin_after trip i) b j) i j cost
 
--- what one unit costs that begins behind a point and ends at another: a part alone in it, or by its first part
-abbrev pub IsWhole : Tariff → Itinerary → (ℕ → ℕ → Option ℕ) → (ℕ → ℕ → Option ℕ) → ℕ → ℕ → ℕ → Type 0
-IsWhole tariff trip closing jaw i j cost =
-    IsPart tariff trip single_cost (begin_after trip i) j cost ⊎ IsByFirst tariff trip closing jaw i j cost
+-- a number is under what one unit costs that begins behind a point and ends at another: a part alone in it; or the
+-- unit's first and last part, which may pair, with all that is between them
+pub record IsWhole (tariff : Tariff) (trip : Itinerary) (closing jaw : ℕ → ℕ → Option ℕ) (i j : ℕ) (found : Option ℕ) :
+    Type 0 where
+  pub alone : (cost : ℕ) → IsPart tariff trip single_cost (begin_after trip i) j cost → IsUpTo cost found
+  pub first : (number cost : ℕ) → IsByFirst tariff trip closing jaw i j number → number ≤ cost
+      → HasPair tariff trip (begin_after trip i) j cost → IsUpTo cost found
 
 -- what is behind a part between until its unit closes at a point: nothing where the part ends in the very city where
 -- the unit closes, since no earlier part of a unit does
@@ -50,10 +54,11 @@ abbrev pub IsOnward : Itinerary → (ℕ → Option ℕ) → (ℕ → Option ℕ
 IsOnward trip rest whole i cost =
     ((i ≡ count trip) × (cost ≡ 0)) ⊎ IsSum (IsAt whole) rest i (count trip + 1) cost
 
--- the numbers of a point are the least that its next parts cost, by those of the points behind it
+-- the numbers of a point are the least that its next parts cost, by those of the points behind it; those of whole units
+-- are at most that
 pub record AreHomingsAt (tariff : Tariff) (trip : Itinerary) (i : ℕ) (closings jaws : ℕ → ℕ → Option ℕ)
     (rests closing jaw whole : ℕ → Option ℕ) (rest : Option ℕ) : Type 0 where
-  pub wholes : (j : ℕ) → IsLeastOf (IsWhole tariff trip closings jaws i j) (whole j)
+  pub wholes : (j : ℕ) → IsWhole tariff trip closings jaws i j (whole j)
   pub closes : (j : ℕ) → IsLeastOf (IsClosing tariff trip closings whole i j) (closing j)
   pub ends : (j : ℕ) → IsLeastOf (IsJaw tariff trip jaws whole i j) (jaw j)
   pub onward : IsLeastOf (IsOnward trip rests whole i) rest

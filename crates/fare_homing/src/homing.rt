@@ -5,14 +5,16 @@ ghost use Rattle.fare_trip.specs.Itinerary.{count};
 ghost use Rattle.fare_rules.specs.Construction.{begin_after};
 ghost use Rattle.fare_bounds.specs.Covers.{rest_at};
 ghost use Rattle.fare_homing.specs.HomingRows.{AreHomingsAt, IsWhole};
-ghost use Rattle.fare_homing.specs.Least.{IsLeastOf};
+ghost use Rattle.fare_homing.specs.Homing.{IsUpTo};
+ghost use Rattle.fare_homing.specs.Pairs.{HasPair};
 ghost use Rattle.fare_homing.specs.Legs.{AreLegsOf};
 ghost use Rattle.fare_homing.specs.Rows.{cell, AreCountries, AreHomingsOf, EndWithin};
 
 use crate::legs::{LegRows, legs};
 use crate::nearness::countries_of;
+use crate::pairs::{Pairing, least_pair};
 use crate::reaching::{least_onward, reach, reached, reached_between};
-use fare_bounds::begin_after;
+use fare_bounds::{begin_after, lesser};
 use fare_codes::Country;
 use fare_component::Table;
 use fare_rules::MOST_POINTS;
@@ -62,8 +64,36 @@ pub fn cell(rows: &[[Option<u64>; MOST_POINTS]; MOST_POINTS], i: usize, j: usize
     }
 }
 
-/// What one unit costs at least that begins behind a point and ends at another: one part alone, or its first part with
-/// what is behind that.
+/// What one unit costs at least that begins at a point and ends at another: one part alone, or half round trips, by what
+/// they cost at least and by the first and the last of them.
+fn with_half(
+    table: &Table,
+    start: usize,
+    home: usize,
+    half: Option<u64>,
+    alone: Option<u64>,
+) -> Option<u64>
+    requires home { home ≤ count table.now.trip }
+    ensures alone { (most : ℕ) → IsUpTo most alone → IsUpTo most result }
+    ensures half { (most cost : ℕ) → IsUpTo most half → most ≤ cost
+        → HasPair table.now.edition table.now.trip start home cost → IsUpTo cost result }
+{
+    let Some(floor) = half else {
+        return alone;
+    };
+    if start >= table.trip().count() || alone.unwrap_or(u64::MAX) <= floor {
+        return lesser(alone, half);
+    }
+    let pairing = Pairing {
+        table,
+        start,
+        home,
+        floor,
+    };
+    lesser(alone, least_pair(&pairing))
+}
+
+/// What one unit costs at least that begins behind a point and ends at another.
 fn whole_to(
     table: &Table,
     countries: &[Option<Country>; MOST_POINTS],
@@ -76,8 +106,7 @@ fn whole_to(
     requires within { j ≤ count table.now.trip }
     requires countries { AreCountries table.now.edition table.now.trip countries.now }
     requires legs { AreLegsOf table.now.edition table.now.trip (begin_after table.now.trip i) legs.now }
-    ensures { IsLeastOf (IsWhole table.now.edition table.now.trip (cell homing.now.closing) (cell homing.now.jaw) i j)
-        result }
+    ensures { IsWhole table.now.edition table.now.trip (cell homing.now.closing) (cell homing.now.jaw) i j result }
 {
     let trip = table.trip();
     let count = trip.count();
@@ -85,12 +114,14 @@ fn whole_to(
     let start = begin_after(trip, i);
     let alone = legs.alone[j];
     if trip.point(j).is(trip.point(start)) {
-        return reach(&legs.first, &homing.closing, alone, i, j);
+        let half = reach(&legs.first, &homing.closing, None, i, j);
+        return with_half(table, start, j, half, alone);
     }
     if !is_same_country(countries[j], countries[start]) {
         return alone;
     }
-    reach(&legs.first, &homing.jaw, alone, i, j)
+    let half = reach(&legs.first, &homing.jaw, None, i, j);
+    with_half(table, start, j, half, alone)
 }
 
 /// What one unit costs at least that begins behind a point, by the points where it ends.
@@ -106,8 +137,8 @@ fn wholes_at(
     requires legs { AreLegsOf table.now.edition table.now.trip (begin_after table.now.trip i) legs.now }
     requires closing { EndWithin table.now.trip homing.now.closing }
     requires jaw { EndWithin table.now.trip homing.now.jaw }
-    ensures { (j : ℕ) → IsLeastOf (IsWhole table.now.edition table.now.trip (cell homing.now.closing)
-        (cell homing.now.jaw) i j) (rest_at result j) }
+    ensures { (j : ℕ) → IsWhole table.now.edition table.now.trip (cell homing.now.closing) (cell homing.now.jaw) i j
+        (rest_at result j) }
 {
     let count = table.trip().count();
     let mut row = legs.alone;

@@ -56,7 +56,7 @@ fn single_cost(entry: &Entry) -> Option<u64>
 }
 
 /// What a part of a unit of half round trips costs with an entry, by one of its amounts.
-fn half_cost(entry: &Entry, found: &Option<Amount>) -> Option<u64>
+pub(crate) fn half_cost(entry: &Entry, found: &Option<Amount>) -> Option<u64>
     ensures { result ≡ half_cost entry.now (option_map hundredths_of found.now) }
 {
     if entry.single.is_some() {

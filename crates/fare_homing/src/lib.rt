@@ -4,6 +4,7 @@
 //! - `nearness`: which cities lie near each other, and the countries of a trip's points;
 //! - `reaching`: the least by which a point is reached, over steps to the points before it;
 //! - `legs`: what the parts from a point cost at least, by what a part is in its unit;
+//! - `pairs`: what the first and the last part of a unit cost at least together;
 //! - `homing`: the numbers of a trip.
 //!
 //! Each of these stands on those above it.
@@ -12,6 +13,7 @@
 mod homing;
 mod legs;
 mod nearness;
+mod pairs;
 mod reaching;
 
 pub use homing::{Homing, cell, homing_of, number_at};

@@ -1,22 +1,15 @@
-use Rattle.std.proofs.Common.{◌≡◌, ℕ, true, List, None, replicate, subst}
+use Rattle.std.proofs.Common.{◌≡◌, true, List, None, replicate, subst}
 use Rattle.fare_rules.specs.declared.part.Part.{Part}
 use Rattle.fare_units.specs.Onward.{is_shut_unit}
 use Rattle.fare_branch.specs.Joining.{is_stuck}
-use Rattle.fare_branch.specs.Stack.{AreOverOpen, IsOpenUnit}
-use Rattle.fare_branch.proofs.StackFloorLemmas.{over_shut_unit, over_stuck_unit, over_no_unit, over_open_unit}
+use Rattle.fare_branch.specs.Stack.{IsOpenUnit}
+use Rattle.fare_branch.proofs.StackFloorLemmas.{over_shut_unit, over_stuck_unit, over_no_unit}
 use Rattle.fare_branch.proofs.stacking.over_unit.Goals as goal
 
 pub returns-then-is_shut_unit : goal.returns-then-is_shut_unit
 returns-then-is_shut_unit c =
     let shut : is_shut_unit c.args.table.now.edition c.args.table.now.trip c.args.partial.now c.args.unit ≡ true = cc in
     over_shut_unit c.args.table.now c.args.homing.now c.args.partial.now c.args.unit c.requires.low c.requires.high c.args.behind.now c.requires.behind shut
-
-pub returns-then-not-is_stuck : goal.returns-then-not-is_stuck
-returns-then-not-is_stuck c =
-    let P : List Part → Type 0 = λ xs. IsOpenUnit c.args.table.now xs c.args.unit c.open_unit-opened.result in
-    let Q : ℕ → Type 0 = λ from. AreOverOpen c.args.table.now c.args.homing.now from c.open_unit-opened.result c.args.behind.now c.over_open.result in
-    over_open_unit c.args.table.now c.args.homing.now c.args.partial.now c.args.unit c.requires.low c.requires.high c.args.behind.now c.requires.behind
-    c.open_unit-opened.result (subst P c.parts-parts.ensures.parts c.open_unit-opened.ensures) c.over_open.result (subst Q c.end.ensures.value c.over_open.ensures)
 
 pub returns-then-opened : goal.returns-then-opened
 returns-then-opened c =

@@ -1,0 +1,11 @@
+use Rattle.std.proofs.Common.{◌≡◌, ℕ, Option, sym, subst, ◌∙◌, arith}
+use Rattle.std.proofs.lemmas.Option.{same_Some}
+use Rattle.fare_homing.specs.Homing.{IsUpTo}
+use Rattle.fare_homing.proofs.ReachLemmas.{up_second}
+use Rattle.fare_homing.proofs.homing.with_half.Goals as goal
+
+pub returns-clause-half : goal.returns-clause-half
+returns-clause-half c most cost up low pair =
+    let same : c.in-Some.floor ≡ up.0 = same_Some c.in-Some.floor up.0 (sym c.in-Some.is ∙ up.1) in
+    let P : Option ℕ → Type 0 = λ number. IsUpTo cost number in
+    subst P (sym c.lesser-2.ensures) (up_second c.args.alone c.least_pair.result cost (c.least_pair.ensures cost pair (omega (arith, up.2))))
