@@ -2,9 +2,9 @@
 -- another, the least kind of each that has one.
 use Rattle.std.specs.Prelude.{ℕ, ◌+◌, ◌-◌, Bool, true, false, List, [], ◌∷◌, ◌++◌, length, map, filter, slice_get}
 use Rattle.std.specs.Prelude.{Option, Some, None, option_map, Result, Ok, Err, ◌==◌, ◌||◌, if◌then◌else◌}
+use Rattle.std.specs.List.{range_with_len}
 use Rattle.fare_tariff.specs.declared.records.record.Record.{Record}
 use Rattle.fare_tariff.specs.Tariff.{Tariff}
-use Rattle.std.specs.List.{range_with_len}
 use Rattle.fare_tariff.specs.Check.{fault_at}
 use Rattle.fare_tariff.specs.Faulty.{has_kind_at}
 use Rattle.fare_csv.specs.declared.text_fault.TextFault.{TextFault}

@@ -92,8 +92,8 @@ fn beside_lines(
     report.into_text()
 }
 
-/// Every fault of a text that spells these records: the records are tested on all processors, and of the rows only those
-/// are read again whose faults are shown.
+/// Every fault of a text that spells these records: the records are tested on all processors, and the rows are read
+/// again only as far as faults are shown.
 fn check_spelled<R: Threads + Sync>(
     rt: &R,
     alloc: Global,

@@ -37,7 +37,7 @@ fn is_faulty(filed: &Filed, place: usize) -> bool
     fare_tariff::fault_at(filed, place).is_some()
 }
 
-/// The places of the records that have a fault among the first so many, sought on all processors.
+/// The places of the records that have a fault, of so many records, sought on all processors.
 fn seek_faulty<R: Threads + Sync>(
     rt: &R,
     alloc: Global,

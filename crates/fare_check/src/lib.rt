@@ -7,7 +7,7 @@
 //! - `grounds`, `sentence`: what is wrong with a record, in words;
 //! - `line`, `report`: the line of a fault, and the report of which the first lines are shown;
 //! - `reading`: the faults of reading;
-//! - `faulty`: the records that have a fault beside one another, found on all processors; `beside`: their faults are told;
+//! - `faulty`, `beside`: the records that have a fault beside one another, found on all processors, and what tells it;
 //! - `checked`: the check of a text, and its law; `words`: the sentence of one fault.
 #![tactic(auto)]
 
