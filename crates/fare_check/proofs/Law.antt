@@ -1,6 +1,6 @@
 -- The first of a text's faults is the one that reading its edition answers.
-use Rattle.std.proofs.Common.{◌≡◌, ◌≤◌, ℕ, ◌+◌, Bool, true, false, cond, ◌||◌, List, [], ◌∷◌, ◌++◌, map, Option, Some, None, option_map, refl, ap, sym, ◌∙◌, arith, codes}
-use Rattle.std.specs.Prelude.{Result, Ok, Err, ◌==◌, slice_get}
+use Rattle.std.proofs.Common.{◌≡◌, ◌<◌, ◌≤◌, ℕ, suc, length, ◌+◌, Bool, true, false, cond, ◌||◌, List, [], ◌∷◌, ◌++◌, map, Option, Some, None, option_map, is_ok, refl, ap, sym, ◌∙◌, arith, codes}
+use Rattle.std.specs.Prelude.{Result, Ok, Err, ◌==◌}
 use Rattle.std.specs.Option.{option_or}
 use Rattle.std.specs.Str.{bytes_eq}
 use Rattle.std.proofs.lemmas.Bool.Decides.{nat_tests}
@@ -12,17 +12,16 @@ use Rattle.fare_tariff.specs.declared.check.check_fault.CheckFault.{CheckFault}
 use Rattle.fare_tariff.specs.Tariff.{Tariff}
 use Rattle.fare_tariff.specs.Check.{check_edition, fault_at, first_fault, first_fault_from, unless}
 use Rattle.fare_csv.specs.declared.text_fault.TextFault.{TextFault}
-use Rattle.fare_csv.specs.declared.text_fault.TextFault.TheVariants.{NoHeader, AfterEnd, NoEnd}
+use Rattle.fare_csv.specs.declared.text_fault.TextFault.TheVariants.{NoHeader}
 use Rattle.fare_csv.specs.declared.head.Version.{Version}
 use Rattle.fare_csv.specs.declared.head.Head.{Head}
 use Rattle.fare_csv.specs.CheckedFault.{checked_fault}
 use Rattle.fare_csv.specs.Fields.{counted, field, in_form}
 use Rattle.fare_csv.specs.Head.{head_of, read_version}
-use Rattle.fare_csv.specs.Numbers.{above_zero}
 use Rattle.fare_csv.specs.Rows.{Fields, rows_of}
 use Rattle.fare_csv.specs.TariffText.{checked, edition_of, end_of, ended_by, followed_by, headed, nothing_after, number_after, record_of, records_of, tariff_of}
 use Rattle.fare_csv.specs.Spelled.{is_end, is_head}
-use Rattle.fare_check.specs.Faults.{Finding, at_end, check_findings, check_findings_from, fault_found, fault_in, faults_of, filed_records, findings, findings_from, first_of, head_fault, of_row, read_or_none, reading_findings, record_fault, row_fault, told_version, unless_any}
+use Rattle.fare_check.specs.Faults.{Finding, check_findings, check_findings_from, fault_found, fault_in, faults_of, filed_records, findings, findings_from, first_of, head_fault, of_row, read_or_none, reading_findings, record_fault, row_fault, told_version, unless_any}
 
 -- the first fault of some findings
 abbrev first_found : List Finding → Option TextFault
@@ -182,6 +181,63 @@ of_check (Some fault) tariff = refl
 -- the records of rows that are read
 pub filed_of : (rows : List Fields) (tariff : Tariff) → tariff_of rows ≡ Ok tariff → filed_records rows ≡ tariff.records
 filed_of rows tariff h = ap read_or_none h
+
+-- records that are read have a row each, behind that of HEAD
+as_many_rows : (version : Version) (number : ℕ) (rows : List Fields) (records : List Record) → records_of version number rows ≡ Ok records → length records ≤ length rows
+unfolding records_of ended_by followed_by
+as_many_rows version number [] records h = cc h
+as_many_rows version number (row ∷ rows) records h =
+    go (λ more e. as_many_rows version (number_after number) rows more e) (is_end row) (end_of number row rows) (record_of version number row) (records_of version (number_after number) rows) refl h
+  where
+    go : ((more : List Record) → records_of version (number_after number) rows ≡ Ok more → length more ≤ length rows)
+        → (end : Bool) (last : Result (Unit {0}) TextFault) (first : Result Record TextFault) (others : Result (List Record) TextFault) → records_of version (number_after number) rows ≡ others → cond end (ended_by last) (followed_by first others) ≡ Ok records → length records ≤ suc (length rows)
+    go later true (Ok done) first others e h = let none : [] ≡ records = cc h in omega (arith, ap length none)
+    go later true (Err fault) first others e h = cc h
+    go later false last (Err fault) others e h = cc h
+    go later false last (Ok one) (Err fault) e h = cc h
+    go later false last (Ok one) (Ok more) e h =
+        let whole : one ∷ more ≡ records = cc h in
+        omega (arith, ap length whole, later more e)
+
+rows_enough : (rows : List Fields) (tariff : Tariff) → tariff_of rows ≡ Ok tariff → length tariff.records < length rows
+unfolding tariff_of headed
+rows_enough [] tariff h = cc h
+rows_enough (row ∷ rows) tariff h = go (is_head row) (head_of row) h
+  where
+    by : (head : Head) (reading : Result (List Record) TextFault) → records_of head.version 2 rows ≡ reading → (reading >>= (λ records. Ok (edition_with head records))) ≡ Ok tariff → length tariff.records < suc (length rows)
+    by head (Err fault) e h = cc h
+    by head (Ok records) e h =
+        let whole : edition_with head records ≡ tariff = cc h in
+        let filed : records ≡ tariff.records = ap (λ (t : Tariff). t.records) whole in
+        omega (arith, ap length filed, as_many_rows head.version 2 rows records e)
+
+    go : (named : Bool) (reading : Result Head TextFault) → cond named (reading >>= (λ head. records_of head.version 2 rows >>= (λ records. Ok (edition_with head records)))) (Err NoHeader) ≡ Ok tariff → length tariff.records < suc (length rows)
+    go false reading h = cc h
+    go true (Err fault) h = cc h
+    go true (Ok head) h = by head (records_of head.version 2 rows) refl h
+
+pub filed_enough : (rows : List Fields) → is_ok (tariff_of rows) ≡ true → length (filed_records rows) < length rows
+filed_enough rows h = go (tariff_of rows) refl h
+  where
+    go : (reading : Result Tariff TextFault) → tariff_of rows ≡ reading → is_ok reading ≡ true → length (read_or_none reading) < length rows
+    go (Err fault) e h = cc h
+    go (Ok tariff) e h = rows_enough rows tariff e
+
+-- the findings of rows that can be read, and of others
+pub findings_read : (rows : List Fields) (tariff : Tariff) → tariff_of rows ≡ Ok tariff → findings rows ≡ check_findings tariff.records rows
+unfolding findings
+findings_read rows tariff e =
+    let none : reading_findings rows ≡ [] = none_found _ (first_of_reading rows ∙ ap fault_in e) in
+    others_first _ (check_findings (filed_records rows) rows) none
+    ∙ ap (λ records. check_findings records rows) (filed_of rows tariff e)
+
+pub findings_unread : (rows : List Fields) (fault : TextFault) → tariff_of rows ≡ Err fault → findings rows ≡ reading_findings rows
+unfolding findings
+findings_unread rows fault e = go (reading_findings rows) (check_findings (filed_records rows) rows) (first_of_reading rows ∙ ap fault_in e)
+  where
+    go : (found others : List Finding) → first_found found ≡ Some fault → unless_any found others ≡ found
+    go [] others h = cc h
+    go (first ∷ more) others h = refl
 
 -- the law
 pub first_is_editions : (text : List ℕ) → first_of (faults_of text) ≡ fault_in (edition_of text)

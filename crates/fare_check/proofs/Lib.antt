@@ -5,3 +5,4 @@ pub mod Joined
 pub mod Passing
 pub mod Texts
 pub mod Pieces
+pub mod PlacesLeft

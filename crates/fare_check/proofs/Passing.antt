@@ -1,5 +1,5 @@
 -- The row of a number, one row further.
-use Rattle.std.proofs.Common.{◌≡◌, ◌<◌, ℕ, zero, suc, ◌+◌, ◌-◌, Bool, true, false, cond, List, [], ◌∷◌, get_or, refl, ap, sym, ◌∙◌, arith}
+use Rattle.std.proofs.Common.{◌≡◌, ◌<◌, ℕ, suc, ◌+◌, ◌-◌, Bool, true, false, cond, List, [], ◌∷◌, get_or, ap, ◌∙◌, arith}
 use Rattle.fare_csv.specs.Rows.{Fields}
 
 -- one row is passed

@@ -12,7 +12,7 @@ pub three : {A E : Type 0} (r : Result A E) (new old a b c : List ℕ) → OnOk 
 three (Ok value) new old a b c h = h ∙ append_assoc (old ++ a) b c ∙ append_assoc old a (b ++ c) ∙ ap (λ t. old ++ t) (sym (append_assoc a b c))
 three (Err fault) new old a b c h = tt
 
--- the text of an answer, and what it is
-pub if_ok : {V E : Type 0} (items : V → List ℕ) (r : Result V E) (text other : List ℕ) → text ≡ other → IfOk r (λ v. items v ≡ text) → IfOk r (λ v. items v ≡ other)
+-- a part of an answer, and what it is
+pub if_ok : {V E X : Type 0} (items : V → X) (r : Result V E) (text other : X) → text ≡ other → IfOk r (λ v. items v ≡ text) → IfOk r (λ v. items v ≡ other)
 if_ok items (Ok v) text other same h = h ∙ same
 if_ok items (Err fault) text other same h = tt

@@ -1,8 +1,8 @@
 -- Findings, one row further.
-use Rattle.std.proofs.Common.{◌≡◌, ◌<◌, ℕ, zero, suc, ◌+◌, Bool, true, false, cond, ◌||◌, List, [], ◌∷◌, ◌++◌, length, drop, get_or, map, Option, Some, None, option_map, refl, ap, sym, ◌∙◌, arith}
+use Rattle.std.proofs.Common.{◌≡◌, ◌<◌, ◌≤◌, ℕ, zero, suc, ◌+◌, Bool, true, false, cond, ◌||◌, List, [], ◌∷◌, ◌++◌, length, drop, get_or, map, Option, None, option_map, refl, ap, sym, ◌∙◌, arith}
 use Rattle.std.proofs.Math.Numerals.{add-one}
 use Rattle.std.proofs.Math.Seq.{drop-length}
-use Rattle.std.proofs.lemmas.List.{append-nil, map-append}
+use Rattle.std.proofs.lemmas.List.{length-map, map-append}
 use Rattle.fare_tariff.specs.declared.records.record.Record.{Record}
 use Rattle.fare_tariff.specs.Check.{fault_at}
 use Rattle.fare_csv.specs.declared.text_fault.TextFault.{TextFault}
@@ -12,7 +12,8 @@ use Rattle.fare_csv.specs.CheckedFault.{checked_fault}
 use Rattle.fare_csv.specs.Rows.{Fields}
 use Rattle.fare_csv.specs.TariffText.{number_after}
 use Rattle.fare_csv.specs.Spelled.{is_end}
-use Rattle.fare_check.specs.Faults.{Finding, at_end, check_findings, check_findings_from, findings_from, of_row, reading_findings, row_fault, told_version, unless_any, version_of}
+use Rattle.fare_check.specs.Faults.{Finding, at_end, check_findings, check_findings_from, faulty_from, findings_from, of_row, reading_findings, row_fault, version_of}
+use Rattle.fare_check.proofs.PlacesLeft.{as_many_left}
 
 -- what a taken row says of the rows that were left
 taken : (rows more : List Fields) (row : Fields) (found : Bool) → rows ≡ cond found (row ∷ more) [] → found ≡ true → rows ≡ row ∷ more
@@ -20,6 +21,10 @@ taken rows more row found h e = h ∙ ap (λ t. cond t (row ∷ more) []) e
 
 not_taken : (rows more : List Fields) (row : Fields) (found : Bool) → rows ≡ cond found (row ∷ more) [] → found ≡ false → rows ≡ []
 not_taken rows more row found h e = h ∙ ap (λ t. cond t (row ∷ more) []) e
+
+-- the rows behind it are one fewer
+pub one_fewer : (count place : ℕ) (rows more : List Fields) (row : Fields) (found : Bool) → rows ≡ cond found (row ∷ more) [] → found ≡ true → count ≤ place + length rows → count ≤ (place + 1) + length more
+one_fewer count place rows more row found h e enough = omega (arith, ap length (taken rows more row found h e))
 
 -- what is left of a list from a place on
 record Next (xs : List Record) (place : ℕ) : Type 0 where
@@ -97,11 +102,15 @@ module _ (line : Finding → List ℕ) where
   reading_of_some [] version h e = absurd (omega arith)
   reading_of_some (row ∷ rows) version h e = ap (λ v. map line (findings_from v false 1 (row ∷ rows))) (sym e)
 
-  -- some lines of reading are those of the text, and with none the others are
-  pub reading_counts : (reading others : List Finding) (count : ℕ) → count + 0 ≡ 0 + length (map line reading ++ []) → 0 < count → map line reading ++ [] ≡ map line (unless_any reading others)
-  reading_counts [] others count e h = absurd (omega (arith, e))
-  reading_counts (first ∷ more) others count e h = append-nil (map line (first ∷ more))
+  -- without a place that is left there is no finding, and with some there are as many
+  pub none_further : (all : List Record) (left : List ℕ) (place : ℕ) (rows : List Fields) → left ≡ faulty_from all place → length all ≤ place + length rows → length left ≡ 0
+      → map line (check_findings_from all place (drop place all) rows) ≡ []
+  none_further all left place rows e h none = go (check_findings_from all place (drop place all) rows) (as_many_left all left place rows e h ∙ none)
+    where
+      go : (found : List Finding) → length found ≡ 0 → map line found ≡ []
+      go [] z = refl
+      go (first ∷ more) z = absurd (omega (arith, z))
 
-  pub none_counts : (reading others : List Finding) (count : ℕ) → count + 0 ≡ 0 + length (map line reading ++ []) → count ≡ 0 → map line reading ++ map line others ≡ map line (unless_any reading others)
-  none_counts [] others count e h = refl
-  none_counts (first ∷ more) others count e h = absurd (omega (arith, e))
+  pub some_further : (all : List Record) (left : List ℕ) (place : ℕ) (rows : List Fields) → left ≡ faulty_from all place → length all ≤ place + length rows
+      → length (map line (check_findings_from all place (drop place all) rows)) ≡ length left
+  some_further all left place rows e h = length-map (check_findings_from all place (drop place all) rows) line ∙ as_many_left all left place rows e h

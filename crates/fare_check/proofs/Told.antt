@@ -1,5 +1,5 @@
 -- Reports that were told lines.
-use Rattle.std.proofs.Common.{◌≡◌, ◌<◌, ◌≤◌, ℕ, ◌+◌, ◌-◌, zero, suc, List, [], ◌∷◌, ◌++◌, length, take, refl, ap, sym, ◌∙◌, arith, append_assoc, subst, zero-add}
+use Rattle.std.proofs.Common.{◌≡◌, ◌<◌, ◌≤◌, ℕ, ◌+◌, ◌-◌, zero, suc, List, [], ◌∷◌, ◌++◌, length, take, refl, ap, sym, ◌∙◌, arith, append_assoc, length-append, subst, zero-add}
 use Rattle.std.specs.Prelude.{Result, Ok, Err, OnOk}
 use Rattle.std.proofs.lemmas.List.{append-nil}
 use Rattle.std.specs.List.{concat}
@@ -52,6 +52,25 @@ told_hidden before after line text count many = λ others.
       text = λ i. text i ++ shown i ++ more_line (sum i - 100);
       count = sum;
     }
+
+-- lines that are counted alone
+pub told_more : (before after : Report) (lines : List (List ℕ)) → after.text.items ≡ before.text.items → after.count ≡ before.count + length lines → 100 ≤ before.count → WasTold before lines after
+unfolding finished
+told_more before after lines text count many = λ others.
+    let none : 100 - before.count ≡ 0 = omega (arith, many) in
+    let none_after : 100 - after.count ≡ 0 = omega (arith, count, many) in
+    let sum : after.count + length others ≡ before.count + length (lines ++ others) = omega (arith, count, length-append lines others) in
+    record {
+      text =
+          (λ i. text i ++ concat (take (none_after i) others) ++ more_line (sum i - 100))
+          ∙ (λ i. before.text.items ++ concat (take (sym none i) (lines ++ others)) ++ more_line (before.count + length (lines ++ others) - 100));
+      count = sum;
+    }
+
+pub counts_more : {A E : Type 0} (r : Result A E) (before after : Report) (more : ℕ) (lines : List (List ℕ)) → 100 ≤ before.count → length lines ≡ more → OnOk r (after ≡ record before { count = before.count + more }) → OnOk r (WasTold before lines after)
+counts_more (Ok value) before after more lines many all is =
+    told_more before after lines (ap (λ (t : Report). t.text.items) is) (ap (λ (t : Report). t.count) is ∙ ap (λ n. before.count + n) (sym all)) many
+counts_more (Err fault) before after more lines many all is = tt
 
 -- a new report
 pub told_nothing : (report : Report) (lines : List (List ℕ)) → report.text.items ≡ [] → report.count ≡ 0 → finished report lines ≡ lines_text lines

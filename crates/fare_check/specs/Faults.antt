@@ -1,10 +1,12 @@
 -- The faults of a tariff text: where a record can't be read, that of each such record; else, of the records beside one
 -- another, the least kind of each that has one.
-use Rattle.std.specs.Prelude.{ℕ, ◌+◌, Bool, true, false, List, [], ◌∷◌, ◌++◌, length, map, slice_get}
+use Rattle.std.specs.Prelude.{ℕ, ◌+◌, ◌-◌, Bool, true, false, List, [], ◌∷◌, ◌++◌, length, map, filter, slice_get}
 use Rattle.std.specs.Prelude.{Option, Some, None, option_map, Result, Ok, Err, ◌==◌, ◌||◌, if◌then◌else◌}
+use Rattle.std.specs.List.{range_with_len}
 use Rattle.fare_tariff.specs.declared.records.record.Record.{Record}
 use Rattle.fare_tariff.specs.Tariff.{Tariff}
 use Rattle.fare_tariff.specs.Check.{fault_at}
+use Rattle.fare_tariff.specs.Faulty.{has_kind_at}
 use Rattle.fare_csv.specs.declared.text_fault.TextFault.{TextFault}
 use Rattle.fare_csv.specs.declared.text_fault.TextFault.TheVariants.{NoHeader, AfterEnd, NoEnd}
 use Rattle.fare_csv.specs.declared.head.Version.{Version}
@@ -99,6 +101,15 @@ check_findings_from records place (one ∷ rest) (row ∷ rows) =
 abbrev pub check_findings : List Record → List Fields → List Finding
 check_findings records [] = []
 check_findings records (head ∷ rows) = check_findings_from records 0 records rows
+
+-- the places, from one on, of the records of a list that have a check fault
+unfoldable pub faulty_from : List Record → ℕ → List ℕ
+faulty_from records place = filter (has_kind_at records) (range_with_len place (length records - place))
+
+-- a place is the first of some
+abbrev pub stands_first : List ℕ → ℕ → Bool
+stands_first [] place = false
+stands_first (first ∷ more) place = first == place
 
 -- check faults count only where there is no fault of reading
 abbrev pub unless_any : List Finding → List Finding → List Finding

@@ -6,12 +6,14 @@
 //! - `field_name`, `shape`: the names and the forms of fields, and the shapes of records;
 //! - `grounds`, `sentence`: what is wrong with a record, in words;
 //! - `line`, `report`: the line of a fault, and the report of which the first lines are shown;
-//! - `reading`: the faults of reading, `beside`: those of records beside one another;
+//! - `reading`: the faults of reading;
+//! - `faulty`, `beside`: the records that have a fault beside one another, found on all processors, and what tells it;
 //! - `checked`: the check of a text, and its law; `words`: the sentence of one fault.
 #![tactic(auto)]
 
 mod beside;
 mod checked;
+mod faulty;
 mod field_name;
 mod grounds;
 mod line;

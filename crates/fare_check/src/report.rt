@@ -1,6 +1,6 @@
 //! The report of faults, of which the first are shown and the others counted.
 
-ghost use Rattle.std.specs.Prelude.{◌≡◌, ℕ, ◌+◌, [], ◌∷◌, ◌++◌, List, IfOk, OnOk, Some, None};
+ghost use Rattle.std.specs.Prelude.{◌≡◌, ℕ, ◌+◌, ◌≤◌, [], ◌∷◌, ◌++◌, List, length, nat_le, IfOk, OnOk, Some, None};
 ghost use Rattle.fare_check.specs.CheckText.{line_of, lines_text, more_line};
 ghost use Rattle.fare_check.specs.Reports.{WasTold, finished};
 
@@ -36,6 +36,21 @@ impl Report {
         }
     }
 
+    /// Whether it shows as many faults as it may.
+    pub(crate) fn is_full(&self) -> bool
+        ensures { result ≡ nat_le MOST_LINES self.now.count }
+    {
+        self.count >= MOST_LINES
+    }
+
+    /// Counts so many faults that aren't shown, as a full report may.
+    pub(crate) fn count_more(&mut self, more: usize) -> Result<(), NoMemory>
+        requires { MOST_LINES ≤ self.old.count }
+        ensures { (lines : List (List ℕ)) → length lines ≡ more → OnOk result (WasTold self.old lines self.new) }
+    {
+        self.add(more)
+    }
+
     /// Tells a fault that the record of a row has.
     pub(crate) fn tell(
         &mut self,
@@ -48,11 +63,11 @@ impl Report {
             (line_of grounds.now.version grounds.now.filed.now (record { fault = fault; row = Some row.now }) ∷ [])
             self.new) }
     {
-        if self.count >= MOST_LINES {
-            return self.add_one();
+        if self.is_full() {
+            return self.add(1);
         }
         push_line(&mut self.text, alloc, grounds, row, fault)?;
-        self.add_one()
+        self.add(1)
     }
 
     /// Tells a fault that no record has.
@@ -65,18 +80,18 @@ impl Report {
         ensures { OnOk result (WasTold self.old
             (line_of grounds.now.version grounds.now.filed.now (record { fault = fault; row = None }) ∷ []) self.new) }
     {
-        if self.count >= MOST_LINES {
-            return self.add_one();
+        if self.is_full() {
+            return self.add(1);
         }
         push_bare_line(&mut self.text, alloc, grounds, fault)?;
-        self.add_one()
+        self.add(1)
     }
 
-    /// Counts a fault; a text in memory has too few records for the count to end.
-    fn add_one(&mut self) -> Result<(), NoMemory>
-        ensures { OnOk result (self.new ≡ record self.old { count = self.old.count + 1 }) }
+    /// Counts so many faults; a text in memory has too few records for the count to end.
+    fn add(&mut self, more: usize) -> Result<(), NoMemory>
+        ensures { OnOk result (self.new ≡ record self.old { count = self.old.count + more }) }
     {
-        match self.count.checked_add(1) {
+        match self.count.checked_add(more) {
             None => Err(NoMemory),
             Some(count) => {
                 self.count = count;

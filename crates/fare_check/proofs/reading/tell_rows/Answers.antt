@@ -1,7 +1,5 @@
 -- the fault of the row at hand is told, and then what is left
-use Rattle.std.proofs.Common.{◌≡◌, ◌++◌, ◌∙◌, map, sym}
 use Rattle.fare_check.specs.CheckText.{line_of}
-use Rattle.fare_check.specs.Faults.{at_end, findings_from, of_row}
 use Rattle.fare_check.proofs.Told.{all_left, fewer_left, ends_told}
 use Rattle.fare_check.proofs.Steps.{row_step, row_end}
 use Rattle.fare_check.proofs.reading.tell_rows.Goals as goal

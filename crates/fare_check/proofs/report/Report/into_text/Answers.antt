@@ -1,5 +1,5 @@
 -- nothing more is told, and what isn't shown is counted
-use Rattle.std.proofs.Common.{◌≡◌, ◌-◌, ◌++◌, sym, ap, ◌∙◌}
+use Rattle.std.proofs.Common.{◌++◌, sym, ap, ◌∙◌}
 use Rattle.fare_check.specs.CheckText.{more_line}
 use Rattle.fare_check.proofs.Told.{told_all}
 use Rattle.fare_check.proofs.report.Report.into_text.Goals as goal
