@@ -1,6 +1,6 @@
 //! The last part of a unit of first parts that goes on: what it costs at least with what is behind it, by the point
-//! where it may begin. It knows what the unit's cheapest way home doesn't: which fares combine with the first parts, and
-//! which stays their rules allow.
+//! where it may begin. It knows what the unit's cheapest way home doesn't: which fares combine with the first parts,
+//! and which stays their rules allow.
 
 ghost use Rattle.std.specs.Prelude.{◌≡◌, ℕ, ◌<◌, ◌≤◌, ◌++◌, ◌∷◌, [], length, Contains};
 ghost use Rattle.fare_codes.specs.Day.{day_number};
@@ -238,8 +238,8 @@ pub(crate) fn greater_of(
     row
 }
 
-/// What is behind each point at least over a unit that goes on, by what its last part costs; or where it need not go on,
-/// by what is there without it.
+/// What is behind each point at least over a unit that goes on, by what its last part costs; or where it need not go
+/// on, by what is there without it.
 pub(crate) fn over_lasts(
     going: &Going,
     must: bool,

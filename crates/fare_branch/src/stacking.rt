@@ -158,8 +158,8 @@ fn open_unit(table: &Table, parts: &[Part], unit: usize) -> Open
     }
 }
 
-/// What is behind each point at least over a unit of first parts that goes on: by its cheapest way home, and by what its
-/// last part costs.
+/// What is behind each point at least over a unit of first parts that goes on: by its cheapest way home, and by what
+/// its last part costs.
 fn over_going(
     table: &Table,
     homing: &Homing,
