@@ -1,5 +1,5 @@
-//! Pairs: what the first and the last part of a unit cost at least together, where they combine and their rules allow the
-//! stay.
+//! Pairs: what the first and the last part of a unit cost at least together, where they combine and their rules allow
+//! the stay.
 
 ghost use Rattle.std.specs.Prelude.{◌≡◌, ℕ, ◌<◌, ◌≤◌, Contains, Some};
 ghost use Rattle.fare_codes.specs.Day.{day_number};
@@ -163,8 +163,8 @@ fn least_to(pairing: &Pairing, end: usize, least: Option<u64>) -> Option<u64>
     least
 }
 
-/// What the first and the last part of a unit cost at least together, no less than the unit's floor; nothing where no two
-/// may pair.
+/// What the first and the last part of a unit cost at least together, no less than the unit's floor; nothing where no
+/// two may pair.
 pub(crate) fn least_pair(pairing: &Pairing) -> Option<u64>
     requires start { pairing.now.start < count pairing.now.table.now.trip }
     requires home { pairing.now.home ≤ count pairing.now.table.now.trip }
