@@ -64,8 +64,8 @@ pub fn cell(rows: &[[Option<u64>; MOST_POINTS]; MOST_POINTS], i: usize, j: usize
     }
 }
 
-/// What one unit costs at least that begins at a point and ends at another: one part alone, or half round trips, by what
-/// they cost at least and by the first and the last of them.
+/// What one unit costs at least that begins at a point and ends at another: one part alone, or half round trips, by
+/// what they cost at least and by the first and the last of them.
 fn with_half(
     table: &Table,
     start: usize,

@@ -118,8 +118,8 @@ fn least_behind(pairing: &Pairing, first: FirstPart, least: Option<u64>) -> Opti
     requires start { pairing.now.start < count pairing.now.table.now.trip }
     requires home { pairing.now.home ≤ count pairing.now.table.now.trip }
     ensures kept { IsKeptBy least result }
-    ensures pairs { IsUnderPairsFrom pairing.now.table.now pairing.now.start pairing.now.home pairing.now.floor first.fare
-        first.amount first.end result }
+    ensures pairs { IsUnderPairsFrom pairing.now.table.now pairing.now.start pairing.now.home pairing.now.floor
+        first.fare first.amount first.end result }
 {
     let mut least = least;
     for begin in first.end..pairing.home {
