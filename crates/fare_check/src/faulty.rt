@@ -9,7 +9,7 @@ ghost use Rattle.fare_check.specs.Faults.{faulty_from, stands_first};
 
 use fare_csv::TextFault;
 use fare_outside::NoMemory;
-use fare_tariff::{Filed, MOST_PLACES};
+use fare_tariff::{Filed, MOST_PLACES, has_kind};
 use rayon::prelude::*;
 use std::alloc::{AllocError, Global};
 use std::marker::Sync;
@@ -26,15 +26,6 @@ fn fault_at(filed: &Filed, place: usize) -> Option<TextFault>
         None => None,
         Some(fault) => Some(TextFault::from(fault)),
     }
-}
-
-/// Whether the record at a place has a fault.
-fn is_faulty(filed: &Filed, place: usize) -> bool
-    requires within { place < length filed.now }
-    requires in_limit { place < MOST_PLACES }
-    ensures { result ≡ has_kind_at filed.now place }
-{
-    fare_tariff::fault_at(filed, place).is_some()
 }
 
 /// The places of the records that have a fault, of so many records, sought on all processors.
@@ -54,7 +45,7 @@ fn seek_faulty<R: Threads + Sync>(
             |place: &u32| -> bool
                 requires { (place.now < length filed.now) × (place.now < MOST_PLACES) }
                 ensures { result ≡ has_kind_at filed.entry.now place.now }
-            { is_faulty(filed, *place as usize) },
+            { has_kind(filed, *place as usize) },
         )
         .collect(rt, alloc)
 }

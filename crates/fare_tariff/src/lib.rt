@@ -21,7 +21,7 @@ mod records;
 mod seasons;
 mod towns;
 
-pub use check::{CheckFault, CheckKind, fault_at, is_unknown_city};
+pub use check::{CheckFault, CheckKind, fault_at, has_kind, is_unknown_city};
 pub use edition::Edition;
 pub use filed::{Filed, own_key};
 pub use laws::{fare_of_a_day_is_one, fares_come_in_turn};

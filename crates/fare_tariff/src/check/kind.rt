@@ -63,8 +63,9 @@ fn is_faulty(filed: &Filed, place: usize, one: &Record) -> bool
         || (names_unknown(filed, one) || (has_same_points(one) || is_zero_mileage(one)))
 }
 
-/// Whether the record at a place has a kind.
-fn has_kind(filed: &Filed, place: usize) -> bool
+/// Whether the record at a place has a kind, by tests that look at no more than so many fares of one market as an edition
+/// may have.
+pub fn has_kind(filed: &Filed, place: usize) -> bool
     requires { place < length filed.now }
     ensures { result ≡ has_kind_at filed.now place }
 {
