@@ -10,6 +10,6 @@ mod numbers;
 
 pub use check_fault::CheckFault;
 pub use check_kind::CheckKind;
-pub use kind::{fault_at, has_kind};
 pub(crate) use kind::first_fault;
+pub use kind::{fault_at, has_kind};
 pub use names::is_unknown_city;
