@@ -8,8 +8,7 @@ ghost use Rattle.fare_counter.specs.WhyReply.{WhyIn};
 use fare_answers::QuoteFault;
 use fare_book::Book;
 use fare_http::Form;
-use fare_outside::OpenGate;
-use fare_split::SplitQuoter;
+use fare_split::{SplitQuoter, Turnstile};
 use fare_trip::Trip;
 use fare_units::{PlainQuoter, Quoter};
 use fare_why::{Searches, why_text};
@@ -52,7 +51,7 @@ impl Reasoner for PlainQuoter {
 }
 
 /// Its workers share the search for the best, and then have one search each.
-impl Reasoner for SplitQuoter<'_, OpenGate> {
+impl Reasoner for SplitQuoter<'_, Turnstile> {
     fn reasons<R: Threads + Sync>(
         &self,
         rt: &R,

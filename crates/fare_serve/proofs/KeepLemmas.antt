@@ -1,11 +1,10 @@
 -- What each step of a handler keeps, what is served keeps.
-use Rattle.std.proofs.Common.{◌≡◌, ℕ, List, [], ◌∷◌, Option, Bool, true, false, refl, sym, subst}
+use Rattle.std.proofs.Common.{◌≡◌, ◌≤◌, ℕ, List, [], ◌∷◌, Option, Bool, true, false, refl, sym, subst}
 use Rattle.std.specs.Prelude.{MatchBool}
 use Rattle.fare_http.specs.declared.reply.Reply.{Reply}
 use Rattle.fare_http.specs.declared.sending.Exchange.{Exchange}
 use Rattle.fare_http.specs.declared.sending.Exchange.TheVariants.{Served, Cut}
 use Rattle.fare_http.specs.Serving.{Exchanges, IsServed, IsCutOff, whole, fixed, wanting, ended, unread, unsent}
-use Rattle.fare_outside.specs.Cause.{Rose}
 use Rattle.fare_rounds.specs.Entries.{is_publication}
 use Rattle.fare_rounds.specs.Rounds.{Exchanged, IsRound, RoundStep}
 use Rattle.fare_serve.specs.Service.{AreRounds, DoorState, IsNextRound, IsService, Standing}
@@ -47,14 +46,13 @@ module _ {H : Type 0} (step : H → List ℕ → List ℕ → List ℕ → Optio
     (further : (one two three : H) → Keeps one two → Keeps two three → Keeps one three)
     (steps : (old : H) (method path body : List ℕ) (reply : Option Reply) (new : H) → step old method path body reply new
     → Keeps old new) where
-  round-keeps : (Fails : Type 0) (start old : H) (round : List Exchanged) (new : H) → IsRound step Fails start old round new
-      → Keeps old new
-  round-keeps Fails start old [] new is = subst (λ (handler : H). Keeps old handler) (sym is) (same old)
-  round-keeps Fails start old (exchanged ∷ later) new are =
+  round-keeps : (start old : H) (round : List Exchanged) (new : H) → IsRound step start old round new → Keeps old new
+  round-keeps start old [] new is = subst (λ (handler : H). Keeps old handler) (sym is) (same old)
+  round-keeps start old (exchanged ∷ later) new are =
       further old are.0 new
       (exchange-keeps (RoundStep step start) Keeps same (round-step-keeps step Keeps same steps start) exchanged.ending
-      exchanged.connection old exchanged.sent are.0 Fails are.1)
-      (round-keeps Fails start are.0 later new are.2)
+      exchanged.connection old exchanged.sent are.0 (1 ≤ exchanged.failures) are.1)
+      (round-keeps start are.0 later new are.2)
 
   rounds-keep : (count most : ℕ) (old : Standing H) (rounds : List (List Exchanged)) (new : Standing H)
       → AreRounds step count most old rounds new → Keeps old.handler new.handler
@@ -62,13 +60,18 @@ module _ {H : Type 0} (step : H → List ℕ → List ℕ → List ℕ → Optio
       subst (λ (state : Standing H). Keeps old.handler state.handler) (sym is) (same old.handler)
   rounds-keep count most old (round ∷ rounds) new are =
       further old.handler are.0.handler new.handler
-      (round-keeps (Rose old.door.cuts are.0.door.cuts) old.handler old.handler round are.0.handler are.1.exchanges)
+      (round-keeps old.handler old.handler round are.0.handler are.1.exchanges)
       (rounds-keep count most are.0 rounds new are.2)
 
   -- whatever was served
-  pub service-keeps : (count most : ℕ) (first last : H) (before after : DoorState) (served cut : ℕ)
-      → IsService step count most first last before after served cut → Keeps first last
-  service-keeps count most first last before after served cut service =
+  pub service-keeps : (count most port : ℕ) (first last : H) (before after : DoorState) (served cut : ℕ)
+      → IsService step count most port first last before after served cut → Keeps first last
+  service-keeps count most port first last before after served cut service =
       rounds-keep count most
-      (record { handler = first; door = record before { faults = service.listened }; served = 0; cut = 0 }) service.rounds
+      (record {
+        handler = first;
+        door = record before { port = service.heard; faults = service.listened };
+        served = 0;
+        cut = 0;
+      }) service.rounds
       (record { handler = last; door = after; served = served; cut = cut }) service.each

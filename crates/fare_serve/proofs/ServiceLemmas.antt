@@ -30,8 +30,8 @@ full-count None before took after room sum full = tt
 full-count (Some lists) before took after room sum full = omega (arith, sum, full)
 
 -- a door that was asked to listen, and nothing else
-pub door-asked : (waiting waiting' sent sent' : Option (List (List ℕ))) (faults cuts cuts' : ℕ)
+pub door-asked : (waiting waiting' sent sent' : Option (List (List ℕ))) (port : Option ℕ) (faults cuts cuts' : ℕ)
     → waiting' ≡ waiting → sent' ≡ sent → cuts' ≡ cuts
-    → door_state waiting' sent' faults cuts' ≡ door_state waiting sent faults cuts
-door-asked waiting waiting' sent sent' faults cuts cuts' same_waiting same_sent same_cuts =
+    → door_state waiting' sent' port faults cuts' ≡ door_state waiting sent port faults cuts
+door-asked waiting waiting' sent sent' port faults cuts cuts' same_waiting same_sent same_cuts =
     rw (same_waiting, same_sent, same_cuts) refl

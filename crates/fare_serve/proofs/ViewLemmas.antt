@@ -1,11 +1,10 @@
 -- What is served by a handler, told of what a view shows of it.
-use Rattle.std.proofs.Common.{◌≡◌, ℕ, List, [], ◌∷◌, Option, Bool, true, false, Result, Ok, Err, Vec, refl, ap}
+use Rattle.std.proofs.Common.{◌≡◌, ◌≤◌, ℕ, List, [], ◌∷◌, Option, Bool, true, false, Result, Ok, Err, Vec, refl, ap}
 use Rattle.std.specs.Prelude.{MatchBool}
 use Rattle.fare_http.specs.declared.reply.Reply.{Reply}
 use Rattle.fare_http.specs.declared.sending.Exchange.{Exchange}
 use Rattle.fare_http.specs.declared.sending.Exchange.TheVariants.{Served, Cut}
 use Rattle.fare_http.specs.Serving.{Exchanges, IsServed, IsCutOff, whole, fixed, wanting, ended, unread, unsent}
-use Rattle.fare_outside.specs.Cause.{Rose}
 use Rattle.fare_rounds.specs.Entries.{is_publication}
 use Rattle.fare_rounds.specs.Rounds.{Exchanged, IsRound, RoundStep}
 use Rattle.fare_serve.specs.Service.{AreRounds, DoorState, IsNextRound, IsService, ServesAll, ServesSome, Standing}
@@ -51,14 +50,15 @@ module _ {H S : Type 0} (view : H → S)
     (shown : S → List ℕ → List ℕ → List ℕ → Option Reply → S → Type 0)
     (shows : (old : H) (method path body : List ℕ) (reply : Option Reply) (new : H) → step old method path body reply new
     → shown (view old) method path body reply (view new)) where
-  round-as : (Fails : Type 0) (start old : H) (round : List Exchanged) (new : H) → IsRound step Fails start old round new
-      → IsRound shown Fails (view start) (view old) round (view new)
-  round-as Fails start old [] new same = ap view same
-  round-as Fails start old (exchanged ∷ later) new are = (
+  round-as : (start old : H) (round : List Exchanged) (new : H) → IsRound step start old round new
+      → IsRound shown (view start) (view old) round (view new)
+  round-as start old [] new same = ap view same
+  round-as start old (exchanged ∷ later) new are = (
     view are.0,
     exchange-as view (RoundStep step start) (RoundStep shown (view start))
-        (round-step-as view step shown shows start) exchanged.ending exchanged.connection old exchanged.sent are.0 Fails are.1,
-    round-as Fails start are.0 later new are.2,
+        (round-step-as view step shown shows start) exchanged.ending exchanged.connection old exchanged.sent are.0
+        (1 ≤ exchanged.failures) are.1,
+    round-as start are.0 later new are.2,
   )
 
   -- what stands between two rounds, with what the view shows of the handler
@@ -68,7 +68,9 @@ module _ {H S : Type 0} (view : H → S)
   next-as : (count most : ℕ) (old new : Standing H) (round : List Exchanged) → IsNextRound step count most old new round
       → IsNextRound shown count most (seen old) (seen new) round
   next-as count most old new round next = record {
-    exchanges = round-as (Rose old.door.cuts new.door.cuts) old.handler old.handler round new.handler next.exchanges;
+    exchanges = round-as old.handler old.handler round new.handler next.exchanges;
+    failed = next.failed;
+    port = next.port;
     waiting = next.waiting;
     sent = next.sent;
     served = next.served;
@@ -83,36 +85,44 @@ module _ {H S : Type 0} (view : H → S)
   rounds-as count most old (round ∷ rounds) new are =
       (seen are.0, next-as count most old are.0 round are.1, rounds-as count most are.0 rounds new are.2)
 
-  service-as : (count most : ℕ) (first last : H) (before after : DoorState) (served cut : ℕ)
-      → IsService step count most first last before after served cut
-      → IsService shown count most (view first) (view last) before after served cut
-  service-as count most first last before after served cut service = record {
+  service-as : (count most port : ℕ) (first last : H) (before after : DoorState) (served cut : ℕ)
+      → IsService step count most port first last before after served cut
+      → IsService shown count most port (view first) (view last) before after served cut
+  service-as count most port first last before after served cut service = record {
+    heard = service.heard;
     listened = service.listened;
     asked = service.asked;
     rounds = service.rounds;
     each = rounds-as count most
-        (record { handler = first; door = record before { faults = service.listened }; served = 0; cut = 0 }) service.rounds
+        (record {
+          handler = first;
+          door = record before { port = service.heard; faults = service.listened };
+          served = 0;
+          cut = 0;
+        }) service.rounds
         (record { handler = last; door = after; served = served; cut = cut }) service.each;
+    let_in = service.let_in;
     within = service.within;
   }
 
   -- what was served by the handler was served by what the view shows of it
-  pub all-as : (count most : ℕ) (first last : H) (before after : DoorState) (text : List ℕ)
-      → ServesAll step count most first last before after text
-      → ServesAll shown count most (view first) (view last) before after text
-  all-as count most first last before after text serves = record {
+  pub all-as : (count most port : ℕ) (first last : H) (before after : DoorState) (text : List ℕ)
+      → ServesAll step count most port first last before after text
+      → ServesAll shown count most port (view first) (view last) before after text
+  all-as count most port first last before after text serves = record {
     served = serves.served;
     cut = serves.cut;
-    service = service-as count most first last before after serves.served serves.cut serves.service;
+    service = service-as count most port first last before after serves.served serves.cut serves.service;
+    heard = serves.heard;
     all = serves.all;
     said = serves.said;
   }
 
-  pub some-as : (count most : ℕ) (first last : H) (before after : DoorState)
-      → ServesSome step count most first last before after
-      → ServesSome shown count most (view first) (view last) before after
-  some-as count most first last before after serves = record {
+  pub some-as : (count most port : ℕ) (first last : H) (before after : DoorState)
+      → ServesSome step count most port first last before after
+      → ServesSome shown count most port (view first) (view last) before after
+  some-as count most port first last before after serves = record {
     served = serves.served;
     cut = serves.cut;
-    service = service-as count most first last before after serves.served serves.cut serves.service;
+    service = service-as count most port first last before after serves.served serves.cut serves.service;
   }

@@ -23,19 +23,19 @@ pub record World : Type 0 where
 abbrev pub world_of : DoorState → Told → ℕ → World
 world_of door bodies faults = record { door = door; bodies = bodies; faults = faults }
 
-module _ (count most : ℕ) (first : BookState) (old new : World) where
-  -- a counter over the desk of this book and these bodies served all connections, and this is the summary
+module _ (count most port : ℕ) (first : BookState) (old new : World) where
+  -- a counter over the desk of this book and these bodies served all connections at this port, and this is the summary
   abbrev pub CounterServesAll : List ℕ → Type 0
   CounterServesAll text =
       (last : BookState)
-      × ServesAll CounterStep count most (state first old.bodies old.faults) (state last new.bodies new.faults)
+      × ServesAll CounterStep count most port (state first old.bodies old.faults) (state last new.bodies new.faults)
       old.door new.door text
 
   -- it served some connections, or none
   abbrev pub CounterServesSome : Type 0
   CounterServesSome =
       (last : BookState)
-      × ServesSome CounterStep count most (state first old.bodies old.faults) (state last new.bodies new.faults)
+      × ServesSome CounterStep count most port (state first old.bodies old.faults) (state last new.bodies new.faults)
       old.door new.door
 
   -- what is made of the book of an open store, by the answer: some connections are served where the door fails, and

@@ -28,15 +28,18 @@ pub fn serve_rounds<R: Threads + Sync, D: Door, H: RoundHandler>(
     ensures rounds { (rounds : List (List Exchanged))
         × AreRounds H.step count most
         (standing handler.old
-        (door_state (D.waiting door.old) (D.sent door.old) (D.faults door.old) (D.cuts door.old)) 0 0)
+        (door_state (D.waiting door.old) (D.sent door.old) (D.listens_at door.old)
+        (D.faults door.old) (D.cuts door.old)) 0 0)
         rounds
         (standing handler.new
-        (door_state (D.waiting door.new) (D.sent door.new) (D.faults door.new) (D.cuts door.new))
+        (door_state (D.waiting door.new) (D.sent door.new) (D.listens_at door.new)
+        (D.faults door.new) (D.cuts door.new))
         result.1.served result.1.cut) }
     ensures within { result.1.served + result.1.cut ≤ count }
     ensures open { result.0 ≡ DoorEnd.Open → result.1.served + result.1.cut ≡ count }
     ensures no_more { result.0 ≡ DoorEnd.NoMore → NoneWaits (D.waiting door.new) }
     ensures failed { result.0 ≡ DoorEnd.Failed → Rose (D.faults door.old) (D.faults door.new) }
+    ensures port { D.listens_at door.new ≡ D.listens_at door.old }
     ensures faults { D.faults door.old ≤ D.faults door.new }
     ensures cuts { D.cuts door.old ≤ D.cuts door.new }
 {
@@ -67,10 +70,12 @@ fn serve_next<R: Threads + Sync, D: Door, H: RoundHandler>(
     ensures round { (round : List Exchanged)
         × IsNextRound H.step count most
         (standing handler.old
-        (door_state (D.waiting door.old) (D.sent door.old) (D.faults door.old) (D.cuts door.old))
+        (door_state (D.waiting door.old) (D.sent door.old) (D.listens_at door.old)
+        (D.faults door.old) (D.cuts door.old))
         counts.old.served counts.old.cut)
         (standing handler.new
-        (door_state (D.waiting door.new) (D.sent door.new) (D.faults door.new) (D.cuts door.new))
+        (door_state (D.waiting door.new) (D.sent door.new) (D.listens_at door.new)
+        (D.faults door.new) (D.cuts door.new))
         counts.new.served counts.new.cut)
         round }
     ensures within { counts.new.served + counts.new.cut ≤ count }
@@ -79,6 +84,7 @@ fn serve_next<R: Threads + Sync, D: Door, H: RoundHandler>(
     ensures no_more { result ≡ DoorEnd.NoMore → NoneWaits (D.waiting door.new) }
     ensures failed { result ≡ DoorEnd.Failed → Rose (D.faults door.old) (D.faults door.new) }
     ensures none_held { D.held door.new ≡ [] }
+    ensures port { D.listens_at door.new ≡ D.listens_at door.old }
     ensures faults { D.faults door.old ≤ D.faults door.new }
     ensures cuts { D.cuts door.old ≤ D.cuts door.new }
 {

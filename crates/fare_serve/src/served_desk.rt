@@ -8,9 +8,9 @@ use fare_book::Book;
 use fare_counter::{Counter, CounterRoutes};
 use fare_desk::{Desk, Routes};
 use fare_http::{Handler, Reply};
-use fare_outside::{Keeper, NoMemory, OpenGate};
+use fare_outside::{Keeper, NoMemory};
 use fare_rounds::{Round, RoundHandler};
-use fare_split::SplitQuoter;
+use fare_split::{SplitQuoter, Turnstile};
 use http::Method;
 use std::alloc::Global;
 use std::thread::Threads;
@@ -19,18 +19,19 @@ use std::thread::Threads;
 #[derive(Drop)]
 pub struct ServedDesk<'k, P: Keeper> {
     /// What answers.
-    pub counter: Counter<'k, P, SplitQuoter<'k, OpenGate>>,
+    pub counter: Counter<'k, P, SplitQuoter<'k, Turnstile>>,
 }
 
 impl<'k, P: Keeper> ServedDesk<'k, P> {
     /// A desk over a book and a keeper that is ready, whose searches are shared out among 1 to `MOST_WORKERS` workers,
-    /// with the counter's own routes and the desk's, which were made before. It takes no memory.
+    /// which a gate counts, with the counter's own routes and the desk's, which were made before. It takes no memory.
     pub fn over(
         own: CounterRoutes,
         routes: Routes,
         book: Book,
         keeper: &'k mut P,
         workers: u32,
+        gate: &'k Turnstile,
     ) -> ServedDesk<'k, P>
         requires ready { IsTrue (P.ready keeper.old) }
         requires some { 1 ≤ workers }
@@ -39,7 +40,7 @@ impl<'k, P: Keeper> ServedDesk<'k, P> {
         ensures keeper { result.counter.desk.keeper.now ≡ keeper.old }
         ensures same_reference { result.counter.desk.keeper.ghost_name ≡ keeper.entry.ghost_name }
     {
-        let desk = Desk::over(routes, book, keeper, SplitQuoter::new(workers, &OpenGate));
+        let desk = Desk::over(routes, book, keeper, SplitQuoter::new(workers, gate));
         ServedDesk {
             counter: Counter::over(own, desk),
         }
@@ -66,7 +67,7 @@ impl<'k, P: Keeper> ServedDesk<'k, P> {
 
 impl<'k, P: Keeper> Handler for ServedDesk<'k, P> {
     ghost step = { λ old method path body reply new.
-        ⟦<Counter<'k, P, SplitQuoter<'k, OpenGate>> as Handler>⟧.step old.counter method path body reply new.counter };
+        ⟦<Counter<'k, P, SplitQuoter<'k, Turnstile>> as Handler>⟧.step old.counter method path body reply new.counter };
 
     fn answer<R: Threads + Sync>(
         &mut self,
@@ -96,5 +97,5 @@ impl<'k, P: Keeper> RoundHandler for ServedDesk<'k, P> {
     ghost shows = { λ served method path body reply other answered.
         let desk = served.counter.desk in
         let now = state desk.book (P.bodies desk.keeper.now) (P.faults desk.keeper.now) in
-        (refl, viewed now method path body reply other answered) };
+        (refl, refl, viewed now method path body reply other answered) };
 }

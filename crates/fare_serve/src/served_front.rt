@@ -10,8 +10,8 @@ use fare_counter::CounterFront;
 use fare_desk::{Batcher, Clerk, Route, SideBySide, batch_reply, form_of, is_method};
 use fare_http::{Form, Front, Reply};
 use fare_json::OneMethod;
-use fare_outside::{NoMemory, OpenGate};
-use fare_split::SplitQuoter;
+use fare_outside::NoMemory;
+use fare_split::{SplitQuoter, Turnstile};
 use http::Method;
 use serde_json::Value;
 use std::alloc::Global;
@@ -22,7 +22,7 @@ use std::thread::Threads;
 #[derive(Drop)]
 pub struct ServedFront<'s, 'k> {
     /// What answers every request.
-    pub counter: CounterFront<'s, SplitQuoter<'k, OpenGate>>,
+    pub counter: CounterFront<'s, SplitQuoter<'k, Turnstile>>,
 }
 
 impl ServedFront<'_, '_> {

@@ -14,15 +14,16 @@ use fare_counter::CounterRoutes;
 use fare_desk::Routes;
 use fare_outside::{Door, Failed, Keeper};
 use fare_rounds::{Counts, DoorEnd, RoundHandler};
+use fare_split::Turnstile;
 use std::alloc::Global;
 use std::thread::Threads;
 
 /// The most bytes of a summary.
 const MOST_SUMMARY: usize = 64;
 
-/// Serves connections over a book and its keeper, which is ready, and answers how many were served and cut off. All
-/// memory but that of the answers is taken before the door is asked to listen: where it is wanting, the door and the
-/// keeper are left alone.
+/// Serves connections over a book and its keeper, which is ready, and answers how many were served and cut off. Nobody
+/// is let in unless the door listens at the port that was asked for. All memory but that of the answers is taken before
+/// the door is asked to listen: where it is wanting, the door and the keeper are left alone.
 pub fn serve<R: Threads + Sync, P: Keeper, D: Door>(
     rt: &R,
     alloc: Global,
@@ -30,6 +31,7 @@ pub fn serve<R: Threads + Sync, P: Keeper, D: Door>(
     keeper: &mut P,
     door: &mut D,
     service: Service,
+    gate: &Turnstile,
 ) -> Result<Vec<u8>, ServeFault>
     requires some { 1 ≤ service.round }
     requires few { service.round ≤ 8 }
@@ -37,10 +39,12 @@ pub fn serve<R: Threads + Sync, P: Keeper, D: Door>(
     requires few_workers { service.workers ≤ MOST_WORKERS }
     requires none_held { D.held door.old ≡ [] }
     requires ready { IsTrue (P.ready keeper.old) }
-    ensures serves { ServesBook service.count service.round book
-        (world_of (door_state (D.waiting door.old) (D.sent door.old) (D.faults door.old) (D.cuts door.old))
+    ensures serves { ServesBook service.count service.round service.port book
+        (world_of (door_state (D.waiting door.old) (D.sent door.old) (D.listens_at door.old)
+        (D.faults door.old) (D.cuts door.old))
         (P.bodies keeper.old) (P.faults keeper.old))
-        (world_of (door_state (D.waiting door.new) (D.sent door.new) (D.faults door.new) (D.cuts door.new))
+        (world_of (door_state (D.waiting door.new) (D.sent door.new) (D.listens_at door.new)
+        (D.faults door.new) (D.cuts door.new))
         (P.bodies keeper.new) (P.faults keeper.new))
         result }
     ensures nobody { result ≡ Err ServeFault.Memory → door.new ≡ door.old }
@@ -49,13 +53,14 @@ pub fn serve<R: Threads + Sync, P: Keeper, D: Door>(
     ensures faults { D.faults door.old ≤ D.faults door.new }
     ensures cuts { D.cuts door.old ≤ D.cuts door.new }
     ensures keeper_faults { P.faults keeper.old ≤ P.faults keeper.new }
+    ensures name { P.opened_as keeper.new ≡ P.opened_as keeper.old }
 {
     let routes = Routes::new(alloc)?;
     let own = CounterRoutes::new(alloc)?;
     let Ok(room) = Vec::with_capacity(alloc, MOST_SUMMARY) else {
         return Err(ServeFault::Memory);
     };
-    let mut served = ServedDesk::over(own, routes, book, keeper, service.workers);
+    let mut served = ServedDesk::over(own, routes, book, keeper, service.workers, gate);
     let text = serve_desk(rt, alloc, door, &mut served, service, room);
     let _keeper = served.into_keeper();
     text
@@ -76,10 +81,12 @@ fn serve_desk<R: Threads + Sync, P: Keeper, D: Door>(
     requires empty { room.items ≡ [] }
     requires room { MOST_SUMMARY ≤ vec_capacity room }
     ensures same_reference { served.new.counter.desk.keeper.ghost_name ≡ served.old.counter.desk.keeper.ghost_name }
-    ensures serves { ServesBook service.count service.round served.old.counter.desk.book
-        (world_of (door_state (D.waiting door.old) (D.sent door.old) (D.faults door.old) (D.cuts door.old))
+    ensures serves { ServesBook service.count service.round service.port served.old.counter.desk.book
+        (world_of (door_state (D.waiting door.old) (D.sent door.old) (D.listens_at door.old)
+        (D.faults door.old) (D.cuts door.old))
         (P.bodies served.old.counter.desk.keeper.now) (P.faults served.old.counter.desk.keeper.now))
-        (world_of (door_state (D.waiting door.new) (D.sent door.new) (D.faults door.new) (D.cuts door.new))
+        (world_of (door_state (D.waiting door.new) (D.sent door.new) (D.listens_at door.new)
+        (D.faults door.new) (D.cuts door.new))
         (P.bodies served.new.counter.desk.keeper.now) (P.faults served.new.counter.desk.keeper.now))
         result }
     ensures ends { OnErr result (result ≡ Err ServeFault.Door) }
@@ -87,6 +94,7 @@ fn serve_desk<R: Threads + Sync, P: Keeper, D: Door>(
     ensures faults { D.faults door.old ≤ D.faults door.new }
     ensures cuts { D.cuts door.old ≤ D.cuts door.new }
     ensures keeper_faults { P.faults served.old.counter.desk.keeper.now ≤ P.faults served.new.counter.desk.keeper.now }
+    ensures name { P.opened_as served.new.counter.desk.keeper.now ≡ P.opened_as served.old.counter.desk.keeper.now }
 {
     match serve_port(rt, alloc, door, served, service, room) {
         Ok(text) => Ok(text),
@@ -108,9 +116,11 @@ fn serve_port<R: Threads + Sync, D: Door, H: RoundHandler>(
     requires none_held { D.held door.old ≡ [] }
     requires empty { room.items ≡ [] }
     requires room { MOST_SUMMARY ≤ vec_capacity room }
-    ensures serves { ServesPort H.step service.count service.round handler.old handler.new
-        (door_state (D.waiting door.old) (D.sent door.old) (D.faults door.old) (D.cuts door.old))
-        (door_state (D.waiting door.new) (D.sent door.new) (D.faults door.new) (D.cuts door.new))
+    ensures serves { ServesPort H.step service.count service.round service.port handler.old handler.new
+        (door_state (D.waiting door.old) (D.sent door.old) (D.listens_at door.old)
+        (D.faults door.old) (D.cuts door.old))
+        (door_state (D.waiting door.new) (D.sent door.new) (D.listens_at door.new)
+        (D.faults door.new) (D.cuts door.new))
         result }
     ensures cause { OnErr result (Rose (D.faults door.old) (D.faults door.new)) }
     ensures faults { D.faults door.old ≤ D.faults door.new }

@@ -1,4 +1,4 @@
-use Rattle.std.proofs.Common.{◌≡◌, [], ◌∷◌, ◌++◌, List, arith}
+use Rattle.std.proofs.Common.{◌≡◌, ◌∙◌, [], ◌∷◌, ◌++◌, List, arith}
 use Rattle.fare_rounds.specs.Rounds.{Exchanged}
 use Rattle.fare_serve.specs.Service.{AreRounds, door_state, standing}
 use Rattle.fare_serve.proofs.ServiceLemmas.{rounds-later}
@@ -18,6 +18,7 @@ rounds-preserved g c =
       rounds = (before.0 ++ next.0 ∷ [], rounds-later g.H.Handler.step c.args.count c.args.most _ _ _ before.0 next.0 before.1 next.1);
       within = c.serve_next-end.ensures.within;
       none_held = c.serve_next-end.ensures.none_held;
+      port = c.serve_next-end.ensures.port ∙ c.rounds.invariant.port;
       faults = omega arith;
       cuts = omega arith;
     }

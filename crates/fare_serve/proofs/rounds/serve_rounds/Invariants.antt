@@ -8,12 +8,13 @@ invariant-rounds g l = record {
   rounds : (rounds : List (List Exchanged))
       × AreRounds g.H.Handler.step l.count l.most
       (standing l.initial.handler (door_state (g.D.Door.waiting l.initial.door) (g.D.Door.sent l.initial.door)
-      (g.D.Door.faults l.initial.door) (g.D.Door.cuts l.initial.door)) 0 0)
+      (g.D.Door.listens_at l.initial.door) (g.D.Door.faults l.initial.door) (g.D.Door.cuts l.initial.door)) 0 0)
       rounds
       (standing l.handler (door_state (g.D.Door.waiting l.door) (g.D.Door.sent l.door)
-      (g.D.Door.faults l.door) (g.D.Door.cuts l.door)) l.counts.served l.counts.cut);
+      (g.D.Door.listens_at l.door) (g.D.Door.faults l.door) (g.D.Door.cuts l.door)) l.counts.served l.counts.cut);
   within : l.counts.served + l.counts.cut ≤ l.count;
   none_held : g.D.Door.held l.door ≡ [];
+  port : g.D.Door.listens_at l.door ≡ g.D.Door.listens_at l.initial.door;
   faults : g.D.Door.faults l.initial.door ≤ g.D.Door.faults l.door;
   cuts : g.D.Door.cuts l.initial.door ≤ g.D.Door.cuts l.door;
 }
