@@ -14,10 +14,11 @@ class Case:
 
     def __init__(self, line):
         self.editions, self.method, self.path, self.body = line['editions'], line['method'], line['path'], line.get('body')
+        self.sent = None if self.body is None else self.body.encode()
         self.wanted = (line['status'], line['type'], line.get('allow'), line['answer'].encode())
 
     def ask(self, client):
-        return client.send(self.method, self.path, self.body)
+        return client.send(self.method, self.path, self.sent)
 
     def is_met(self, answer):
         return (answer.status, answer.media, answer.fields.get('Allow'), answer.body) == self.wanted
