@@ -12,14 +12,14 @@ SILENCE = 10
 class Waiting:
     """A question in a thread of its own."""
 
-    def __init__(self, office, path, body, client):
+    def __init__(self, office, path, body, client, method='POST'):
         self.answer = None
-        self.thread = threading.Thread(target=self.ask, args=(office, path, body, client))
+        self.thread = threading.Thread(target=self.ask, args=(office, method, path, body, client))
         self.thread.start()
 
-    def ask(self, office, path, body, client):
+    def ask(self, office, method, path, body, client):
         begun = time.monotonic()
-        status, _ = office.ask('POST', path, body, client)
+        status, _ = office.ask(method, path, body, client)
         self.answer, self.seconds = status, time.monotonic() - begun
 
     def end(self):
@@ -42,6 +42,21 @@ def not_replayed(office, samples):
     assert status == 504 and one.seconds < PATIENCE * 2, f'{status} after {one.seconds:.1f} seconds, with {PATIENCE} for one desk'
     assert len(desks_of(line)) == 1, f'the question was given to several desks: {line}'
     told('a question that takes too long is given to one desk alone, and the log names that desk')
+
+
+def given_on(office):
+    """A GET that a desk has when it ends, which changes nothing, is given to another one."""
+    hang_idle(office)
+    one = Waiting(office, '/editions', None, '127.0.0.20', 'GET')
+    wait_until(lambda: had(QUOTATIONS) == 1, 'a desk has the question')
+    desk, = [desk for desk in QUOTATIONS if connections(desk)]
+    office.wake(*(other for other in QUOTATIONS if other != desk))
+    office.kill(desk)
+    assert one.end() == 200, one.answer
+    office.start(desk)
+    line = logged(office, r'127\.0\.0\.20 ')
+    assert len(desks_of(line)) == 2, line
+    told('a GET that a desk has when it ends is given to another one')
 
 
 @contextlib.contextmanager
@@ -270,6 +285,7 @@ def no_descriptor(office, samples):
 
 def run(office, samples):
     not_replayed(office, samples)
+    given_on(office)
     passed_over(office, samples)
     limit_of_one(office, samples)
     left(office, samples)

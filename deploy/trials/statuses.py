@@ -1,5 +1,5 @@
 """What docs/OFFICE.md says of a desk's statuses, and of a publication that couldn't be stored."""
-import itertools, os, resource, socket, sqlite3, string, subprocess, time
+import itertools, os, resource, socket, sqlite3, string, subprocess, threading, time
 from office import QUOTATIONS, ask_desk, port_of, told, wait_for
 from tariffs import renumbered
 
@@ -39,6 +39,7 @@ def ends(office, samples):
     with open(samples.seventh) as text:
         assert office.store(NEW, 'publish', stdin=text).returncode == 0
     with socket.socket() as other:
+        other.setsockopt(socket.SOL_SOCKET, socket.SO_REUSEADDR, 1)
         other.bind(('127.0.0.1', port_of(NEW)))
         other.listen()
         assert serve(office) == (11, '', 'DOOR FAULT')
@@ -86,7 +87,7 @@ def long_tariff(tariff, number, effective):
 
 
 def full_disk(office, samples):
-    """A publication that finds no room is 503, the desk answers on, and stores it once there is room."""
+    """A publication that finds no room is 503, the desk answers on, and publishing everywhere goes on until it has stored it."""
     place = office.place(NEW)
     (place / 'editions').unlink(missing_ok=True)
     subprocess.run(['mount', '-t', 'tmpfs', '-o', 'size=256k,mode=0700', 'tmpfs', place], check=True)
@@ -103,16 +104,21 @@ def full_disk(office, samples):
         assert refused == [(503, b'KEEPER FAULT\n')] * 3, refused
         body = samples.bodies[0]
         assert ask_desk(NEW, 'POST', '/quote', body) == samples.before[body], 'a desk without room doesn\'t answer'
+        path, answers = office.write('long.tariff', text.decode()), []
+        publisher = threading.Thread(target=lambda: answers.append(office.publish(path, [NEW])))
+        publisher.start()
+        time.sleep(1)
+        assert not answers, answers
         stuffing.unlink()
-        again = ask_desk(NEW, 'POST', '/editions', text)
-        assert again in ((201, b'PUBLISHED 8\n'), (200, b'ALREADY 8\n')), again
+        publisher.join()
+        assert answers[0].returncode == 0 and answers[0].stdout.endswith((' PUBLISHED 8\n', ' ALREADY 8\n')), answers
         office.kill(NEW)
         assert [line.split()[1] for line in office.store(NEW, 'list').stdout.splitlines()] == ['7', '8']
     finally:
         if NEW in office.desks:
             office.kill(NEW)
         subprocess.run(['umount', place], check=True)
-    told('a publication for which the disk has no room is 503, the desk answers on, and has it once there is room')
+    told('a publication for which the disk has no room is 503, the desk answers on, and is asked again until it has it')
 
 
 def run(office, samples):
