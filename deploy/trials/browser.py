@@ -1,5 +1,5 @@
 """The page in a browser, for the trials."""
-import json
+import json, re
 from selenium import webdriver
 from selenium.webdriver.chrome.service import Service
 from selenium.webdriver.common.by import By
@@ -27,14 +27,20 @@ class Page:
     def text(self):
         return self.at('answer').text
 
+    def wait_until(self, holds, what):
+        """Waits until something holds of the answer's text."""
+        try:
+            WebDriverWait(self.browser, 30, poll_frequency=0.2).until(lambda _: holds(self.text()))
+        except Exception:
+            raise SystemExit(f'expected {what}, got: {self.text()}')
+
     def wait(self, words):
         """Waits until the answer shows all these words."""
-        def shown(_):
-            return all(word in self.text() for word in words)
-        try:
-            WebDriverWait(self.browser, 30).until(shown)
-        except Exception:
-            raise SystemExit(f'expected {words}, got: {self.text()}')
+        self.wait_until(lambda text: all(word in text for word in words), words)
+
+    def wait_for(self, pattern):
+        """Waits until the answer has the pattern."""
+        self.wait_until(lambda text: re.search(pattern, text), pattern)
 
     def press(self, name):
         self.at(name).click()

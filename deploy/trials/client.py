@@ -1,5 +1,5 @@
 """A client of the desk that knows what openapi.json says, and nothing else: no route, form or status stands in this file."""
-import http.client, json, re
+import http.client, io, json, re, socket
 from jsonschema import Draft202012Validator, RefResolver
 
 
@@ -14,6 +14,28 @@ class Answer:
         self.status, self.fields, self.body = status, fields, body
         self.media = fields.get('Content-Type')
         self.value = json.loads(body) if self.media == 'application/json' else body.decode('ascii')
+
+    @classmethod
+    def of(cls, sent):
+        """The answer of these bytes; where nothing was sent, one without a status."""
+        if not sent:
+            answer = cls(None, {}, b'')
+        else:
+            read = http.client.HTTPResponse(Sent(sent))
+            read.begin()
+            answer = cls(read.status, dict(read.getheaders()), read.read())
+        answer.sent = sent
+        return answer
+
+
+class Sent:
+    """What a peer has sent, as http.client reads it."""
+
+    def __init__(self, sent):
+        self.sent = sent
+
+    def makefile(self, _):
+        return io.BytesIO(self.sent)
 
 
 class Client:
@@ -43,6 +65,13 @@ class Client:
         connection.request(method, path, body)
         answer = connection.getresponse()
         return Answer(answer.status, dict(answer.getheaders()), answer.read())
+
+    def exchange(self, request):
+        """All that a connection gets which sends these bytes."""
+        with socket.create_connection(self.address, timeout=60) as connection:
+            connection.sendall(request)
+            connection.shutdown(socket.SHUT_WR)
+            return b''.join(iter(lambda: connection.recv(65536), b''))
 
     def call(self, name, parameters={}, body=None):
         """Calls an operation by its name: what is asked and what is answered has to be as described."""

@@ -1,7 +1,7 @@
 """Desks come and go while questions are asked: one is killed, one is taken out and stopped, and each that comes back has what was
 published meanwhile."""
 import contextlib, http.client, shutil, threading, time
-from office import LONG, QUOTATIONS, ask_desk, told
+from office import LONG, QUOTATIONS, ask_desk, connections, told, wait_until
 
 CLIENTS = [f'127.0.0.{n}' for n in range(11, 19)]
 
@@ -43,10 +43,7 @@ def quotations(office, bodies):
 def settle(asked, count):
     """Waits until so many more questions were answered."""
     wanted = len(asked) + count
-    end = time.monotonic() + 60
-    while len(asked) < wanted:
-        assert time.monotonic() < end, 'the questions stand still'
-        time.sleep(0.01)
+    wait_until(lambda: len(asked) >= wanted, 'the questions stand still')
 
 
 def killed(office, samples):
@@ -107,7 +104,7 @@ def waited_for(office, samples):
     answers = []
     asking = threading.Thread(target=lambda: answers.append(ask_desk(desk, 'POST', '/quote', body)))
     asking.start()
-    time.sleep(0.5)
+    wait_until(lambda: connections(desk) == 1, 'the desk has its question')
     out = []
     taking = threading.Thread(target=lambda: out.append(office.script('desk-out', desk)))
     taking.start()

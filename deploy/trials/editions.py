@@ -1,6 +1,6 @@
 """Who may publish, publishing with a desk that hangs, the comparison of desks, and copies of their files."""
-import os, shutil, stat, threading, time
-from office import LONG, QUOTATIONS, address_of, ask_desk, told
+import os, shutil, stat, threading
+from office import LONG, QUOTATIONS, address_of, ask_desk, told, wait_until
 from tariffs import renumbered
 
 NEW = 4
@@ -44,11 +44,11 @@ def one_hangs(office, samples):
     answers = []
     publisher = threading.Thread(target=lambda: answers.append(office.publish(path, EVERYWHERE)))
     publisher.start()
-    time.sleep(3)
-    lists = [ask_desk(desk, 'GET', '/editions')[1] for desk in EVERYWHERE[1:]]
+    wait_until(lambda: all(b'EDITION 11 ' in ask_desk(desk, 'GET', '/editions')[1] for desk in EVERYWHERE[1:]),
+               'a desk that hangs keeps the edition from no other one')
+    assert not answers, 'the desk that hangs is passed over'
     office.wake(QUOTATIONS[0])
     publisher.join()
-    assert all(b'EDITION 11 ' in one for one in lists), 'a desk that hangs keeps the edition from another one'
     assert answers[0].returncode == 0 and answers[0].stdout.count(' 11\n') == len(EVERYWHERE), answers[0]
     told('a desk that hangs delays no other one\'s edition, and has it in the end')
 

@@ -7,7 +7,7 @@ EXAMPLES = HERE.parent / 'examples'
 QUOTATIONS, LONG = (1, 2, 3), (8, 9)
 TLS_PORT = 8443
 # How many seconds nginx waits for an answer in most trials, of a desk of quotations and of one of what takes long.
-PATIENCE, LONG_PATIENCE = 3, 6
+PATIENCE, LONG_PATIENCE = 5, 20
 
 
 def port_of(desk):
@@ -26,6 +26,20 @@ def wait_for(port, process=None, seconds=60):
             return
         time.sleep(0.05)
     raise SystemExit(f'nothing listens at port {port}')
+
+
+def wait_until(holds, what, seconds=60):
+    """Waits until the call answers true, which is said in words."""
+    end = time.monotonic() + seconds
+    while not holds():
+        assert time.monotonic() < end, f'not within {seconds} seconds: {what}'
+        time.sleep(0.02)
+
+
+def connections(desk):
+    """How many connections a desk has."""
+    words = ['ss', '-Htn', 'state', 'established', f'( sport = :{port_of(desk)} )']
+    return len(subprocess.run(words, capture_output=True, text=True).stdout.splitlines())
 
 
 def ask(connection, method, path, body=None, headers={}):

@@ -1,6 +1,6 @@
 """The page while it waits: whose answer is on the screen, and the words for what comes instead of an answer."""
 import json, threading, time
-from office import QUOTATIONS, told
+from office import QUOTATIONS, connections, told, wait_until
 
 DESK = QUOTATIONS[0]
 CIRCLE, JAW = 'circle trip', 'open jaw'
@@ -22,15 +22,22 @@ window.fetch = () => { window.fetch = real; return Promise.resolve(answer); };
 """
 
 
-def overtaken(page, circle, jaw):
+def quoted(office):
+    """How many quotations the office has answered."""
+    return sum('POST /json/quote ' in line for line in office.access())
+
+
+def overtaken(office, page, circle, jaw):
     """An answer that comes after a newer question's isn't shown."""
     page.fill(circle)
+    before = quoted(office)
     page.run(LATE)
     page.press('quote')
     page.run("document.getElementById('json').value = arguments[0]", json.dumps(jaw))
     page.press('quote')
     page.wait([JAW])
-    time.sleep(3)
+    wait_until(lambda: quoted(office) == before + 2, 'the late answer is there')
+    time.sleep(1)
     assert JAW in page.text() and CIRCLE not in page.text(), f'an overtaken answer is shown: {page.text()}'
     told('an overtaken answer isn\'t shown')
 
@@ -43,7 +50,7 @@ def waits(office, page, circle):
     office.hang(DESK)
     page.press('quote')
     assert CIRCLE not in page.text(), 'the former answer is on the screen while another one is waited for'
-    page.wait(['The desk works on it', '1 s'])
+    page.wait_for(r'The desk works on it: [1-9]\d* s')
     page.keep('waiting')
     office.wake(DESK)
     page.wait([CIRCLE])
@@ -81,7 +88,7 @@ def told_by_nginx(office, page, circle):
     waiting = [threading.Thread(target=office.ask, args=('POST', '/json/quote', json.dumps(circle))) for _ in range(8)]
     for one in waiting:
         one.start()
-    time.sleep(0.5)
+    wait_until(lambda: connections(DESK) == 8, 'the address has its eight questions before the desk')
     page.press('quote')
     page.wait(['Too many questions', 'status 429'])
     office.wake(DESK)
@@ -113,7 +120,7 @@ def told_by_others(page, circle):
 
 
 def run(office, page, circle, jaw):
-    overtaken(page, circle, jaw)
+    overtaken(office, page, circle, jaw)
     waits(office, page, circle)
     greys(page, circle)
     too_long(page, circle)
