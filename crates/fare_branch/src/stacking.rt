@@ -1,7 +1,7 @@
 //! What first parts cost at least, with all that may follow: their open units come home one inside the other, and what
 //! begins behind them must end too.
 
-ghost use Rattle.std.specs.Prelude.{◌≡◌, ◌+◌, ◌-◌, ◌≤◌, true, false, length};
+ghost use Rattle.std.specs.Prelude.{◌≡◌, ℕ, ◌+◌, ◌-◌, ◌≤◌, true, false, length};
 ghost use Rattle.fare_trip.specs.Itinerary.{count};
 ghost use Rattle.fare_bounds.specs.Covers.{rest_at};
 ghost use Rattle.fare_rules.specs.Construction.{end_of, first_of, greatest_unit, own, places};
@@ -9,7 +9,7 @@ ghost use Rattle.fare_units.specs.Advance.{Advances};
 ghost use Rattle.fare_branch.specs.Floors.{IsMadeWith, IsFloorAnswer};
 ghost use Rattle.fare_homing.specs.Homing.{homing_at};
 ghost use Rattle.fare_homing.specs.Rows.{cell, AreHomingsOf};
-ghost use Rattle.fare_branch.specs.Stack.{AreOver, AreHomes, AreOverOpen, IsUntilHome, IsOverOpen};
+ghost use Rattle.fare_branch.specs.Stack.{AreOver, AreHomes, IsUntilHome, IsOverOpen};
 ghost use Rattle.fare_branch.specs.Stack.{IsOpenUnit, may_come_to};
 
 use crate::costs::units_floor;
@@ -123,22 +123,22 @@ pub(crate) fn over_point(
     }
 }
 
-/// What is behind each point at least over an open unit, by what is there without it.
+/// What is behind each point at least over an open unit, by what is there without it, and where the unit may come home.
 fn over_open(
-    table: &Table,
+    trip: &Trip,
     homing: &Homing,
     from: usize,
     opened: Open,
+    homes: &[Option<u64>; MOST_POINTS],
     behind: &[Option<u64>; MOST_POINTS],
 ) -> [Option<u64>; MOST_POINTS]
-    requires start { opened.start ≤ count table.now.trip }
-    ensures { AreOverOpen table.now homing.now from opened behind.now result }
+    requires start { opened.start ≤ count trip.now }
+    ensures { (i : ℕ) → from ≤ i → i ≤ count trip.now → IsOverOpen trip.now homing.now from opened.start opened.must i
+        homes.now (rest_at behind.now i) (rest_at result i) }
 {
-    let homes = homes_of(table, from, opened, behind);
-    let trip = table.trip();
     let mut row = [None; MOST_POINTS];
     for i in from..trip.count() + 1 {
-        row[i] = over_point(trip, homing, from, opened, i, &homes, behind[i]);
+        row[i] = over_point(trip, homing, from, opened, i, homes, behind[i]);
     }
     row
 }
@@ -176,8 +176,8 @@ fn over_going(
     ensures { AreOver table.now homing.now partial.now unit result }
 {
     let _sectors = table.trip().count();
-    let row = over_open(table, homing, partial.end(), opened, behind);
     let homes = homes_of(table, partial.end(), opened, behind);
+    let row = over_open(table.trip(), homing, partial.end(), opened, &homes, behind);
     let going = Going {
         table,
         front: partial,

@@ -1,5 +1,4 @@
-use Rattle.std.proofs.Common.{◌≡◌, ℕ, length-set, Option, ap, subst, ◌∙◌, arith}
-use Rattle.fare_trip.specs.Itinerary.{Itinerary, count}
+use Rattle.std.proofs.Common.{ℕ, length-set, Option, ◌∙◌, arith}
 use Rattle.fare_bounds.specs.Covers.{rest_at}
 use Rattle.fare_branch.specs.Stack.{IsOverOpen}
 use Rattle.fare_branch.proofs.StackRowLemmas.{row_put}
@@ -7,18 +6,11 @@ use Rattle.fare_branch.proofs.stacking.over_open.Goals as goal
 
 pub loop-i-preserved : goal.loop-i-preserved
 loop-i-preserved c =
-    let P : ℕ → Option ℕ → Type 0 = λ i number. IsOverOpen c.trip-trip.result.now c.args.homing.now c.args.from c.args.opened.start c.args.opened.must i c.homes_of-homes.result (rest_at c.args.behind.now i) number in
+    let P : ℕ → Option ℕ → Type 0 = λ i number. IsOverOpen c.args.trip.now c.args.homing.now c.args.from c.args.opened.start c.args.opened.must i c.args.homes.now (rest_at c.args.behind.now i) number in
     record {
       long = length-set c.loop-i.row c.loop-i.i c.over_point.result ∙ c.loop-i.invariant.long;
       known = row_put P c.loop-i.row c.args.from c.loop-i.i c.over_point.result (omega (arith, c.loop-i.invariant.long)) c.loop-i.invariant.known c.over_point.ensures;
     }
 
 pub returns : goal.returns
-returns c =
-    let n : c.count-i-end.result ≡ count c.args.table.now.trip = c.count-i-end.ensures.value ∙ ap count c.trip-trip.ensures in (
-      c.homes_of-homes.result,
-      c.homes_of-homes.ensures,
-      λ i low most.
-          let P : Itinerary → Type 0 = λ trip. IsOverOpen trip c.args.homing.now c.args.from c.args.opened.start c.args.opened.must i c.homes_of-homes.result (rest_at c.args.behind.now i) (rest_at c.loop-i.row i) in
-          subst P c.trip-trip.ensures (c.loop-i.invariant.known i low (omega arith)),
-    )
+returns c i low most = c.loop-i.invariant.known i low (omega (arith, c.count-i-end.ensures.value))
