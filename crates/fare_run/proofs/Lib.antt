@@ -3,3 +3,4 @@ pub mod PublicationLemmas
 pub mod ToldLemmas
 pub mod ProgramLemmas
 pub mod WithinLemmas
+pub mod OpenedLemmas

@@ -186,14 +186,14 @@ undamaged : (place : ℕ) (damage : Damage) → ended.Done ≡ ended.Damaged pla
 undamaged place damage e = cc
 
 -- a refusal of `serve`
-serves_at : (count most : ℕ) (old new : World) (exit : Exit) (text : List ℕ) → ServesStore count most old new (Err exit) → ComesServe count most old new exit text
-serves_at count most old new ended.DoorFault text served = served
-serves_at count most old new ended.Done text served = absurd (undamaged served.1.0 served.1.1 served.1.2)
-serves_at count most old new exit text served = served
+serves_at : (count most port : ℕ) (old new : World) (exit : Exit) (text : List ℕ) → ServesStore count most port old new (Err exit) → ComesServe count most port old new exit text
+serves_at count most port old new ended.DoorFault text served = served
+serves_at count most port old new ended.Done text served = absurd (undamaged served.1.0 served.1.1 served.1.2)
+serves_at count most port old new exit text served = served
 
 -- what `serve` makes of its store and its door is told
 pub serves : (asked : Option Command) (old new : World) (answer : Answer) (told : ExitAndText) → ServesCommand asked old new answer → IsTold asked answer told → ComesServing asked old new told
 serves (Some (command.Serve store port count workers round)) old new (Ok ending) told served is = rw (is, served.0) served.1
-serves (Some (command.Serve store port count workers round)) old new (Err exit) told served (inl is) = rw is (serves_at count round old new exit _ served)
+serves (Some (command.Serve store port count workers round)) old new (Err exit) told served (inl is) = rw is (serves_at count round port old new exit _ served)
 serves (Some (command.Serve store port count workers round)) old new (Err exit) told served (inr none) = cc
 serves other old new answer told served is = tt

@@ -4,6 +4,7 @@ pub mod Answer
 pub mod JsonFault
 pub mod Refusal
 pub mod Uses
+pub mod Opened
 pub mod Sharing
 pub mod Limits
 pub mod Input

@@ -29,14 +29,14 @@ pub record Opens (old : World) (Serves : BookState → World → Type 0) : Type 
   pub stored : AreStored bodies book.editions
   pub serves : Serves book (world_of old.door bodies faults)
 
-module _ (count most : ℕ) (old new : World) where
-  -- the store was opened, all connections were served, and this is the summary
+module _ (count most port : ℕ) (old new : World) where
+  -- the store was opened, all connections were served at this port, and this is the summary
   abbrev pub OpensToAll : List ℕ → Type 0
-  OpensToAll text = Opens old (λ book opened. CounterServesAll count most book opened new text)
+  OpensToAll text = Opens old (λ book opened. CounterServesAll count most port book opened new text)
 
-  -- the store was opened, and some connections were served, or none
+  -- the store was opened, and some connections were served at this port, or none
   abbrev pub OpensToSome : Type 0
-  OpensToSome = Opens old (λ book opened. CounterServesSome count most book opened new)
+  OpensToSome = Opens old (λ book opened. CounterServesSome count most port book opened new)
 
   -- nobody was served: a call of the store failed, its bodies are damaged, or memory was wanting
   abbrev pub OpensToNobody : Exit → Type 0
@@ -65,17 +65,18 @@ module _ (count most : ℕ) (old new : World) where
 
 -- what a command makes of the store and the door, by its answer; only `serve` is spoken of
 abbrev pub ServesCommand : Option Command → World → World → Answer → Type 0
-ServesCommand (Some (command.Serve store port count workers round)) old new result = ServesStore count round old new result
+ServesCommand (Some (command.Serve store port count workers round)) old new result =
+    ServesStore count round port old new result
 ServesCommand other old new result = ⊤
 
 -- what a command makes of the store and the door, by what it comes to; only `serve` is spoken of
 abbrev pub ComesServing : Option Command → World → World → ExitAndText → Type 0
 ComesServing (Some (command.Serve store port count workers round)) old new ending =
-    ComesServe count round old new ending.exit ending.text
+    ComesServe count round port old new ending.exit ending.text
 ComesServing other old new ending = ⊤
 
 -- what a run makes of the store, the door and the sink; only `serve` is spoken of
 abbrev pub EndsServing : Option Command → World → World → Exit → Option (List ℕ) → Option (List ℕ) → Type 0
 EndsServing (Some (command.Serve store port count workers round)) old new exit before after =
-    EndsServe count round old new exit before after
+    EndsServe count round port old new exit before after
 EndsServing other old new exit before after = ⊤

@@ -7,6 +7,7 @@ ghost use Rattle.fare_serve.specs.Desk.{world_of};
 ghost use Rattle.fare_serve.specs.Service.{door_state};
 ghost use Rattle.fare_run.specs.Ends.{IsRefusalOf};
 ghost use Rattle.fare_run.specs.Limits.{limit_of};
+ghost use Rattle.fare_run.specs.Opened.{Names, store_of};
 ghost use Rattle.fare_run.specs.Outcome.{AnswersCommand};
 ghost use Rattle.fare_run.specs.Refusal.{HasOwnText};
 ghost use Rattle.fare_run.specs.Uses.{HasText, IsWithin, LeavesDoor, LeavesSource, LeavesStore, UsesDoor};
@@ -28,9 +29,9 @@ use crate::publish::publish;
 use crate::serve::serve;
 use crate::stored_quote::stored_quote;
 use fare_changes::Watch;
-use fare_outside::{Door, Keeper, OpenGate, Source};
+use fare_outside::{Door, Keeper, Source};
 use fare_serve::Service;
-use fare_split::SplitQuoter;
+use fare_split::{SplitQuoter, Turnstile};
 use fare_words::Command;
 use std::alloc::Global;
 use std::thread::Threads;
@@ -40,7 +41,7 @@ use std::thread::Threads;
 pub fn answer<R: Threads + Sync, S: Source, P: Keeper, D: Door, W: Watch>(
     rt: &R,
     alloc: Global,
-    quoter: &SplitQuoter<'_, OpenGate>,
+    quoter: &SplitQuoter<'_, Turnstile>,
     asked: &Option<Command<'_>>,
     src: &mut S,
     store: &mut P,
@@ -66,13 +67,17 @@ pub fn answer<R: Threads + Sync, S: Source, P: Keeper, D: Door, W: Watch>(
         (LeavesBodies asked.now (S.left src.old)) }
     ensures refused { IfErr result (λ exit. LeavesBodiesAt asked.now exit →
         WhereTold (P.bodies store.old) (P.bodies store.new) BodiesStay) }
+    ensures name { IfSome (store_of asked.now) (λ name.
+        Names name (P.opened_as store.old) (P.opened_as store.new) result) }
     ensures keeping { IsKeeping result (P.faults store.old) (P.faults store.new) }
     ensures keeper_last { IsErrOf result Exit.KeeperFault → IfSome (S.left src.old) (ReadsWell asked.now) }
 
     ensures serving { ServesCommand asked.now
-        (world_of (door_state (D.waiting door.old) (D.sent door.old) (D.faults door.old) (D.cuts door.old))
+        (world_of (door_state (D.waiting door.old) (D.sent door.old) (D.listens_at door.old)
+        (D.faults door.old) (D.cuts door.old))
         (P.bodies store.old) (P.faults store.old))
-        (world_of (door_state (D.waiting door.new) (D.sent door.new) (D.faults door.new) (D.cuts door.new))
+        (world_of (door_state (D.waiting door.new) (D.sent door.new) (D.listens_at door.new)
+        (D.faults door.new) (D.cuts door.new))
         (P.bodies store.new) (P.faults store.new))
         result }
     ensures door { LeavesDoor asked.now → door.new ≡ door.old }
@@ -112,7 +117,7 @@ pub fn answer<R: Threads + Sync, S: Source, P: Keeper, D: Door, W: Watch>(
             ..
         } => {
             let service = service_of(*port, *count, *round, quoter.workers);
-            serve(rt, alloc, store, door, name.as_str(), service)
+            serve(rt, alloc, store, door, name.as_str(), service, quoter.gate)
         }
         Command::Migrate { store: name } => migrate(rt, alloc, store, name.as_str()),
         Command::Check => check(rt, alloc, src),

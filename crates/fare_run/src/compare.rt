@@ -8,6 +8,7 @@ ghost use Rattle.fare_run.specs.Answer.{IsDone};
 ghost use Rattle.fare_run.specs.declared.exit.Exit.TheVariants.{BadTrip};
 ghost use Rattle.fare_run.specs.Ends.{IsRefusalOfCompare};
 ghost use Rattle.fare_run.specs.Limits.{compare_limit};
+ghost use Rattle.fare_run.specs.Opened.{Names};
 ghost use Rattle.fare_run.specs.PairOutcome.{AnswersBatchOver, AnswersCompare, AnswersPair, Compares, IsBatch};
 ghost use Rattle.fare_run.specs.Run.{HoldsBatch};
 ghost use Rattle.fare_run.specs.Steps.{Answers, HandsOnAs, IsEndOfExport, IsEndOnceRead, IsKeeping, IsReading};
@@ -59,6 +60,7 @@ pub fn compare<R: Threads + Sync, S: Source, P: Keeper, W: Watch>(
     ensures reading { IsReading compare_limit result
         (S.left src.old) (S.left src.new) (S.faults src.old) (S.faults src.new) }
     ensures bodies { WhereTold (P.bodies store.old) (P.bodies store.new) BodiesStay }
+    ensures name { Names asked.entry.name.now (P.opened_as store.old) (P.opened_as store.new) result }
     ensures keeping { IsKeeping result (P.faults store.old) (P.faults store.new) }
     ensures keeper_last { IsErrOf result Exit.KeeperFault → IfSome (S.left src.old) (HoldsBatch compare_limit) }
 {
@@ -83,6 +85,7 @@ fn compare_of<R: Threads + Sync, P: Keeper, W: Watch>(
     ensures done { IfOk result IsDone }
     ensures ends { IfErr result (IsEndOnceRead IsRefusalOfCompare) }
     ensures bodies { WhereTold (P.bodies store.old) (P.bodies store.new) BodiesStay }
+    ensures name { Names asked.entry.name.now (P.opened_as store.old) (P.opened_as store.new) result }
     ensures keeping { IsKeeping result (P.faults store.old) (P.faults store.new) }
     ensures keeper_last { IsErrOf result Exit.KeeperFault → IsBatch source.now }
 {

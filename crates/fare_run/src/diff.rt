@@ -4,6 +4,7 @@ ghost use Rattle.std.specs.Prelude.{IfErr, IfOk};
 ghost use Rattle.fare_outside.specs.Keeper.{BodiesStay, WhereTold};
 ghost use Rattle.fare_run.specs.Answer.{IsDone};
 ghost use Rattle.fare_run.specs.Ends.{IsRefusalOfDiff};
+ghost use Rattle.fare_run.specs.Opened.{Names};
 ghost use Rattle.fare_run.specs.PairOutcome.{AnswersDiff};
 ghost use Rattle.fare_run.specs.Steps.{Answers, IsEndOfExport, IsKeeping};
 ghost use Rattle.fare_run.specs.StoreOutcome.{AnswersOver, ReadsStore};
@@ -33,6 +34,7 @@ pub fn diff<R: Threads + Sync, P: Keeper>(
     ensures done { IfOk result IsDone }
     ensures ends { IfErr result IsRefusalOfDiff }
     ensures bodies { WhereTold (P.bodies store.old) (P.bodies store.new) BodiesStay }
+    ensures name { Names name.now (P.opened_as store.old) (P.opened_as store.new) result }
     ensures keeping { IsKeeping result (P.faults store.old) (P.faults store.new) }
 {
     let book = book_of(rt, alloc, store, name)?;

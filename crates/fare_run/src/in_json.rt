@@ -12,8 +12,7 @@ use crate::exit::Exit;
 use crate::outcome::Outcome;
 use fare_book::Book;
 use fare_json::{best_json, quote_json};
-use fare_outside::OpenGate;
-use fare_split::SplitQuoter;
+use fare_split::{SplitQuoter, Turnstile};
 use fare_trip::Trip;
 use fare_why::Searches;
 use fare_why_json::why_json;
@@ -26,7 +25,7 @@ use std::thread::Threads;
 pub fn quote_in_json<R: Threads + Sync>(
     rt: &R,
     alloc: Global,
-    quoter: &SplitQuoter<'_, OpenGate>,
+    quoter: &SplitQuoter<'_, Turnstile>,
     book: &Book,
     trip: &Trip,
     asked: Asked,
@@ -47,7 +46,7 @@ pub fn quote_in_json<R: Threads + Sync>(
 fn quotation<R: Threads + Sync>(
     rt: &R,
     alloc: Global,
-    quoter: &SplitQuoter<'_, OpenGate>,
+    quoter: &SplitQuoter<'_, Turnstile>,
     book: &Book,
     trip: &Trip,
 ) -> Result<Outcome, Exit>
@@ -73,7 +72,7 @@ fn first(alloc: Global, book: &Book, trip: &Trip, k: u32) -> Result<Outcome, Exi
 fn why<R: Threads + Sync>(
     rt: &R,
     alloc: Global,
-    quoter: &SplitQuoter<'_, OpenGate>,
+    quoter: &SplitQuoter<'_, Turnstile>,
     book: &Book,
     trip: &Trip,
 ) -> Result<Outcome, Exit>

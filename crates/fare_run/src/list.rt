@@ -4,6 +4,7 @@ ghost use Rattle.std.specs.Prelude.{IfErr, IfOk};
 ghost use Rattle.fare_outside.specs.Keeper.{BodiesStay, WhereTold};
 ghost use Rattle.fare_run.specs.Answer.{IsDone};
 ghost use Rattle.fare_run.specs.Ends.{IsRefusalOfList};
+ghost use Rattle.fare_run.specs.Opened.{Names};
 ghost use Rattle.fare_run.specs.Steps.{Answers, IsEndOfList, IsKeeping};
 ghost use Rattle.fare_run.specs.StoreOutcome.{AnswersOver, Lists, ReadsStore};
 
@@ -31,6 +32,7 @@ pub fn list<R: Threads + Sync, P: Keeper>(
     ensures done { IfOk result IsDone }
     ensures ends { IfErr result IsRefusalOfList }
     ensures bodies { WhereTold (P.bodies store.old) (P.bodies store.new) BodiesStay }
+    ensures name { Names name.now (P.opened_as store.old) (P.opened_as store.new) result }
     ensures keeping { IsKeeping result (P.faults store.old) (P.faults store.new) }
 {
     let book = book_of(rt, alloc, store, name)?;

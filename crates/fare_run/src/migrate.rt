@@ -1,10 +1,11 @@
 //! The command `migrate`.
 
-ghost use Rattle.std.specs.Prelude.{◌≢◌, IfErr, IfOk, IsTrue};
+ghost use Rattle.std.specs.Prelude.{◌≡◌, ◌≢◌, IfErr, IfOk, IsTrue};
 ghost use Rattle.fare_outside.specs.Keeper.{BodiesStay, ToldAfter, WhereTold};
 ghost use Rattle.fare_book.specs.Reopens.{Stay};
 ghost use Rattle.fare_run.specs.Answer.{IsDone};
 ghost use Rattle.fare_run.specs.Ends.{IsRefusalOfMigrate};
+ghost use Rattle.fare_run.specs.Opened.{Names};
 ghost use Rattle.fare_run.specs.Run.{PublishesNothing};
 ghost use Rattle.fare_run.specs.Steps.{Answers, IsKeeping};
 ghost use Rattle.fare_run.specs.StoreOutcome.{AnswersMigrate, MayMigrate, OverStore, RefusalLeaves};
@@ -35,6 +36,7 @@ pub fn migrate<R: Threads + Sync, P: Keeper>(
     ensures bodies { WhereTold (P.bodies store.old) (P.bodies store.new) MayMigrate }
     ensures refused { IfErr result (λ exit. PublishesNothing exit → exit ≢ Exit.Memory →
         WhereTold (P.bodies store.old) (P.bodies store.new) BodiesStay) }
+    ensures name { Names name.now (P.opened_as store.old) (P.opened_as store.new) result }
     ensures keeping { IsKeeping result (P.faults store.old) (P.faults store.new) }
 {
     let book = book_of(rt, alloc, store, name)?;
@@ -55,6 +57,7 @@ fn migrate_in<R: Threads + Sync, P: Keeper>(
     ensures bodies { ToldAfter (P.bodies store.old) (P.bodies store.new) MayMigrate }
     ensures refused { IfErr result (λ exit. PublishesNothing exit → exit ≢ Exit.Memory →
         Stay (P.bodies store.old) (P.bodies store.new)) }
+    ensures name { P.opened_as store.new ≡ P.opened_as store.old }
     ensures keeping { IsKeeping result (P.faults store.old) (P.faults store.new) }
 {
     let count = book.migrate(rt, alloc, store)?;

@@ -21,8 +21,8 @@ use fare_book::Book;
 use fare_check::tariff_words;
 use fare_csv::{TextFault, read_edition};
 use fare_json::tariff_fault_json;
-use fare_outside::{OpenGate, Source};
-use fare_split::SplitQuoter;
+use fare_outside::Source;
+use fare_split::{SplitQuoter, Turnstile};
 use fare_tariff::Edition;
 use fare_words::Asked;
 use std::alloc::Global;
@@ -32,7 +32,7 @@ use std::thread::Threads;
 pub fn price<R: Threads + Sync, S: Source>(
     rt: &R,
     alloc: Global,
-    quoter: &SplitQuoter<'_, OpenGate>,
+    quoter: &SplitQuoter<'_, Turnstile>,
     src: &mut S,
     asked: Asked,
     json: bool,
@@ -53,7 +53,7 @@ pub fn price<R: Threads + Sync, S: Source>(
 fn price_of<R: Threads + Sync>(
     rt: &R,
     alloc: Global,
-    quoter: &SplitQuoter<'_, OpenGate>,
+    quoter: &SplitQuoter<'_, Turnstile>,
     source: &[u8],
     asked: Asked,
     json: bool,
@@ -75,7 +75,7 @@ fn price_of<R: Threads + Sync>(
 fn price_in<R: Threads + Sync>(
     rt: &R,
     alloc: Global,
-    quoter: &SplitQuoter<'_, OpenGate>,
+    quoter: &SplitQuoter<'_, Turnstile>,
     edition: Edition,
     itinerary: &[u8],
     asked: Asked,

@@ -6,6 +6,7 @@ ghost use Rattle.fare_serve.specs.Desk.{world_of};
 ghost use Rattle.fare_serve.specs.Service.{door_state};
 ghost use Rattle.fare_run.specs.Ends.{IsEndOf};
 ghost use Rattle.fare_run.specs.Limits.{limit_of};
+ghost use Rattle.fare_run.specs.Opened.{OpensNamed};
 ghost use Rattle.fare_run.specs.Outcome.{IsOutcome};
 ghost use Rattle.fare_run.specs.Uses.{LeavesDoor, LeavesSource, LeavesStore, UsesDoor};
 ghost use Rattle.fare_words.specs.Words.{command_of};
@@ -19,13 +20,14 @@ use crate::outcome::Outcome;
 use crate::told::outcome;
 use crate::workers::workers_of;
 use fare_changes::Watch;
-use fare_outside::{Door, Gate, Keeper, NoMemory, OpenGate, Sink, Source, write_all};
-use fare_split::SplitQuoter;
+use fare_outside::{Door, Keeper, NoMemory, Sink, Source, write_all};
+use fare_split::{SplitQuoter, Turnstile};
 use fare_words::read_words;
 use std::alloc::Global;
 use std::thread::Threads;
 
-/// The whole program, over any source, sink, store, door and gate: does what the words ask, and says how it ended.
+/// The whole program, over any source, sink, store and door: does what the words ask, and says how it ended. The gate
+/// counts the workers that begin.
 ///
 /// Where the source tells its bytes, the run ends in the answer that the words, those bytes and the bodies of the store
 /// define, or in want of memory, `ReadFault`, `KeeperFault` or `WriteFault`; these three come only where the source's,
@@ -36,11 +38,14 @@ use std::thread::Threads;
 /// `migrate`, which spells some first ones anew and changes no edition; a run that ends in want of memory has stored
 /// nothing else.
 ///
+/// A command that names a store opens that one and no other, and `serve` listens at the port of its words. A source that
+/// is refused, or isn't read, opens no store.
+///
 /// `serve` lets connections in by the door, which may hold none, and answers them in rounds over the book of the store.
 /// It is the only command that touches the door, and lets nobody in where it ends in anything but `Done`, `WriteFault`
 /// and `DoorFault`, which comes only where the door's count rose. On the first two all connections that were asked for
 /// were taken, or none waits, and its text says how many were served and how many cut off.
-pub fn run<R: Threads + Sync, S: Source, K: Sink, P: Keeper, D: Door, G: Gate, W: Watch>(
+pub fn run<R: Threads + Sync, S: Source, K: Sink, P: Keeper, D: Door, W: Watch>(
     rt: &R,
     alloc: Global,
     words: &[String],
@@ -48,7 +53,7 @@ pub fn run<R: Threads + Sync, S: Source, K: Sink, P: Keeper, D: Door, G: Gate, W
     out: &mut K,
     store: &mut P,
     door: &mut D,
-    gate: &G,
+    gate: &Turnstile,
     watch: &mut W,
 ) -> Exit
     requires none_held { UsesDoor (command_of (map string_bytes words.now)) → D.held door.old ≡ [] }
@@ -64,9 +69,11 @@ pub fn run<R: Threads + Sync, S: Source, K: Sink, P: Keeper, D: Door, G: Gate, W
         (IsOutcome (map string_bytes words.now) [] (P.bodies store.old) (P.bodies store.new)))
         result (K.taken out.old) (K.taken out.new) }
     ensures serving { EndsServing (command_of (map string_bytes words.now))
-        (world_of (door_state (D.waiting door.old) (D.sent door.old) (D.faults door.old) (D.cuts door.old))
+        (world_of (door_state (D.waiting door.old) (D.sent door.old) (D.listens_at door.old)
+        (D.faults door.old) (D.cuts door.old))
         (P.bodies store.old) (P.faults store.old))
-        (world_of (door_state (D.waiting door.new) (D.sent door.new) (D.faults door.new) (D.cuts door.new))
+        (world_of (door_state (D.waiting door.new) (D.sent door.new) (D.listens_at door.new)
+        (D.faults door.new) (D.cuts door.new))
         (P.bodies store.new) (P.faults store.new))
         result (K.taken out.old) (K.taken out.new) }
 
@@ -85,6 +92,10 @@ pub fn run<R: Threads + Sync, S: Source, K: Sink, P: Keeper, D: Door, G: Gate, W
     ensures store { LeavesStore (command_of (map string_bytes words.now)) → store.new ≡ store.old }
     ensures door { LeavesDoor (command_of (map string_bytes words.now)) → door.new ≡ door.old }
     ensures nobody { ServesNobodyAt result → door.new ≡ door.old }
+
+    // By which name the store was opened, if it was; the port is told by `serving`.
+    ensures name { OpensNamed (command_of (map string_bytes words.now))
+        (P.opened_as store.old) (P.opened_as store.new) result }
 
     // What the store is left with.
     ensures bodies { WhereTold (P.bodies store.old) (P.bodies store.new)
@@ -107,7 +118,7 @@ pub fn run<R: Threads + Sync, S: Source, K: Sink, P: Keeper, D: Door, G: Gate, W
         Ok(asked) => asked,
         Err(NoMemory) => return Exit::Memory,
     };
-    let quoter = SplitQuoter::new(workers_of(&asked), &OpenGate);
+    let quoter = SplitQuoter::new(workers_of(&asked), gate);
     let outcome = outcome(rt, alloc, &quoter, &asked, src, store, door, watch);
     written(out, outcome)
 }

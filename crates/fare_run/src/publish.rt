@@ -7,6 +7,7 @@ ghost use Rattle.fare_book.specs.Reopens.{Stay};
 ghost use Rattle.fare_run.specs.Answer.{IsDone};
 ghost use Rattle.fare_run.specs.Ends.{IsRefusalOfPublish};
 ghost use Rattle.fare_run.specs.Limits.{publish_limit};
+ghost use Rattle.fare_run.specs.Opened.{Names};
 ghost use Rattle.fare_run.specs.Run.{HoldsTariff, MayPublish, PublishesNothing};
 ghost use Rattle.fare_run.specs.Steps.{Answers, IsEndOnceRead, IsKeeping, IsReading};
 ghost use Rattle.fare_run.specs.StoreOutcome.{AnswersPublish, AnswersTariffOver, OverStore, RefusalLeaves};
@@ -45,6 +46,7 @@ pub fn publish<R: Threads + Sync, S: Source, P: Keeper>(
         WhereTold (P.bodies store.old) (P.bodies store.new) (MayPublish source)) }
     ensures refused { IfErr result (λ exit. PublishesNothing exit →
         WhereTold (P.bodies store.old) (P.bodies store.new) BodiesStay) }
+    ensures name { Names name.now (P.opened_as store.old) (P.opened_as store.new) result }
     ensures keeping { IsKeeping result (P.faults store.old) (P.faults store.new) }
     ensures keeper_last { IsErrOf result Exit.KeeperFault → IfSome (S.left src.old) (HoldsTariff publish_limit) }
 {
@@ -69,6 +71,7 @@ fn publish_of<R: Threads + Sync, P: Keeper>(
     ensures bodies { WhereTold (P.bodies store.old) (P.bodies store.new) (MayPublish source.now) }
     ensures refused { IfErr result (λ exit. PublishesNothing exit →
         WhereTold (P.bodies store.old) (P.bodies store.new) BodiesStay) }
+    ensures name { Names name.now (P.opened_as store.old) (P.opened_as store.new) result }
     ensures keeping { IsKeeping result (P.faults store.old) (P.faults store.new) }
     ensures keeper_last { IsErrOf result Exit.KeeperFault → IsReadable source.now }
 {
@@ -93,6 +96,7 @@ fn publish_in<R: Threads + Sync, P: Keeper>(
     ensures ends { IfErr result IsEndOfOffer }
     ensures bodies { ToldAfter (P.bodies store.old) (P.bodies store.new) (MayAdd book.editions edition) }
     ensures refused { IfErr result (λ exit. PublishesNothing exit → Stay (P.bodies store.old) (P.bodies store.new)) }
+    ensures name { P.opened_as store.new ≡ P.opened_as store.old }
     ensures keeping { IsKeeping result (P.faults store.old) (P.faults store.new) }
 {
     let number = edition.number();

@@ -13,8 +13,7 @@ use crate::in_json::quote_in_json;
 use crate::outcome::Outcome;
 use fare_answers::{best_text, quote_text};
 use fare_book::Book;
-use fare_outside::OpenGate;
-use fare_split::SplitQuoter;
+use fare_split::{SplitQuoter, Turnstile};
 use fare_trip::Trip;
 use fare_why::{Searches, why_text};
 use fare_words::Asked;
@@ -25,7 +24,7 @@ use std::thread::Threads;
 pub fn quote<R: Threads + Sync>(
     rt: &R,
     alloc: Global,
-    quoter: &SplitQuoter<'_, OpenGate>,
+    quoter: &SplitQuoter<'_, Turnstile>,
     book: &Book,
     trip: &Trip,
     asked: Asked,
@@ -47,7 +46,7 @@ pub fn quote<R: Threads + Sync>(
 fn plain<R: Threads + Sync>(
     rt: &R,
     alloc: Global,
-    quoter: &SplitQuoter<'_, OpenGate>,
+    quoter: &SplitQuoter<'_, Turnstile>,
     book: &Book,
     trip: &Trip,
     asked: Asked,
@@ -68,7 +67,7 @@ fn plain<R: Threads + Sync>(
 fn quotation<R: Threads + Sync>(
     rt: &R,
     alloc: Global,
-    quoter: &SplitQuoter<'_, OpenGate>,
+    quoter: &SplitQuoter<'_, Turnstile>,
     book: &Book,
     trip: &Trip,
 ) -> Result<Outcome, Exit>
@@ -94,7 +93,7 @@ fn first(alloc: Global, book: &Book, trip: &Trip, k: u32) -> Result<Outcome, Exi
 fn why<R: Threads + Sync>(
     rt: &R,
     alloc: Global,
-    quoter: &SplitQuoter<'_, OpenGate>,
+    quoter: &SplitQuoter<'_, Turnstile>,
     book: &Book,
     trip: &Trip,
 ) -> Result<Outcome, Exit>

@@ -7,6 +7,7 @@ ghost use Rattle.fare_serve.specs.Desk.{world_of};
 ghost use Rattle.fare_serve.specs.Service.{door_state};
 ghost use Rattle.fare_run.specs.Answer.{IsDone};
 ghost use Rattle.fare_run.specs.Ends.{IsRefusalOfServe};
+ghost use Rattle.fare_run.specs.Opened.{Names};
 ghost use Rattle.fare_run.specs.Run.{ServesNobodyAt};
 ghost use Rattle.fare_run.specs.Serve.{ServesStore};
 ghost use Rattle.fare_run.specs.Steps.{IsKeeping};
@@ -16,6 +17,7 @@ use crate::outcome::Outcome;
 use crate::store::book_of;
 use fare_outside::{Door, Keeper};
 use fare_serve::{Service, serve as serve_book};
+use fare_split::Turnstile;
 use std::alloc::Global;
 use std::thread::Threads;
 
@@ -28,16 +30,19 @@ pub fn serve<R: Threads + Sync, P: Keeper, D: Door>(
     door: &mut D,
     name: &str,
     service: Service,
+    gate: &Turnstile,
 ) -> Result<Outcome, Exit>
     requires some { 1 ≤ service.round }
     requires few { service.round ≤ 8 }
     requires some_workers { 1 ≤ service.workers }
     requires few_workers { service.workers ≤ MOST_WORKERS }
     requires none_held { D.held door.old ≡ [] }
-    ensures serves { ServesStore service.count service.round
-        (world_of (door_state (D.waiting door.old) (D.sent door.old) (D.faults door.old) (D.cuts door.old))
+    ensures serves { ServesStore service.count service.round service.port
+        (world_of (door_state (D.waiting door.old) (D.sent door.old) (D.listens_at door.old)
+        (D.faults door.old) (D.cuts door.old))
         (P.bodies store.old) (P.faults store.old))
-        (world_of (door_state (D.waiting door.new) (D.sent door.new) (D.faults door.new) (D.cuts door.new))
+        (world_of (door_state (D.waiting door.new) (D.sent door.new) (D.listens_at door.new)
+        (D.faults door.new) (D.cuts door.new))
         (P.bodies store.new) (P.faults store.new))
         result }
     ensures done { IfOk result IsDone }
@@ -46,9 +51,10 @@ pub fn serve<R: Threads + Sync, P: Keeper, D: Door>(
     ensures cause { IsErrOf result Exit.DoorFault → Rose (D.faults door.old) (D.faults door.new) }
     ensures faults { D.faults door.old ≤ D.faults door.new }
     ensures cuts { D.cuts door.old ≤ D.cuts door.new }
+    ensures name { Names name.now (P.opened_as store.old) (P.opened_as store.new) result }
     ensures keeping { IsKeeping result (P.faults store.old) (P.faults store.new) }
 {
     let book = book_of(rt, alloc, store, name)?;
-    let text = serve_book(rt, alloc, book, store, door, service)?;
+    let text = serve_book(rt, alloc, book, store, door, service, gate)?;
     Ok(Outcome::done(text))
 }

@@ -4,6 +4,7 @@ ghost use Rattle.std.specs.Prelude.{◌≡◌, true, IfErr, IfOk, IsTrue, OnOk};
 ghost use Rattle.fare_outside.specs.Keeper.{BodiesStay, WhereTold};
 ghost use Rattle.fare_run.specs.Steps.{IsKeeping};
 ghost use Rattle.fare_run.specs.StoreSteps.{AreStored, IsEndOfOpening};
+ghost use Rattle.fare_run.specs.Opened.{Names};
 
 use crate::exit::Exit;
 use fare_book::Book;
@@ -23,6 +24,7 @@ pub fn book_of<R: Threads + Sync, P: Keeper>(
     ensures ends { IfErr result (IsEndOfOpening (P.bodies store.new)) }
     ensures bodies { WhereTold (P.bodies store.old) (P.bodies store.new) BodiesStay }
     ensures ready { OnOk result (IsTrue (P.ready store.new)) }
+    ensures name { Names name.now (P.opened_as store.old) (P.opened_as store.new) result }
     ensures keeping { IsKeeping result (P.faults store.old) (P.faults store.new) }
 {
     store.open(alloc, name)?;

@@ -6,6 +6,7 @@ ghost use Rattle.fare_words.specs.WithinLimits.{IsFew};
 ghost use Rattle.fare_run.specs.Answer.{IsDone};
 ghost use Rattle.fare_run.specs.Ends.{IsRefusalOfQuote};
 ghost use Rattle.fare_run.specs.Limits.{quote_limit};
+ghost use Rattle.fare_run.specs.Opened.{Names};
 ghost use Rattle.fare_run.specs.Run.{HoldsItinerary, IsItinerary};
 ghost use Rattle.fare_run.specs.Steps.{Answers, IsEndOnceRead, IsKeeping, IsReading};
 ghost use Rattle.fare_run.specs.StoreOutcome.{AnswersItineraryOver, AnswersQuote, ReadsStore};
@@ -17,8 +18,8 @@ use crate::outcome::Outcome;
 use crate::quote::quote;
 use crate::source::source_up_to;
 use crate::store::book_of;
-use fare_outside::{Keeper, OpenGate, Source};
-use fare_split::SplitQuoter;
+use fare_outside::{Keeper, Source};
+use fare_split::{SplitQuoter, Turnstile};
 use fare_words::Asked;
 use std::alloc::Global;
 use std::thread::Threads;
@@ -27,7 +28,7 @@ use std::thread::Threads;
 pub fn stored_quote<R: Threads + Sync, S: Source, P: Keeper>(
     rt: &R,
     alloc: Global,
-    quoter: &SplitQuoter<'_, OpenGate>,
+    quoter: &SplitQuoter<'_, Turnstile>,
     src: &mut S,
     store: &mut P,
     name: &str,
@@ -44,6 +45,7 @@ pub fn stored_quote<R: Threads + Sync, S: Source, P: Keeper>(
     ensures reading { IsReading quote_limit result
         (S.left src.old) (S.left src.new) (S.faults src.old) (S.faults src.new) }
     ensures bodies { WhereTold (P.bodies store.old) (P.bodies store.new) BodiesStay }
+    ensures name { Names name.now (P.opened_as store.old) (P.opened_as store.new) result }
     ensures keeping { IsKeeping result (P.faults store.old) (P.faults store.new) }
     ensures keeper_last { IsErrOf result Exit.KeeperFault → IfSome (S.left src.old) (HoldsItinerary quote_limit) }
 {
@@ -64,7 +66,7 @@ pub fn stored_quote<R: Threads + Sync, S: Source, P: Keeper>(
 fn quote_of<R: Threads + Sync, P: Keeper>(
     rt: &R,
     alloc: Global,
-    quoter: &SplitQuoter<'_, OpenGate>,
+    quoter: &SplitQuoter<'_, Turnstile>,
     source: &[u8],
     store: &mut P,
     name: &str,
@@ -79,6 +81,7 @@ fn quote_of<R: Threads + Sync, P: Keeper>(
     ensures done { IfOk result IsDone }
     ensures ends { IfErr result (IsEndOnceRead IsRefusalOfQuote) }
     ensures bodies { WhereTold (P.bodies store.old) (P.bodies store.new) BodiesStay }
+    ensures name { Names name.now (P.opened_as store.old) (P.opened_as store.new) result }
     ensures keeping { IsKeeping result (P.faults store.old) (P.faults store.new) }
     ensures keeper_last { IsErrOf result Exit.KeeperFault → IsItinerary source.now }
 {

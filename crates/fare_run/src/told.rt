@@ -8,6 +8,7 @@ ghost use Rattle.fare_serve.specs.Desk.{world_of};
 ghost use Rattle.fare_serve.specs.Service.{door_state};
 ghost use Rattle.fare_run.specs.Ends.{IsEndBefore};
 ghost use Rattle.fare_run.specs.Limits.{limit_of};
+ghost use Rattle.fare_run.specs.Opened.{IsNamed, store_of};
 ghost use Rattle.fare_run.specs.Outcome.{AnswersCommand};
 ghost use Rattle.fare_run.specs.Refusal.{IsSilent, IsTold};
 ghost use Rattle.fare_run.specs.Uses.{IsWithin, LeavesDoor, LeavesSource, LeavesStore, UsesDoor};
@@ -19,8 +20,8 @@ use crate::exit::Exit;
 use crate::json_fault::refused;
 use crate::outcome::Outcome;
 use fare_changes::Watch;
-use fare_outside::{Door, Keeper, OpenGate, Source};
-use fare_split::SplitQuoter;
+use fare_outside::{Door, Keeper, Source};
+use fare_split::{SplitQuoter, Turnstile};
 use fare_words::Command;
 use std::alloc::Global;
 use std::thread::Threads;
@@ -29,7 +30,7 @@ use std::thread::Threads;
 pub fn outcome<R: Threads + Sync, S: Source, P: Keeper, D: Door, W: Watch>(
     rt: &R,
     alloc: Global,
-    quoter: &SplitQuoter<'_, OpenGate>,
+    quoter: &SplitQuoter<'_, Turnstile>,
     asked: &Option<Command<'_>>,
     src: &mut S,
     store: &mut P,
@@ -59,14 +60,18 @@ pub fn outcome<R: Threads + Sync, S: Source, P: Keeper, D: Door, W: Watch>(
     ensures bodies { WhereTold (P.bodies store.old) (P.bodies store.new) (LeavesBodies asked.now (S.left src.old)) }
     ensures refused { LeavesBodiesAt asked.now result.exit →
         WhereTold (P.bodies store.old) (P.bodies store.new) BodiesStay }
+    ensures name { IfSome (store_of asked.now) (λ name.
+        IsNamed name (P.opened_as store.old) (P.opened_as store.new) result.exit) }
     ensures store_count { P.faults store.old ≤ P.faults store.new }
     ensures keeper_fault { result.exit ≡ Exit.KeeperFault → Rose (P.faults store.old) (P.faults store.new) }
     ensures keeper_last { result.exit ≡ Exit.KeeperFault → IfSome (S.left src.old) (ReadsWell asked.now) }
 
     ensures serving { ComesServing asked.now
-        (world_of (door_state (D.waiting door.old) (D.sent door.old) (D.faults door.old) (D.cuts door.old))
+        (world_of (door_state (D.waiting door.old) (D.sent door.old) (D.listens_at door.old)
+        (D.faults door.old) (D.cuts door.old))
         (P.bodies store.old) (P.faults store.old))
-        (world_of (door_state (D.waiting door.new) (D.sent door.new) (D.faults door.new) (D.cuts door.new))
+        (world_of (door_state (D.waiting door.new) (D.sent door.new) (D.listens_at door.new)
+        (D.faults door.new) (D.cuts door.new))
         (P.bodies store.new) (P.faults store.new))
         result }
     ensures door { LeavesDoor asked.now → door.new ≡ door.old }

@@ -5,8 +5,9 @@
 mod progress;
 
 use fare_devices::{StdSink, StdSource, TcpDoor};
-use fare_outside::{NoMemory, OpenGate};
+use fare_outside::NoMemory;
 use fare_run::{Exit, fault_text, run};
+use fare_split::Turnstile;
 use fare_sqlite::{FileKeeper, FoundFile, Wary};
 use progress::Progress;
 use std::io::{ErrorKind, Write};
@@ -44,7 +45,7 @@ fn run_over_files<S: FoundFile, R: Threads + Sync>(
         &mut sink,
         &mut store,
         &mut door,
-        &OpenGate,
+        &Turnstile::new(),
         &mut Progress::new(host),
     )
 }

@@ -18,10 +18,11 @@ use cases::units::UNITS;
 use cases::{Quotation, Refusal};
 use fare_changes::Unwatched;
 use fare_outside::{
-    Bodies, Door, Keeper, MemSink, MemSource, OpenGate, PlainDoor, PlainKeeper, PlainSink,
-    PlainSource, Sink, Source,
+    Bodies, Door, Keeper, MemSink, MemSource, PlainDoor, PlainKeeper, PlainSink, PlainSource, Sink,
+    Source,
 };
 use fare_run::{Exit, fault_text, run};
+use fare_split::Turnstile;
 use std::alloc::Global;
 use std::process::Abort;
 use std::test::Fail;
@@ -64,6 +65,31 @@ fn ended_at<R: Threads + Sync, S: Source, K: Sink, P: Keeper, D: Door>(
 ) -> Result<Exit, Fail>
     requires { D.held door.old ≡ [] }
 {
+    ended_through(
+        rt,
+        alloc,
+        words,
+        source,
+        sink,
+        store,
+        door,
+        &Turnstile::new(),
+    )
+}
+
+/// Runs words over a source, a sink, a store, a door that holds no connection, and a gate.
+fn ended_through<R: Threads + Sync, S: Source, K: Sink, P: Keeper, D: Door>(
+    rt: &R,
+    alloc: Global,
+    words: &[&str],
+    source: &mut S,
+    sink: &mut K,
+    store: &mut P,
+    door: &mut D,
+    gate: &Turnstile,
+) -> Result<Exit, Fail>
+    requires { D.held door.old ≡ [] }
+{
     let mut owned = Vec::new(alloc);
     for word in words {
         owned.push(String::from_str(alloc, word)?)?;
@@ -76,7 +102,7 @@ fn ended_at<R: Threads + Sync, S: Source, K: Sink, P: Keeper, D: Door>(
         sink,
         store,
         door,
-        &OpenGate,
+        gate,
         &mut Unwatched,
     ))
 }

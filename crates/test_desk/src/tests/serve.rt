@@ -10,6 +10,7 @@ use computed::COMPUTED;
 use fare_book::Book;
 use fare_outside::{Bodies, Keeper, MemDoor, MemKeeper};
 use fare_serve::{Service, serve};
+use fare_split::Turnstile;
 use further::{FURTHER, IN_JSON};
 use std::alloc::Global;
 use std::process::Abort;
@@ -63,7 +64,15 @@ fn serve_all<R: Threads + Sync>(
         round,
         workers: 1,
     };
-    Ok(serve(rt, alloc, book, &mut keeper, door, service)?)
+    Ok(serve(
+        rt,
+        alloc,
+        book,
+        &mut keeper,
+        door,
+        service,
+        &Turnstile::new(),
+    )?)
 }
 
 /// Compares what is sent on each connection of a case.

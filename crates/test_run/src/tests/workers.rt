@@ -3,8 +3,9 @@
 use super::cases::Quotation;
 use super::cases::points::POINTS;
 use super::cases::units::UNITS;
-use super::{ended, joined};
-use fare_outside::{PlainSink, PlainSource};
+use super::{ended, ended_through, joined};
+use fare_outside::{Bodies, PlainDoor, PlainKeeper, PlainSink, PlainSource};
+use fare_split::Turnstile;
 use std::alloc::Global;
 use std::process::Abort;
 use std::test::Fail;
@@ -141,5 +142,28 @@ fn extra_records_leave_the_price(rt: HostRuntime) -> Result<(), Fail> {
         let text = written(&rt, rt.alloc(), &words)?;
         assert!(rt; text.as_slice() == case.text.as_bytes(), "{}", case.extra);
     }
+    Ok(())
+}
+
+#[test]
+fn as_many_workers_begin_as_are_asked_for(rt: HostRuntime) -> Result<(), Fail> {
+    let alloc = rt.alloc();
+    let gate = Turnstile::new();
+    let mut source = PlainSource::new(Vec::new(alloc));
+    let mut sink = PlainSink::new(alloc, 4096)?;
+    let mut store = PlainKeeper::new(Bodies::new(alloc));
+    let mut door = PlainDoor::new();
+    let exit = ended_through(
+        &rt,
+        alloc,
+        &["drill", "--seed=1", "--sectors=8", "--workers=3"],
+        &mut source,
+        &mut sink,
+        &mut store,
+        &mut door,
+        &gate,
+    )?;
+    assert!(rt; exit.status() == 0);
+    assert!(rt; gate.begun() == 3);
     Ok(())
 }
