@@ -43,3 +43,6 @@ pub use record_kind::RecordKind;
 pub use rows::{Row, Rows};
 pub use spelling::read_spelled;
 pub use text_fault::TextFault;
+
+#[cfg(test)]
+mod tests;
