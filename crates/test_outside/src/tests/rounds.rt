@@ -404,7 +404,7 @@ impl Front for Meeting {
         path: &str,
         _body: &[u8],
     ) -> Result<Reply, NoMemory> {
-        if path == "/2" {
+        if path == "/editions/2" {
             self.second_has_begun.store(1, Ordering::SeqCst);
         } else if !self.waits() {
             return reply(alloc, Status::InternalServerError, Allow::Unsaid, b"");
@@ -443,7 +443,10 @@ fn round_two(rt: HostRuntime) -> Result<(), Fail> {
     let alloc = rt.alloc();
     let mut door = door_of(
         alloc,
-        &[b"GET /1 HTTP/1.1\r\n\r\n", b"GET /2 HTTP/1.1\r\n\r\n"],
+        &[
+            b"GET /editions/1 HTTP/1.1\r\n\r\n",
+            b"GET /editions/2 HTTP/1.1\r\n\r\n",
+        ],
     )?;
     let mut meeting = Meeting {
         second_has_begun: AtomicU64::new(0),
