@@ -21,7 +21,7 @@ use Rattle.fare_rules.proofs.LawfulLemmas.{kept}
 use Rattle.fare_rules.proofs.NumberLemmas.{any_next}
 use Rattle.fare_units.proofs.NextLemmas.{front_unit, greatest_same}
 use Rattle.fare_component.specs.Table.{entries_of}
-use Rattle.fare_homing.specs.Homing.{IsUpTo, homing_at, is_same_city, may_end_at, back_cost}
+use Rattle.fare_homing.specs.Homing.{IsUpTo, homing_at, is_same_city, may_end_at, back_cost, between_cost, heads_to}
 use Rattle.fare_homing.specs.HomingRows.{AreHomings}
 use Rattle.fare_branch.proofs.CostLemmas.{unit_from_one}
 use Rattle.fare_branch.proofs.UnitLemmas.{all, own_has, unit_in, alone_in, holds_none}
@@ -383,10 +383,12 @@ module _ (tariff : Tariff) (trip : Itinerary) (parts : List Part) (price : ℕ) 
             let long : 3 ≤ length (own parts (unit_of parts (k + 1))) = three first less in
             let city : is_same_city trip (begins_at trip parts (unit_of parts (k + 1))) (home_at parts (unit_of parts (k + 1))) ≡ true = shape.1 long in
             let closes : IsUpTo c.0 (closing (end_of parts (k + 1)) (home_at parts (unit_of parts (k + 1)))) = at_city (begins_at trip parts (unit_of parts (k + 1))) (end_of parts (k + 1)) (home_at parts (unit_of parts (k + 1))) c.0 city c.3 in
-            let cost = between_costs tariff trip parts price lawful (k + 1) (omega arith) high way in
-            let low_cost : cost.0 ≤ true_cost tariff trip parts (k + 1) = cost.2 in
+            let home : ℕ = home_at parts (unit_of parts (k + 1)) in
+            let origin_there : point trip home ≡ point trip (begins_at trip parts (unit_of parts (k + 1))) = (bytes_eq-Decides (point trip home) (point trip (begins_at trip parts (unit_of parts (k + 1))))).0 city in
+            let C : ℕ → Type 0 = λ a. between_cost (heads_to tariff trip a (end_of parts (k + 1)) home) (entry tariff trip parts price lawful (k + 1)) ≡ Some (true_cost tariff trip parts (k + 1)) in
+            let cost : C (begin_after trip (point_behind parts k)) = subst C (sym (begins_next k high)) (between_costs tariff trip parts price lawful (k + 1) (omega arith) high way less home origin_there) in
             let low_homing : closes.0 ≤ c.0 = closes.2 in
-            let up : IsUpTo (true_cost tariff trip parts (k + 1) + c.0) (closing (point_behind parts k) (home_at parts (unit_of parts (k + 1)))) = up_more (cost.0 + closes.0) (true_cost tariff trip parts (k + 1) + c.0) (closing (point_behind parts k) (home_at parts (unit_of parts (k + 1)))) (omega arith) (between_under are (point_behind parts k) (end_of parts (k + 1)) (home_at parts (unit_of parts (k + 1))) (entry tariff trip parts price lawful (k + 1)) cost.0 closes.0 contained cost.1 h.0 (ends_apart (unit_of parts (k + 1)) (k + 1) mine_low mine_high long (own_has tariff trip parts price lawful (k + 1) (omega arith) high) less city) closes.1) in
+            let up : IsUpTo (true_cost tariff trip parts (k + 1) + c.0) (closing (point_behind parts k) home) = up_more (true_cost tariff trip parts (k + 1) + closes.0) (true_cost tariff trip parts (k + 1) + c.0) (closing (point_behind parts k) home) (omega arith) (between_under are (point_behind parts k) (end_of parts (k + 1)) home (entry tariff trip parts price lawful (k + 1)) (true_cost tariff trip parts (k + 1)) closes.0 contained cost h.0 (ends_apart (unit_of parts (k + 1)) (k + 1) mine_low mine_high long (own_has tariff trip parts price lawful (k + 1) (omega arith) high) less city) closes.1) in
             let here : goes_on parts k (unit_of parts (k + 1)) ≡ true = goes_on_from parts k (unit_of parts (k + 1)) (omega arith) (omega arith) in
             let o : Stands k (unit_of parts (k + 1)) (point_behind parts k) ((true_cost tariff trip parts (k + 1) + c.0) + c.1) = from_open tariff trip closing jaw left parts k (unit_of parts (k + 1)) (point_behind parts k) (true_cost tariff trip parts (k + 1) + c.0) c.1 mine_low here (from_city (begins_at trip parts (unit_of parts (k + 1))) (point_behind parts k) (home_at parts (unit_of parts (k + 1))) (true_cost tariff trip parts (k + 1) + c.0) city up) (under_same (home_at parts (unit_of parts (k + 1))) c.1 c.4)
             (lasts_more tariff trip parts (last_of (own parts (unit_of parts (k + 1)))) (point_behind parts k) (end_of parts (k + 1)) c.0 (true_cost tariff trip parts (k + 1) + c.0) (omega arith) (omega arith) c.5) in

@@ -1,6 +1,6 @@
 -- What the parts of a lawful construction cost in its units, by the entries of their spans.
 use Rattle.std.proofs.Common.{◌≡◌, ℕ, ◌+◌, ◌-◌, ◌<◌, ◌≤◌, Bool, true, false, ◌&&◌, ◌||◌, not, eqb, List, [], length, refl, ap, sym, subst, ◌∙◌, inl, inr, arith}
-use Rattle.std.specs.Prelude.{Option, Some, None, is_some, option_map, sum_by, bytes_eq, Contains}
+use Rattle.std.specs.Prelude.{Option, Some, None, is_some, option_map, sum_by, bytes_eq, Contains, if◌then◌else◌}
 use Rattle.std.proofs.lemmas.Bool.{cases_Bool, eq-eqb, ne_eqb}
 use Rattle.std.proofs.lemmas.List.Sums.{sum_by-cons}
 use Rattle.std.proofs.lemmas.Slice.Eq.{bytes_eq-Decides}
@@ -8,7 +8,7 @@ use Rattle.fare_codes.specs.declared.city.City.{City}
 use Rattle.fare_codes.specs.declared.country.Country.{Country}
 use Rattle.fare_codes.specs.declared.kind.Kind.TheVariants.{OW}
 use Rattle.fare_codes.specs.Same.{same_kind}
-use Rattle.fare_trip.specs.Itinerary.{Itinerary}
+use Rattle.fare_trip.specs.Itinerary.{Itinerary, point}
 use Rattle.fare_tariff.specs.Tariff.{Tariff}
 use Rattle.fare_rules.specs.declared.amount.Amount.{Amount}
 use Rattle.fare_rules.specs.declared.part.Part.{Part}
@@ -27,10 +27,8 @@ use Rattle.fare_rules.proofs.MemberLemmas.{Member}
 use Rattle.fare_component.specs.declared.table.entry.Entry.{Entry}
 use Rattle.fare_component.specs.Table.{entry_of, entries_of, has_amount, single_price}
 use Rattle.fare_component.proofs.LawLemmas.{amount_is_entry}
-use Rattle.fare_bounds.specs.Covers.{hundredths_of, lesser}
 use Rattle.fare_branch.specs.Costs.{or_nothing, part_least}
-use Rattle.fare_homing.specs.Homing.{IsUpTo, first_cost, between_cost, back_cost}
-use Rattle.fare_homing.proofs.ReachLemmas.{lesser_first, lesser_second}
+use Rattle.fare_homing.specs.Homing.{first_cost, between_cost, back_cost, heads_to}
 use Rattle.fare_branch.proofs.CostLemmas.{not_half, half, at_least_up, one_way_least, half_part, member_place}
 use Rattle.fare_branch.proofs.UnitLemmas.{all, own_has, alone_in, holds_none, single_there, single_not}
 use Rattle.fare_branch.specs.Costs.{true_cost}
@@ -55,11 +53,6 @@ priced_either : (out back : Option Amount) (direction : Bool) (amount : Amount) 
 priced_either out back false amount o b = rw (o refl) refl
 priced_either None back true amount o b = rw (b refl) refl
 priced_either (Some x) back true amount o b = refl
-
-lesser_either : (out back : Option Amount) (direction : Bool) (amount : Amount) → (direction ≡ false → out ≡ Some amount) → (direction ≡ true → back ≡ Some amount)
-    → IsUpTo amount.amount (lesser (option_map hundredths_of out) (option_map hundredths_of back))
-lesser_either out back false amount o b = lesser_first (option_map hundredths_of out) (option_map hundredths_of back) amount.amount (ap (option_map hundredths_of) (o refl))
-lesser_either out back true amount o b = lesser_second (option_map hundredths_of out) (option_map hundredths_of back) amount.amount (ap (option_map hundredths_of) (b refl))
 
 module _ (tariff : Tariff) (trip : Itinerary) (parts : List Part) (price : ℕ) (lawful : IsLawful tariff trip parts price) where
   -- the entry of a part
@@ -147,15 +140,27 @@ module _ (tariff : Tariff) (trip : Itinerary) (parts : List Part) (price : ℕ) 
       let cost : back_cost (entry k) ≡ Some found.0.amount = rw (no_single k low high way, back) refl in
       cost ∙ ap Some (sym found.2)
 
-  pub between_costs : (k : ℕ) → 1 ≤ k → k ≤ length parts → is_ow tariff parts k ≡ false → IsUpTo (true_cost tariff trip parts k) (between_cost (entry k))
-  between_costs k low high way =
+  -- a part between them is priced back where it comes into the country of the city where its unit closes
+  between_is_back : (k : ℕ) → 1 ≤ k → k ≤ length parts → is_ow tariff parts k ≡ false → k < last_of (own parts (unit_of parts k))
+      → (home : ℕ) → point trip home ≡ start_city trip parts (first_of (own parts (unit_of parts k))) → is_back tariff trip parts k ≡ heads_to tariff trip (start_of trip parts k) (end_of parts k) home
+  unfolding is_back_in is_hr
+  between_is_back k low high way less home city =
+      let none : holds_ow tariff parts (own parts (unit_of parts k)) ≡ false = holds_none tariff trip parts price lawful k low high way in
+      let other : eqb k (last_of (own parts (unit_of parts k))) ≡ false = ne_eqb k (last_of (own parts (unit_of parts k))) (λ same. omega arith) in
+      rw (none, other, city) refl
+
+  pub between_costs : (k : ℕ) → 1 ≤ k → k ≤ length parts → is_ow tariff parts k ≡ false → k < last_of (own parts (unit_of parts k))
+      → (home : ℕ) → point trip home ≡ start_city trip parts (first_of (own parts (unit_of parts k)))
+      → between_cost (heads_to tariff trip (start_of trip parts k) (end_of parts k) home) (entry k) ≡ Some (true_cost tariff trip parts k)
+  between_costs k low high way less home city =
       let found = half_amount k low high way in
-      let P : ℕ → Type 0 = λ n. IsUpTo n (between_cost (entry k)) in
-      let up : IsUpTo found.0.amount (between_cost (entry k)) =
-      rw (no_single k low high way)
-      (lesser_either (component_amount tariff trip (start_of trip parts k) (end_of parts k) (part_at parts k).fare false) (component_amount tariff trip (start_of trip parts k) (end_of parts k) (part_at parts k).fare true) (is_back tariff trip parts k) found.0
-      (in_direction k found.0 found.1 false) (in_direction k found.0 found.1 true)) in
-      subst P (sym found.2) up
+      let heads : Bool = heads_to tariff trip (start_of trip parts k) (end_of parts k) home in
+      let amount : component_amount tariff trip (start_of trip parts k) (end_of parts k) (part_at parts k).fare heads ≡ Some found.0 = in_direction k found.0 found.1 heads (between_is_back k low high way less home city) in
+      by_direction heads (entry k) found.0 (no_single k low high way) amount ∙ ap Some (sym found.2)
+    where
+      by_direction : (heads : Bool) (one : Entry) (amount : Amount) → one.single ≡ None → (if heads then one.back else one.out) ≡ Some amount → between_cost heads one ≡ Some amount.amount
+      by_direction true one amount none e = rw (none, e) refl
+      by_direction false one amount none e = rw (none, e) refl
 
   -- a part costs at least what its fare does
   pub true_least : (k : ℕ) → 1 ≤ k → k ≤ length parts → part_least tariff trip parts k ≤ true_cost tariff trip parts k

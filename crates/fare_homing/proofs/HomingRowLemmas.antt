@@ -14,11 +14,11 @@ use Rattle.fare_rules.proofs.CoverLemmas.{begins_later}
 use Rattle.fare_component.specs.declared.table.entry.Entry.{Entry}
 use Rattle.fare_component.proofs.LawLemmas.{entry_is_of_fare}
 use Rattle.fare_bounds.specs.Covers.{rest_at}
-use Rattle.fare_homing.specs.Homing.{IsUpTo, single_cost, first_cost, between_cost, back_cost, is_same_city, may_end_at, homing_at}
-use Rattle.fare_homing.specs.HomingRows.{AreHomings, AreHomingsAt, behind_between, IsByFirst, IsClosing, IsJaw, IsOnward, IsPart, IsWhole}
+use Rattle.fare_homing.specs.Homing.{IsUpTo, single_cost, first_cost, between_cost, back_cost, heads_to, is_same_city, may_end_at, homing_at}
+use Rattle.fare_homing.specs.HomingRows.{AreHomings, AreHomingsAt, behind_between, IsBetween, IsByFirst, IsClosing, IsJaw, IsOnward, IsPart, IsWhole}
 use Rattle.fare_homing.specs.Pairs.{HasPair}
 use Rattle.fare_homing.specs.Least.{IsAt, IsLeastOf, IsReached, IsSum}
-use Rattle.fare_homing.specs.Rows.{cell, AreCountries, EndWithin}
+use Rattle.fare_homing.specs.Rows.{cell, heads_in, AreCountries, EndWithin}
 use Rattle.fare_homing.proofs.LeastLemmas.{least_none, least_one, least_same, reached_by, sum_same}
 
 pub none_at : {A : Type 0} (n i : ℕ) → slice_index_or {A = Option A} (replicate n None) i None ≡ None
@@ -60,6 +60,11 @@ lie_at tariff trip countries start home there here are low high long = rw (found
     found : (i : ℕ) (read : Option Country) → i ≤ count trip → get_or countries i read ≡ country tariff (point trip i)
     found i read within = get_or_default countries i read None (omega arith) ∙ are i within
 
+-- whether a part between heads home is told by the countries of the trip's points
+pub heads_same : (tariff : Tariff) (trip : Itinerary) (countries : List (Option Country)) (a b home : ℕ) → AreCountries tariff trip countries → a ≤ count trip → b ≤ count trip → home ≤ count trip
+    → heads_to tariff trip a b home ≡ heads_in countries a b home
+heads_same tariff trip countries a b home are low mid high = rw (sym (are a low), sym (are b mid), sym (are home high)) refl
+
 module _ (tariff : Tariff) (trip : Itinerary) where
   -- a part behind a point ends behind it, and within the trip
   pub part_after : (cost_of : Entry → Option ℕ) (i b cost : ℕ) → IsPart tariff trip cost_of (begin_after trip i) b cost → (i < b) × (b ≤ count trip)
@@ -92,16 +97,16 @@ module _ (tariff : Tariff) (trip : Itinerary) where
     }
 
     -- the numbers of a point, each by the least of its parts and of the whole units that come first
-    pub rows_are : (closings jaws : ℕ → ℕ → Option ℕ) (rests closing jaw whole between last within : ℕ → Option ℕ) (rest : Option ℕ)
-        → ((j : ℕ) → IsLeastOf (IsPart tariff trip between_cost (begin_after trip i) j) (between j)) → ((j : ℕ) → IsLeastOf (IsPart tariff trip back_cost (begin_after trip i) j) (last j))
+    pub rows_are : (closings jaws : ℕ → ℕ → Option ℕ) (rests closing jaw whole : ℕ → Option ℕ) (between : ℕ → ℕ → Option ℕ) (last within : ℕ → Option ℕ) (rest : Option ℕ)
+        → ((j b : ℕ) → IsLeastOf (IsBetween tariff trip (begin_after trip i) j b) (between j b)) → ((j : ℕ) → IsLeastOf (IsPart tariff trip back_cost (begin_after trip i) j) (last j))
         → ((j : ℕ) → IsWhole tariff trip closings jaws i j (whole j))
-        → ((j : ℕ) → IsLeastOf (IsReached (last j) between (λ b. behind_between trip (closings b) b j) i j) (within j)) → ((j : ℕ) → IsLeastOf (IsReached (within j) whole (λ b. closings b j) i j) (closing j))
+        → ((j : ℕ) → IsLeastOf (IsReached (last j) (between j) (λ b. behind_between trip (closings b) b j) i j) (within j)) → ((j : ℕ) → IsLeastOf (IsReached (within j) whole (λ b. closings b j) i j) (closing j))
         → ((j : ℕ) → IsLeastOf (IsReached (last j) whole (λ b. jaws b j) i j) (jaw j)) → IsLeastOf (IsOnward trip rests whole i) rest
         → AreHomingsAt tariff trip i closings jaws rests closing jaw whole rest
     rows_are closings jaws rests closing jaw whole between last within rest betweens lasts wholes withins closes ends onward = record {
       wholes = wholes;
-      closes = λ j. reached_by (λ n. IsPart tariff trip back_cost (begin_after trip i) j n ⊎ IsSum (IsPart tariff trip between_cost (begin_after trip i)) (λ b. behind_between trip (closings b) b j) i j n) (IsAt whole) (within j) whole (λ b. closings b j) i j (closing j)
-          (reached_by (IsPart tariff trip back_cost (begin_after trip i) j) (IsPart tariff trip between_cost (begin_after trip i)) (last j) between (λ b. behind_between trip (closings b) b j) i j (within j) (lasts j) betweens (withins j))
+      closes = λ j. reached_by (λ n. IsPart tariff trip back_cost (begin_after trip i) j n ⊎ IsSum (IsBetween tariff trip (begin_after trip i) j) (λ b. behind_between trip (closings b) b j) i j n) (IsAt whole) (within j) whole (λ b. closings b j) i j (closing j)
+          (reached_by (IsPart tariff trip back_cost (begin_after trip i) j) (IsBetween tariff trip (begin_after trip i) j) (last j) (between j) (λ b. behind_between trip (closings b) b j) i j (within j) (lasts j) (betweens j) (withins j))
           (λ b. least_one (whole b)) (closes j);
       ends = λ j. reached_by (IsPart tariff trip back_cost (begin_after trip i) j) (IsAt whole) (last j) whole (λ b. jaws b j) i j (jaw j) (lasts j) (λ b. least_one (whole b)) (ends j);
       onward = onward;
@@ -145,7 +150,7 @@ module _ (tariff : Tariff) (trip : Itinerary) where
       };
       closes = λ j. subst (IsLeastOf (IsClosing tariff trip closings whole i j)) (sym (no_closing j)) (least_none (IsClosing tariff trip closings whole i j)
           (λ n h. elim h [
-            | inl part ↦ elim part [ inl last ↦ no_part past back_cost j n last | inr s ↦ no_part past between_cost s.end s.cost s.steps ]
+            | inl part ↦ elim part [ inl last ↦ no_part past back_cost j n last | inr s ↦ no_part past (between_cost (heads_to tariff trip (begin_after trip i) s.end j)) s.end s.cost s.steps ]
             | inr s ↦ no_unit (λ b. closings b j) j n s
           ]));
       ends = λ j. subst (IsLeastOf (IsJaw tariff trip jaws whole i j)) (sym (no_jaw j)) (least_none (IsJaw tariff trip jaws whole i j)
@@ -174,7 +179,7 @@ module _ (tariff : Tariff) (trip : Itinerary) where
       closing_on j n h = elim h [
         | inl part ↦ elim part [
           | inl last ↦ inl (inl last)
-          | inr s ↦ inl (inr (sum_same (IsPart tariff trip between_cost (begin_after trip i)) (IsPart tariff trip between_cost (begin_after trip i)) (λ b. behind_between trip (closings b) b j) (λ b. behind_between trip (new_closings b) b j) i j n (λ b x step. step)
+          | inr s ↦ inl (inr (sum_same (IsBetween tariff trip (begin_after trip i) j) (IsBetween tariff trip (begin_after trip i) j) (λ b. behind_between trip (closings b) b j) (λ b. behind_between trip (new_closings b) b j) i j n (λ b x step. step)
               (λ b past. rw (cs b j past) refl) s))
         ]
         | inr s ↦ inr (unit_on (λ b. closings b j) (λ b. new_closings b j) j n (λ b past. cs b j past) s)

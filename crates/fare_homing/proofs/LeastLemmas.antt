@@ -160,6 +160,23 @@ module _ (last : Option ℕ) (steps behind : ℕ → Option ℕ) (i : ℕ) where
       let same : lesser least (added (steps p) (behind p)) ≡ least = rw none (lesser_nothing least) in
       subst (IsLeastOf (IsReached last steps behind i (p + 1))) same (reach_more p least rises known)
 
+-- the least is the same by other steps that are the same wherever something is behind them
+pub steps_same : (last : Option ℕ) (steps new behind : ℕ → Option ℕ) (i j : ℕ) (found : Option ℕ) → ((b n : ℕ) → b < j → behind b ≡ Some n → new b ≡ steps b)
+    → IsLeastOf (IsReached last steps behind i j) found → IsLeastOf (IsReached last new behind i j) found
+steps_same last steps new behind i j found same known =
+    least_same (IsReached last steps behind i j) (IsReached last new behind i j) found
+    (λ n h. elim h [ inl e ↦ inl e | inr s ↦ inr (step_by steps new n s (same s.end s.rest s.within s.later ∙ s.steps)) ])
+    (λ n h. elim h [ inl e ↦ inl e | inr s ↦ inr (step_by new steps n s (sym (same s.end s.rest s.within s.later) ∙ s.steps)) ]) known
+  where
+    step_by : (old other : ℕ → Option ℕ) (n : ℕ) (s : IsSum (IsAt old) behind i j n) → other s.end ≡ Some s.cost → IsSum (IsAt other) behind i j n
+    step_by old other n s e = record { end = s.end; rises = s.rises; within = s.within; cost = s.cost; steps = e; rest = s.rest; later = s.later; adds = s.adds }
+
+-- the least is a number itself where nothing is behind any step
+pub none_behind : (last : Option ℕ) (steps behind : ℕ → Option ℕ) (i j : ℕ) → ((b n : ℕ) → behind b ≡ Some n → ⊥) → IsLeastOf (IsReached last steps behind i j) last
+none_behind last steps behind i j never =
+    least_same (λ n. last ≡ Some n) (IsReached last steps behind i j) last (λ n e. inl e)
+    (λ n h. elim h [ inl e ↦ e | inr s ↦ absurd (never s.end s.rest s.later) ]) (least_one last)
+
 -- the numbers of a row are the least of those of another and of the steps before a point
 abbrev pub AreReached : List (Option ℕ) → List (Option ℕ) → (ℕ → ℕ → Option ℕ) → ℕ → ℕ → List (Option ℕ) → Type 0
 AreReached last steps later i past row = (j : ℕ) → IsLeastOf (IsReached (rest_at last j) (rest_at steps) (λ b. later b j) i (min past j)) (rest_at row j)

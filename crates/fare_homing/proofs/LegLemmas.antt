@@ -1,34 +1,17 @@
 -- What the parts from a point cost at least, one point more.
-use Rattle.std.proofs.Common.{◌≡◌, ℕ, ◌+◌, ◌<◌, ◌⊎◌, List, length, set, replicate, refl, ◌∙◌, sym, subst, inl, inr, arith}
-use Rattle.std.specs.Prelude.{Bool, true, false, Option, None, option_map, is_some, if◌then◌else◌}
+use Rattle.std.proofs.Common.{ℕ, ◌+◌, ◌<◌, ◌⊎◌, List, length, set, replicate, sym, subst, inl, inr, arith}
+use Rattle.std.specs.Prelude.{Option, None}
 use Rattle.fare_trip.specs.Itinerary.{Itinerary, count}
 use Rattle.fare_tariff.specs.Tariff.{Tariff}
 use Rattle.fare_component.specs.declared.table.entry.Entry.{Entry}
 use Rattle.fare_component.specs.Table.{entries_of}
 use Rattle.fare_component.proofs.LawLemmas.{entry_is_of_fare}
-use Rattle.fare_bounds.specs.Covers.{hundredths_of, lesser, rest_at}
-use Rattle.fare_homing.specs.Homing.{first_cost, between_cost, back_cost}
+use Rattle.fare_bounds.specs.Covers.{rest_at}
 use Rattle.fare_homing.specs.HomingRows.{IsPart}
 use Rattle.fare_homing.specs.Least.{IsCost, IsLeastOf}
 use Rattle.fare_homing.specs.Legs.{AreLegs}
 use Rattle.fare_homing.proofs.HomingRowLemmas.{none_at}
-use Rattle.fare_homing.proofs.LeastLemmas.{AreBefore, before_all, before_first, before_more, cost_lesser, least_none, least_same}
-
--- what a part between costs at least with some entries, by what the first and the last do
-pub between_least : (entries : List Entry) (first last : Option ℕ) → IsLeastOf (IsCost first_cost entries) first → IsLeastOf (IsCost back_cost entries) last
-    → IsLeastOf (IsCost between_cost entries) (lesser first last)
-between_least entries first last outs backs =
-    least_same (IsCost (λ e. lesser (first_cost e) (back_cost e)) entries) (IsCost between_cost entries) (lesser first last)
-    (λ n cost. record { entry = cost.entry; there = cost.there; costs = sym (between_is cost.entry) ∙ cost.costs })
-    (λ n cost. record { entry = cost.entry; there = cost.there; costs = between_is cost.entry ∙ cost.costs })
-    (cost_lesser first_cost back_cost entries first last outs backs)
-  where
-    by_half : (single : Bool) (x y : Option ℕ) → lesser (if single then None else x) (if single then None else y) ≡ (if single then None else lesser x y)
-    by_half true x y = refl
-    by_half false x y = refl
-
-    between_is : (entry : Entry) → lesser (first_cost entry) (back_cost entry) ≡ between_cost entry
-    between_is entry = by_half (is_some entry.single) (option_map hundredths_of entry.out) (option_map hundredths_of entry.back)
+use Rattle.fare_homing.proofs.LeastLemmas.{AreBefore, before_all, before_first, before_more, least_none, least_same}
 
 -- the numbers of a row are what the parts cost at least that end before a point, and none is known of others
 abbrev pub AreLegsBefore : Tariff → Itinerary → (Entry → Option ℕ) → ℕ → ℕ → List (Option ℕ) → Type 0

@@ -6,8 +6,8 @@ use Rattle.fare_tariff.specs.Tariff.{Tariff}
 use Rattle.fare_rules.specs.Construction.{begin_after}
 use Rattle.fare_component.specs.declared.table.entry.Entry.{Entry}
 use Rattle.fare_component.specs.Table.{entries_of}
-use Rattle.fare_homing.specs.Homing.{IsUpTo, first_cost, between_cost, back_cost, may_end_at, is_same_city, homing_at}
-use Rattle.fare_homing.specs.HomingRows.{AreHomings, behind_between, IsPart}
+use Rattle.fare_homing.specs.Homing.{IsUpTo, first_cost, between_cost, back_cost, heads_to, may_end_at, is_same_city, homing_at}
+use Rattle.fare_homing.specs.HomingRows.{AreHomings, behind_between, IsBetween, IsPart}
 use Rattle.fare_homing.specs.Least.{IsSum, capped_sum}
 use Rattle.fare_homing.specs.Pairs.{HasPair}
 use Rattle.fare_homing.proofs.HomingRowLemmas.{part_after}
@@ -34,12 +34,12 @@ module _ {tariff : Tariff} {trip : Itinerary} {closing jaw whole : ℕ → ℕ �
         sum_of (IsPart tariff trip first_cost (begin_after trip i)) (λ k. homing_at trip closing jaw (begin_after trip i) k j) i b j cost behind (part_after tariff trip first_cost i b cost part).0 less part later,
       ) (omega arith) pair
 
-  pub between_under : (i b j : ℕ) (entry : Entry) (cost behind : ℕ) → Contains (entries_of tariff trip (begin_after trip i) b) entry → between_cost entry ≡ Some cost → b < j
+  pub between_under : (i b j : ℕ) (entry : Entry) (cost behind : ℕ) → Contains (entries_of tariff trip (begin_after trip i) b) entry → between_cost (heads_to tariff trip (begin_after trip i) b j) entry ≡ Some cost → b < j
       → is_same_city trip j b ≡ false → closing b j ≡ Some behind → IsUpTo (cost + behind) (closing i j)
   between_under i b j entry cost behind there e less apart later =
-      let part : IsPart tariff trip between_cost (begin_after trip i) b cost = record { entry = entry; there = there; costs = e } in
+      let part : IsBetween tariff trip (begin_after trip i) j b cost = record { entry = entry; there = there; costs = e } in
       sum_under (closing i j) cost behind (((are.at i).closes j).lowest (capped_sum cost behind) (inl (inr (
-      sum_of (IsPart tariff trip between_cost (begin_after trip i)) (λ k. behind_between trip (closing k) k j) i b j cost behind (part_after tariff trip between_cost i b cost part).0 less part (rw apart later)))))
+      sum_of (IsBetween tariff trip (begin_after trip i) j) (λ k. behind_between trip (closing k) k j) i b j cost behind (part_after tariff trip (between_cost (heads_to tariff trip (begin_after trip i) b j)) i b cost part).0 less part (rw apart later)))))
 
   pub last_closes_under : (i j : ℕ) (entry : Entry) (cost : ℕ) → Contains (entries_of tariff trip (begin_after trip i) j) entry → back_cost entry ≡ Some cost → IsUpTo cost (closing i j)
   last_closes_under i j entry cost there e = ((are.at i).closes j).lowest cost (inl (inl (record { entry = entry; there = there; costs = e })))

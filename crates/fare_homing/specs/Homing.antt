@@ -1,12 +1,12 @@
 -- Homing: what the parts behind a point cost at least until a unit comes home there, since what begins must also end.
-use Rattle.std.specs.Prelude.{◌≡◌, ℕ, ◌≤◌, Bool, ◌||◌, Option, Some, None, option_map, is_some, bytes_eq}
+use Rattle.std.specs.Prelude.{◌≡◌, ℕ, ◌≤◌, Bool, not, ◌&&◌, ◌||◌, Option, Some, None, option_map, is_some, bytes_eq}
 use Rattle.std.specs.Prelude.{if◌then◌else◌}
 use Rattle.fare_codes.specs.declared.city.City.{City}
 use Rattle.fare_trip.specs.Itinerary.{Itinerary, point}
 use Rattle.fare_tariff.specs.Tariff.{Tariff}
 use Rattle.fare_rules.specs.Shape.{lie_together}
 use Rattle.fare_component.specs.declared.table.entry.Entry.{Entry}
-use Rattle.fare_bounds.specs.Covers.{hundredths_of, lesser}
+use Rattle.fare_bounds.specs.Covers.{hundredths_of}
 
 -- an amount is there, and no more than some number
 abbrev pub IsUpTo : ℕ → Option ℕ → Type 0
@@ -28,14 +28,20 @@ single_cost entry = entry.single
 abbrev pub first_cost : Entry → Option ℕ
 first_cost entry = half_cost entry (option_map hundredths_of entry.out)
 
--- what a part between the first and the last costs at least with an entry: the lesser of its amounts
-abbrev pub between_cost : Entry → Option ℕ
-between_cost entry =
-    half_cost entry (lesser (option_map hundredths_of entry.out) (option_map hundredths_of entry.back))
-
 -- what the last part of a unit of half round trips costs with an entry: its amount priced back
 abbrev pub back_cost : Entry → Option ℕ
 back_cost entry = half_cost entry (option_map hundredths_of entry.back)
+
+-- a part between two points heads home in a unit that closes at another: it comes into the country of the city where the
+-- unit closes from outside it
+abbrev pub heads_to : Tariff → Itinerary → ℕ → ℕ → ℕ → Bool
+heads_to tariff trip a b home =
+    lie_together tariff (point trip b) (point trip home) && not (lie_together tariff (point trip a) (point trip home))
+
+-- what a part between the first and the last of a unit costs with an entry: its amount priced back where it heads home,
+-- and else out
+abbrev pub between_cost : Bool → Entry → Option ℕ
+between_cost heads entry = if heads then back_cost entry else first_cost entry
 
 -- a unit that begins at a point may end at another: in the same city, or in its country as an open jaw
 abbrev pub may_end_at : Tariff → Itinerary → ℕ → ℕ → Bool

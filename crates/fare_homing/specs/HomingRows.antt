@@ -5,7 +5,8 @@ use Rattle.fare_tariff.specs.Tariff.{Tariff}
 use Rattle.fare_rules.specs.Construction.{begin_after}
 use Rattle.fare_component.specs.declared.table.entry.Entry.{Entry}
 use Rattle.fare_component.specs.Table.{entries_of}
-use Rattle.fare_homing.specs.Homing.{single_cost, first_cost, between_cost, back_cost, may_end_at, is_same_city}
+use Rattle.fare_homing.specs.Homing.{single_cost, first_cost, between_cost, back_cost, heads_to, may_end_at}
+use Rattle.fare_homing.specs.Homing.{is_same_city}
 use Rattle.fare_homing.specs.Homing.{IsUpTo, homing_at}
 use Rattle.fare_homing.specs.Least.{IsAt, IsCost, IsLeastOf, IsSum}
 use Rattle.fare_homing.specs.Pairs.{HasPair}
@@ -29,6 +30,10 @@ pub record IsWhole (tariff : Tariff) (trip : Itinerary) (closing jaw : ℕ → �
   pub first : (number cost : ℕ) → IsByFirst tariff trip closing jaw i j number → number ≤ cost
       → HasPair tariff trip (begin_after trip i) j cost → IsUpTo cost found
 
+-- what a part between from a point costs by where it ends, in a unit that closes at another point
+abbrev pub IsBetween : Tariff → Itinerary → ℕ → ℕ → ℕ → ℕ → Type 0
+IsBetween tariff trip a home b = IsPart tariff trip (between_cost (heads_to tariff trip a b home)) a b
+
 -- what is behind a part between until its unit closes at a point: nothing where the part ends in the very city where
 -- the unit closes, since no earlier part of a unit does
 abbrev pub behind_between : Itinerary → (ℕ → Option ℕ) → ℕ → ℕ → Option ℕ
@@ -39,7 +44,7 @@ behind_between trip behind b j = if is_same_city trip j b then None else behind 
 abbrev pub IsClosing : Tariff → Itinerary → (ℕ → ℕ → Option ℕ) → (ℕ → Option ℕ) → ℕ → ℕ → ℕ → Type 0
 IsClosing tariff trip closing whole i j cost =
     (IsPart tariff trip back_cost (begin_after trip i) j cost
-    ⊎ IsSum (IsPart tariff trip between_cost (begin_after trip i)) (λ b. behind_between trip (closing b) b j) i j cost)
+    ⊎ IsSum (IsBetween tariff trip (begin_after trip i) j) (λ b. behind_between trip (closing b) b j) i j cost)
     ⊎ IsSum (IsAt whole) (λ b. closing b j) i j cost
 
 -- what the parts behind a point cost until a unit ends at another as an open jaw: its last part, or one whole unit that

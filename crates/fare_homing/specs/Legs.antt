@@ -6,7 +6,7 @@ use Rattle.fare_component.specs.declared.table.entry.Entry.{Entry}
 use Rattle.fare_bounds.specs.Covers.{rest_at}
 use Rattle.fare_homing.specs.declared.legs.Least.{Least}
 use Rattle.fare_homing.specs.declared.legs.LegRows.{LegRows}
-use Rattle.fare_homing.specs.Homing.{single_cost, first_cost, between_cost, back_cost}
+use Rattle.fare_homing.specs.Homing.{single_cost, first_cost, back_cost}
 use Rattle.fare_homing.specs.HomingRows.{IsPart}
 use Rattle.fare_homing.specs.Least.{IsCost, IsLeastOf}
 
@@ -24,5 +24,4 @@ AreLegs tariff trip cost_of a row = (b : ℕ) → IsLeastOf (IsPart tariff trip 
 pub record AreLegsOf (tariff : Tariff) (trip : Itinerary) (a : ℕ) (legs : LegRows) : Type 0 where
   pub alone : AreLegs tariff trip single_cost a legs.alone
   pub first : AreLegs tariff trip first_cost a legs.first
-  pub between : AreLegs tariff trip between_cost a legs.between
   pub last : AreLegs tariff trip back_cost a legs.last

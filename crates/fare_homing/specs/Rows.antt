@@ -1,9 +1,10 @@
 -- Rows: the numbers of homing by two points of a trip.
-use Rattle.std.specs.Prelude.{◌≡◌, ℕ, ◌≤◌, List, [], Option, Some, None, slice_index_or}
+use Rattle.std.specs.Prelude.{◌≡◌, ℕ, ◌≤◌, Bool, not, ◌&&◌, List, [], Option, Some, None, slice_index_or, if◌then◌else◌}
 use Rattle.fare_trip.specs.Itinerary.{Itinerary, count, point}
 use Rattle.fare_tariff.specs.Tariff.{Tariff}
 use Rattle.fare_codes.specs.declared.country.Country.{Country}
 use Rattle.fare_rules.specs.Indicator.{country}
+use Rattle.fare_rules.specs.Shape.{is_same_country}
 use Rattle.fare_bounds.specs.Covers.{rest_at}
 use Rattle.fare_homing.specs.declared.homing.Homing.{Homing}
 use Rattle.fare_homing.specs.HomingRows.{AreHomings}
@@ -25,3 +26,18 @@ EndWithin trip rows = (i j number : ℕ) → cell rows i j ≡ Some number → j
 abbrev pub AreCountries : Tariff → Itinerary → List (Option Country) → Type 0
 AreCountries tariff trip countries =
     (i : ℕ) → i ≤ count trip → slice_index_or countries i None ≡ country tariff (point trip i)
+
+-- the country of a point among those of a trip's points
+abbrev pub country_at : List (Option Country) → ℕ → Option Country
+country_at countries i = slice_index_or countries i None
+
+-- by the countries of a trip's points, a part between two of them heads home in a unit that closes at another
+abbrev pub heads_in : List (Option Country) → ℕ → ℕ → ℕ → Bool
+heads_in countries a b home =
+    is_same_country (country_at countries b) (country_at countries home)
+    && not (is_same_country (country_at countries a) (country_at countries home))
+
+-- what a part between costs by where it ends, in a unit that closes at a point: as a last part where it heads home, and
+-- else as a first one
+abbrev pub step_to : List (Option Country) → ℕ → (ℕ → Option ℕ) → (ℕ → Option ℕ) → ℕ → ℕ → Option ℕ
+step_to countries a first last home b = if heads_in countries a b home then last b else first b

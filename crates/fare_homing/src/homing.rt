@@ -10,10 +10,11 @@ ghost use Rattle.fare_homing.specs.Pairs.{HasPair};
 ghost use Rattle.fare_homing.specs.Legs.{AreLegsOf};
 ghost use Rattle.fare_homing.specs.Rows.{cell, AreCountries, AreHomingsOf, EndWithin};
 
+use crate::between::{Between, reached_between};
 use crate::legs::{LegRows, legs};
 use crate::nearness::countries_of;
 use crate::pairs::{Pairing, least_pair};
-use crate::reaching::{least_onward, reach, reached, reached_between};
+use crate::reaching::{least_onward, reach, reached};
 use fare_bounds::{begin_after, lesser};
 use fare_codes::Country;
 use fare_component::Table;
@@ -166,7 +167,12 @@ fn row_at(
     let count = trip.count();
     let legs = legs(table, begin_after(trip, i));
     let whole = wholes_at(table, countries, homing, &legs, i);
-    let within = reached_between(trip, &legs.between, &homing.closing, &legs.last, i);
+    let between = Between {
+        start: begin_after(trip, i),
+        legs: &legs,
+        countries,
+    };
+    let within = reached_between(trip, &between, &homing.closing, i);
     let closing = reached(&whole, &homing.closing, &within, i);
     let jaw = reached(&whole, &homing.jaw, &legs.last, i);
     let rest = least_onward(&whole, &homing.rest, i, count + 1);

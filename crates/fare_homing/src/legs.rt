@@ -29,10 +29,17 @@ pub(crate) struct LegRows {
     pub(crate) alone: [Option<u64>; MOST_POINTS],
     /// The first of its parts.
     pub(crate) first: [Option<u64>; MOST_POINTS],
-    /// A part between the first and the last.
-    pub(crate) between: [Option<u64>; MOST_POINTS],
     /// The last of its parts.
     pub(crate) last: [Option<u64>; MOST_POINTS],
+}
+
+impl LegRows {
+    /// What the last part of a unit costs at least, by the points where it ends.
+    pub(crate) fn last_row(&self) -> [Option<u64>; MOST_POINTS]
+        ensures { result ≡ self.now.last }
+    {
+        self.last
+    }
 }
 
 /// The hundredths of a component amount.
@@ -102,14 +109,12 @@ pub(crate) fn legs(table: &Table, a: usize) -> LegRows
     let mut legs = LegRows {
         alone: none,
         first: none,
-        between: none,
         last: none,
     };
     for b in a + 1..count + 1 {
         let least = cheapest(table.entries(a, b));
         legs.alone[b] = least.alone;
         legs.first[b] = least.first;
-        legs.between[b] = lesser(least.first, least.last);
         legs.last[b] = least.last;
     }
     legs

@@ -4,12 +4,14 @@
 //! - `nearness`: which cities lie near each other, and the countries of a trip's points;
 //! - `reaching`: the least by which a point is reached, over steps to the points before it;
 //! - `legs`: what the parts from a point cost at least, by what a part is in its unit;
+//! - `between`: what is behind a point until a unit closes, by a part between its first and its last;
 //! - `pairs`: what the first and the last part of a unit cost at least together;
 //! - `homing`: the numbers of a trip.
 //!
 //! Each of these stands on those above it.
 #![tactic(auto)]
 
+mod between;
 mod homing;
 mod legs;
 mod nearness;

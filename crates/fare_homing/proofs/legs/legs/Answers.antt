@@ -1,9 +1,9 @@
 use Rattle.std.proofs.Common.{◌≡◌, refl, ◌<◌, List, subst, ◌∙◌, ap, arith, length-set}
 use Rattle.fare_trip.specs.Itinerary.{count}
 use Rattle.fare_component.specs.declared.table.entry.Entry.{Entry}
-use Rattle.fare_homing.specs.Homing.{single_cost, first_cost, between_cost, back_cost}
+use Rattle.fare_homing.specs.Homing.{single_cost, first_cost, back_cost}
 use Rattle.fare_homing.specs.Legs.{AreLeastOf}
-use Rattle.fare_homing.proofs.LegLemmas.{between_least, legs_all, legs_first, legs_more}
+use Rattle.fare_homing.proofs.LegLemmas.{legs_all, legs_first, legs_more}
 use Rattle.fare_component.specs.Table.{entries_of}
 use Rattle.fare_homing.proofs.legs.legs.Goals as goal
 
@@ -16,8 +16,6 @@ loop-b-init c =
       alone = legs_first tariff trip single_cost c.args.a 17;
       long_first = refl;
       first = legs_first tariff trip first_cost c.args.a 17;
-      long_between = refl;
-      between = legs_first tariff trip between_cost c.args.a 17;
       long_last = refl;
       last = legs_first tariff trip back_cost c.args.a 17;
     }
@@ -35,9 +33,6 @@ loop-b-preserved c =
       alone = legs_more tariff trip single_cost c.args.a c.loop-b.b legs.alone c.cheapest-least.result.alone (omega (arith, known.long_alone)) known.alone least.alone;
       long_first = length-set legs.first c.loop-b.b c.cheapest-least.result.first ∙ known.long_first;
       first = legs_more tariff trip first_cost c.args.a c.loop-b.b legs.first c.cheapest-least.result.first (omega (arith, known.long_first)) known.first least.first;
-      long_between = length-set legs.between c.loop-b.b c.lesser.result ∙ known.long_between;
-      between = legs_more tariff trip between_cost c.args.a c.loop-b.b legs.between c.lesser.result (omega (arith, known.long_between)) known.between
-          (rw c.lesser.ensures (between_least (entries_of tariff trip c.args.a c.loop-b.b) c.cheapest-least.result.first c.cheapest-least.result.last least.first least.last));
       long_last = length-set legs.last c.loop-b.b c.cheapest-least.result.last ∙ known.long_last;
       last = legs_more tariff trip back_cost c.args.a c.loop-b.b legs.last c.cheapest-least.result.last (omega (arith, known.long_last)) known.last least.last;
     }
@@ -52,6 +47,5 @@ returns c =
     record {
       alone = legs_all tariff trip single_cost c.args.a c.loop-b.b legs.alone past c.loop-b.invariant.alone;
       first = legs_all tariff trip first_cost c.args.a c.loop-b.b legs.first past c.loop-b.invariant.first;
-      between = legs_all tariff trip between_cost c.args.a c.loop-b.b legs.between past c.loop-b.invariant.between;
       last = legs_all tariff trip back_cost c.args.a c.loop-b.b legs.last past c.loop-b.invariant.last;
     }

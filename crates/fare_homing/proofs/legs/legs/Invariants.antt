@@ -1,6 +1,6 @@
 -- the numbers are known of the parts that end before this point
 use Rattle.std.proofs.Common.{◌≡◌, length}
-use Rattle.fare_homing.specs.Homing.{single_cost, first_cost, between_cost, back_cost}
+use Rattle.fare_homing.specs.Homing.{single_cost, first_cost, back_cost}
 use Rattle.fare_homing.proofs.LegLemmas.{AreLegsBefore}
 use Rattle.fare_homing.proofs.legs.legs.Given as goal
 
@@ -10,8 +10,6 @@ invariant-loop-b l = record {
   alone : AreLegsBefore l.table.edition l.table.trip single_cost l.a l.b l.legs.alone;
   long_first : length l.legs.first ≡ 17;
   first : AreLegsBefore l.table.edition l.table.trip first_cost l.a l.b l.legs.first;
-  long_between : length l.legs.between ≡ 17;
-  between : AreLegsBefore l.table.edition l.table.trip between_cost l.a l.b l.legs.between;
   long_last : length l.legs.last ≡ 17;
   last : AreLegsBefore l.table.edition l.table.trip back_cost l.a l.b l.legs.last;
 }
