@@ -33,11 +33,11 @@ jaw_joins n l e m o p h =
       | inr g ↦ inr (and_parts (m && o) p g).1
     ]
 
-other_way : (a b : City) → bytes_eq a b ≡ true → bytes_eq b a ≡ true
+pub other_way : (a b : City) → bytes_eq a b ≡ true → bytes_eq b a ≡ true
 other_way a b e = (bytes_eq-Decides b a).1 (sym ((bytes_eq-Decides a b).0 e))
 
 -- of what is chained each begins where the one before it ends
-joint : (trip : Itinerary) (parts : List Part) (x : ℕ) (xs : List ℕ) (k : ℕ) (more : List ℕ) → is_chained trip parts ((x ∷ xs) ++ k ∷ more) ≡ true → follows trip parts (last_of (x ∷ xs)) k ≡ true
+pub joint : (trip : Itinerary) (parts : List Part) (x : ℕ) (xs : List ℕ) (k : ℕ) (more : List ℕ) → is_chained trip parts ((x ∷ xs) ++ k ∷ more) ≡ true → follows trip parts (last_of (x ∷ xs)) k ≡ true
 joint trip parts x [] k more h = (and_parts (follows trip parts x k) (is_chained trip parts (k ∷ more)) h).0
 joint trip parts x (y ∷ ys) k more h = joint trip parts y ys k more (and_parts (follows trip parts x y) (is_chained trip parts ((y ∷ ys) ++ k ∷ more)) h).1
 

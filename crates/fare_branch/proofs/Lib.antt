@@ -24,6 +24,7 @@ pub mod CrossingLemmas
 pub mod StackRowLemmas
 pub mod StackFloorLemmas
 pub mod StackLemmas
+pub mod StandLemmas
 pub mod PairLemmas
 pub mod LastPartLemmas
 pub mod OverLastLemmas

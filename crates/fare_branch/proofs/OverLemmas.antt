@@ -21,21 +21,21 @@ use Rattle.fare_rules.proofs.LawfulLemmas.{kept}
 use Rattle.fare_rules.proofs.NumberLemmas.{any_next}
 use Rattle.fare_units.proofs.NextLemmas.{front_unit, greatest_same}
 use Rattle.fare_component.specs.Table.{entries_of}
-use Rattle.fare_homing.specs.Homing.{IsUpTo, homing_at, is_same_city, may_end_at, back_cost, between_cost, heads_to}
+use Rattle.fare_homing.specs.Homing.{IsUpTo, homing_at, is_same_city, may_end_at, may_go_on, back_cost, between_cost, heads_to}
 use Rattle.fare_homing.specs.HomingRows.{AreHomings}
-use Rattle.fare_branch.proofs.CostLemmas.{unit_from_one}
+use Rattle.fare_branch.proofs.CostLemmas.{member_place, unit_from_one}
 use Rattle.fare_branch.proofs.UnitLemmas.{all, own_has, unit_in, alone_in, holds_none}
-use Rattle.fare_branch.proofs.GoesOnLemmas.{going_on, goes_not, goes_on_from, on_same, none_above, home_behind, own_first, own_last, own_two, two_ends}
+use Rattle.fare_branch.proofs.GoesOnLemmas.{first_member, going_on, goes_not, goes_on_from, on_same, none_above, home_behind, own_first, own_last, own_two, two_ends}
 use Rattle.fare_branch.proofs.NearLemmas.{EndsBy, unit_ends_by}
 use Rattle.fare_homing.specs.Pairs.{HasPair}
 use Rattle.fare_branch.proofs.PairLemmas.{pair_of}
 use Rattle.fare_branch.proofs.OnwardLemmas.{ends_rise, must_close_from, closed_whole, ends_home, either_left, either_right}
 use Rattle.fare_branch.specs.Costs.{true_cost}
-use Rattle.fare_branch.specs.Stack.{goes_on, IsOver, LastsBy}
-use Rattle.fare_homing.proofs.ReachLemmas.{up_more}
+use Rattle.fare_branch.specs.Stack.{goes_on, stand_of, IsOver, LastsBy}
 use Rattle.fare_homing.proofs.UnderLemmas.{alone_under, between_under, first_under, last_closes_under, last_jaw_under, nothing_left}
-use Rattle.fare_branch.proofs.StackLemmas.{home_at, begins_at, lasts_more, over_more, over_same, over_down, over_up, Opens, opens, from_open, step_over}
+use Rattle.fare_branch.proofs.StackLemmas.{home_at, begins_at, lasts_more, AreSame, over_more, over_same, over_down, over_up, Opens, opens, from_open, step_over}
 use Rattle.fare_branch.proofs.ShutLemmas.{any_at, long_ends_at_home}
+use Rattle.fare_branch.proofs.StandLemmas.{point_behind, ends_before, begins_between, begins_near, begins_there, stand_here, stand_low, stand_over}
 use Rattle.fare_branch.proofs.SumLemmas.{greatest_fewer, unit_up_to}
 use Rattle.fare_branch.proofs.TrueCostLemmas.{entry, entry_there, alone_cost, first_costs, back_costs, between_costs}
 
@@ -51,11 +51,6 @@ below a b h n = omega arith
 
 above : (a b : ℕ) → b ≤ a → (a ≡ b → ⊥) → b < a
 above a b h n = omega arith
-
--- the point behind a part; where there is none yet, the trip's first
-abbrev pub point_behind : List Part → ℕ → ℕ
-point_behind parts zero = 0
-point_behind parts (suc k) = end_of parts (suc k)
 
 pub behind_next : (parts : List Part) (k : ℕ) → point_behind parts (k + 1) ≡ end_of parts (k + 1)
 behind_next parts k =
@@ -128,16 +123,8 @@ module _ (tariff : Tariff) (trip : Itinerary) (parts : List Part) (price : ℕ) 
       let P : ℕ → Type 0 = λ z. begin_after trip (point_behind parts m) ≡ start_of trip parts z in
       let begins : begin_after trip (point_behind parts m) ≡ start_of trip parts (suc m) = subst P n (begins_next m (omega arith)) in
       let later : point_behind parts m ≤ begin_after trip (point_behind parts m) = begins_later trip (point_behind parts m) in
-      let before : end_of parts k ≤ point_behind parts m = ends_before k m low (omega arith) (omega arith) in
+      let before : end_of parts k ≤ point_behind parts m = ends_before tariff trip parts price lawful k m low (omega arith) (omega arith) in
       omega arith
-    where
-      ends_before : (k m : ℕ) → 1 ≤ k → k ≤ m → m ≤ length parts → end_of parts k ≤ point_behind parts m
-      ends_before k zero low le within = absurd (omega arith)
-      ends_before k (suc m) low le within =
-          elim (cases_eq k (suc m)) [
-            | inl same ↦ let P : ℕ → Type 0 = λ j. end_of parts j ≤ point_behind parts (suc m) in subst P (sym same) (omega arith)
-            | inr other ↦ let rise : end_of parts k < end_of parts (suc m) = ends_rise trip parts (all tariff trip parts price lawful) k (suc m) low (omega arith) within in omega arith
-          ]
 
   -- a unit of half round trips has two parts or more; of three or more the last ends in the city where the first begins
   half_shape : (unit : ℕ) → 1 ≤ unit → unit ≤ greatest_unit parts (places parts) → (xs : List ℕ) → own parts unit ≡ xs → holds_ow tariff parts xs ≡ false → (2 ≤ length xs) × (3 ≤ length xs → comes_home trip parts xs ≡ true)
@@ -160,15 +147,15 @@ module _ (tariff : Tariff) (trip : Itinerary) (parts : List Part) (price : ℕ) 
       either j last (inl home) = either_left (bytes_eq (point trip (end_of parts last)) (point trip (start_of trip parts j))) (lie_together tariff (point trip (end_of parts last)) (point trip (start_of trip parts j))) home
       either j last (inr near) = either_right (bytes_eq (point trip (end_of parts last)) (point trip (start_of trip parts j))) (lie_together tariff (point trip (end_of parts last)) (point trip (start_of trip parts j))) near
 
-  module _ (closing jaw whole : ℕ → ℕ → Option ℕ) (left : ℕ → Option ℕ) (are : AreHomings tariff trip closing jaw whole left) where
+  module _ (closing jaw : ℕ → ℕ → ℕ → Option ℕ) (whole : ℕ → ℕ → Option ℕ) (left : ℕ → Option ℕ) (are : AreHomings tariff trip closing jaw whole left) where
     abbrev Stands : ℕ → ℕ → ℕ → ℕ → Type 0
     Stands k u i cost = IsOver tariff trip closing jaw left parts k u i cost
 
-    at_city : (start i j x : ℕ) → is_same_city trip start j ≡ true → IsUpTo x (homing_at trip closing jaw start i j) → IsUpTo x (closing i j)
-    at_city start i j x t up = rw t at up
+    at_city : (c start i j x : ℕ) → is_same_city trip start j ≡ true → IsUpTo x (homing_at trip (closing c) (jaw c) start i j) → IsUpTo x (closing c i j)
+    at_city c start i j x t up = rw t at up
 
-    from_city : (start i j x : ℕ) → is_same_city trip start j ≡ true → IsUpTo x (closing i j) → IsUpTo x (homing_at trip closing jaw start i j)
-    from_city start i j x t up = rw t up
+    from_city : (c start i j x : ℕ) → is_same_city trip start j ≡ true → IsUpTo x (closing c i j) → IsUpTo x (homing_at trip (closing c) (jaw c) start i j)
+    from_city c start i j x t up = rw t up
 
     -- a part behind some others, before what is over the units that go on behind it
     module _ (k : ℕ) (high : k + 1 ≤ length parts) (behind : ℕ) (over : Stands (k + 1) (greatest_unit parts (places parts)) (end_of parts (k + 1)) behind) where
@@ -230,39 +217,59 @@ module _ (tariff : Tariff) (trip : Itinerary) (parts : List Part) (price : ℕ) 
       under_same : (i x : ℕ) → Stands (k + 1) (unit_of parts (k + 1) - 1) i x → Stands k (unit_of parts (k + 1) - 1) i x
       under_same i x o =
           let low_mine : 1 ≤ unit_of parts (k + 1) = mine_low in
-          over_same tariff trip closing jaw left parts (k + 1) k (unit_of parts (k + 1) - 1) i x (λ v low most. other_same v (λ e. omega arith)) o
+          let same : AreSame tariff trip closing jaw left parts (k + 1) k (unit_of parts (k + 1) - 1) = λ v low most. (other_same v (λ e. omega arith), λ t. stand_over parts k v (λ e. omega arith)) in
+          over_same tariff trip closing jaw left parts (k + 1) k (unit_of parts (k + 1) - 1) i x same o
+
+      -- what goes on before it and behind it comes home behind it, and stands before it
+      home_and_stand : (v : ℕ) → goes_on parts (k + 1) v ≡ goes_on parts k v → goes_on parts k v ≡ true → (end_of parts (k + 1) < home_at parts v) × (stand_of parts k v ≤ point_behind parts k)
+      home_and_stand v same t = ((home_later v (same ∙ t)).0, stand_low tariff trip parts price lawful k v t)
 
       under_most : unit_of parts (k + 1) - 1 ≤ greatest_unit parts (places parts)
       under_most = let most : unit_of parts (k + 1) ≤ greatest_unit parts (places parts) = mine_high in omega arith
 
       -- a one way fare stands alone
       module _ (way : is_ow tariff parts (k + 1) ≡ true) where
+        alone_at : (first_of (own parts (unit_of parts (k + 1))) ≡ k + 1) × (last_of (own parts (unit_of parts (k + 1))) ≡ k + 1)
+        alone_at =
+            let holds : holds_ow tariff parts (own parts (unit_of parts (k + 1))) ≡ true = any_at (is_ow tariff parts) (k + 1) (own parts (unit_of parts (k + 1))) (own_has tariff trip parts price lawful (k + 1) (omega arith) high) way in
+            let one = alone_in tariff trip parts price lawful (unit_of parts (k + 1)) mine_low mine_high holds in
+            let first : first_of (own parts (unit_of parts (k + 1))) ≡ one.0 = ap first_of one.1 in
+            let last : last_of (own parts (unit_of parts (k + 1))) ≡ one.0 = ap last_of one.1 in
+            let low : first_of (own parts (unit_of parts (k + 1))) ≤ k + 1 = first_by in
+            let most : k + 1 ≤ last_of (own parts (unit_of parts (k + 1))) = last_by in
+            (omega arith, omega arith)
+
+        -- and its unit does not go on behind it
+        alone_not : goes_on parts (k + 1) (unit_of parts (k + 1)) ≡ false
+        alone_not = let last : last_of (own parts (unit_of parts (k + 1))) ≡ k + 1 = alone_at.1 in goes_not parts (k + 1) (unit_of parts (k + 1)) (λ a b. omega arith)
+
         alone_same : (v : ℕ) → goes_on parts (k + 1) v ≡ goes_on parts k v
         alone_same v =
             elim (cases_eq (unit_of parts (k + 1)) v) [
               | inl same ↦
-                  let holds : holds_ow tariff parts (own parts (unit_of parts (k + 1))) ≡ true = any_at (is_ow tariff parts) (k + 1) (own parts (unit_of parts (k + 1))) (own_has tariff trip parts price lawful (k + 1) (omega arith) high) way in
-                  let one = alone_in tariff trip parts price lawful (unit_of parts (k + 1)) mine_low mine_high holds in
-                  let first : first_of (own parts (unit_of parts (k + 1))) ≡ one.0 = ap first_of one.1 in
-                  let last : last_of (own parts (unit_of parts (k + 1))) ≡ one.0 = ap last_of one.1 in
-                  let low : first_of (own parts (unit_of parts (k + 1))) ≤ k + 1 = first_by in
-                  let most : k + 1 ≤ last_of (own parts (unit_of parts (k + 1))) = last_by in
-                  let next : goes_on parts (k + 1) (unit_of parts (k + 1)) ≡ false = goes_not parts (k + 1) (unit_of parts (k + 1)) (λ a b. omega arith) in
+                  let first : first_of (own parts (unit_of parts (k + 1))) ≡ k + 1 = alone_at.0 in
                   let here : goes_on parts k (unit_of parts (k + 1)) ≡ false = goes_not parts k (unit_of parts (k + 1)) (λ a b. omega arith) in
                   let P : ℕ → Type 0 = λ u. goes_on parts (k + 1) u ≡ goes_on parts k u in
-                  subst P same (next ∙ sym here)
+                  subst P same (alone_not ∙ sym here)
               | inr other ↦ other_same v other
             ]
 
+        alone_stands : (v : ℕ) → goes_on parts (k + 1) v ≡ true → stand_of parts (k + 1) v ≡ stand_of parts k v
+        alone_stands v t =
+            stand_over parts k v (λ e.
+            let P : ℕ → Type 0 = λ u. goes_on parts (k + 1) u ≡ false in
+            true_false (sym t ∙ subst P e alone_not))
+
         -- so what is over the units behind it is over those before it
         pub alone_behind : Stands k (greatest_unit parts (places parts)) (end_of parts (k + 1)) behind
-        alone_behind = over_same tariff trip closing jaw left parts (k + 1) k (greatest_unit parts (places parts)) (end_of parts (k + 1)) behind (λ v low most. alone_same v) over
+        alone_behind =
+            let same : AreSame tariff trip closing jaw left parts (k + 1) k (greatest_unit parts (places parts)) = λ v low most. (alone_same v, alone_stands v) in
+            over_same tariff trip closing jaw left parts (k + 1) k (greatest_unit parts (places parts)) (end_of parts (k + 1)) behind same over
 
         alone_over : Stands k (greatest_unit parts (places parts)) (point_behind parts k) (true_cost tariff trip parts (k + 1) + behind)
         alone_over =
             let up : IsUpTo (true_cost tariff trip parts (k + 1)) (whole (point_behind parts k) (end_of parts (k + 1))) = alone_under are (point_behind parts k) (end_of parts (k + 1)) (entry tariff trip parts price lawful (k + 1)) (true_cost tariff trip parts (k + 1)) contained (alone_cost tariff trip parts price lawful (k + 1) (omega arith) high way) in
-            let o : Stands (k + 1) (greatest_unit parts (places parts)) (point_behind parts k) (true_cost tariff trip parts (k + 1) + behind) = step_over tariff trip closing jaw whole left are parts (k + 1) (greatest_unit parts (places parts)) (point_behind parts k) (end_of parts (k + 1)) (true_cost tariff trip parts (k + 1)) behind rises within up (λ v low most t. home_later v t) over in
-            over_same tariff trip closing jaw left parts (k + 1) k (greatest_unit parts (places parts)) (point_behind parts k) (true_cost tariff trip parts (k + 1) + behind) (λ v low most. alone_same v) o
+            step_over tariff trip closing jaw whole left are parts k (greatest_unit parts (places parts)) (point_behind parts k) (end_of parts (k + 1)) (true_cost tariff trip parts (k + 1)) behind rises within up (λ v low most t. home_and_stand v (alone_same v) t) alone_behind
 
       -- a half round trip stands first, between or last in its unit
       module _ (way : is_ow tariff parts (k + 1) ≡ false) where
@@ -282,12 +289,43 @@ module _ (tariff : Tariff) (trip : Itinerary) (parts : List Part) (price : ℕ) 
               | inr short ↦ elim (two_ends (own parts (unit_of parts (k + 1))) (k + 1) (own_has tariff trip parts price lawful (k + 1) (omega arith) high) short) [ inl e ↦ absurd (omega arith) | inr e ↦ absurd (omega arith) ]
             ]
 
-        last_up : (start : ℕ) → back_cost (entry tariff trip parts price lawful (k + 1)) ≡ Some (true_cost tariff trip parts (k + 1)) → IsUpTo (true_cost tariff trip parts (k + 1)) (homing_at trip closing jaw start (point_behind parts k) (end_of parts (k + 1)))
-        last_up start cost =
-            elim (cases_Bool (is_same_city trip start (end_of parts (k + 1)))) [
-              | inl t ↦ rw t (last_closes_under are (point_behind parts k) (end_of parts (k + 1)) (entry tariff trip parts price lawful (k + 1)) (true_cost tariff trip parts (k + 1)) contained cost)
-              | inr f ↦ rw f (last_jaw_under are (point_behind parts k) (end_of parts (k + 1)) (entry tariff trip parts price lawful (k + 1)) (true_cost tariff trip parts (k + 1)) contained cost)
-            ]
+        -- behind the first part of its unit
+        module _ (first : first_of (own parts (unit_of parts (k + 1))) < k + 1) where
+          begun : Member (first_of (own parts (unit_of parts (k + 1)))) (own parts (unit_of parts (k + 1)))
+          begun = let some : 2 ≤ length (own parts (unit_of parts (k + 1))) = shape.0 in first_member (own parts (unit_of parts (k + 1))) (omega arith)
+
+          begun_place : (1 ≤ first_of (own parts (unit_of parts (k + 1)))) × (first_of (own parts (unit_of parts (k + 1))) ≤ length parts) × (unit_of parts (first_of (own parts (unit_of parts (k + 1)))) ≡ unit_of parts (k + 1))
+          begun_place = member_place tariff trip parts price lawful (unit_of parts (k + 1)) (first_of (own parts (unit_of parts (k + 1)))) begun
+
+          -- its unit stands no later than where it begins
+          stand_before : stand_of parts k (unit_of parts (k + 1)) ≤ point_behind parts k
+          stand_before =
+              let most : k + 1 ≤ last_of (own parts (unit_of parts (k + 1))) = last_by in
+              stand_low tariff trip parts price lawful k (unit_of parts (k + 1)) (goes_on_from parts k (unit_of parts (k + 1)) (omega arith) (omega arith))
+
+          near : may_go_on tariff trip (stand_of parts k (unit_of parts (k + 1))) (begin_after trip (point_behind parts k)) ≡ true
+          near =
+              let P : ℕ → Type 0 = λ a. may_go_on tariff trip (stand_of parts k (unit_of parts (k + 1))) a ≡ true in
+              subst P (sym (begins_next k high)) (begins_near tariff trip parts price lawful k high way (first_of (own parts (unit_of parts (k + 1)))) begun_place.0 (omega arith) begun_place.2)
+
+          there_from : is_same_city trip (stand_of parts k (unit_of parts (k + 1))) (start_of trip parts (k + 1)) ≡ true → is_same_city trip (stand_of parts k (unit_of parts (k + 1))) (begin_after trip (point_behind parts k)) ≡ true
+          there_from h =
+              let P : ℕ → Type 0 = λ a. is_same_city trip (stand_of parts k (unit_of parts (k + 1))) a ≡ true in
+              subst P (sym (begins_next k high)) h
+
+          there_between : 3 ≤ length (own parts (unit_of parts (k + 1))) → is_same_city trip (stand_of parts k (unit_of parts (k + 1))) (begin_after trip (point_behind parts k)) ≡ true
+          there_between long = there_from (begins_between tariff trip parts price lawful k high way (first_of (own parts (unit_of parts (k + 1)))) begun_place.0 (omega arith) begun_place.2 long)
+
+          there_last : is_same_city trip (begins_at trip parts (unit_of parts (k + 1))) (end_of parts (k + 1)) ≡ false → is_same_city trip (stand_of parts k (unit_of parts (k + 1))) (begin_after trip (point_behind parts k)) ≡ true
+          there_last elsewhere = there_from (begins_there tariff trip parts price lawful k high way (first_of (own parts (unit_of parts (k + 1)))) begun_place.0 (omega arith) begun_place.2 elsewhere)
+
+          last_up : back_cost (entry tariff trip parts price lawful (k + 1)) ≡ Some (true_cost tariff trip parts (k + 1))
+              → IsUpTo (true_cost tariff trip parts (k + 1)) (homing_at trip (closing (stand_of parts k (unit_of parts (k + 1)))) (jaw (stand_of parts k (unit_of parts (k + 1)))) (begins_at trip parts (unit_of parts (k + 1))) (point_behind parts k) (end_of parts (k + 1)))
+          last_up cost =
+              elim (cases_Bool (is_same_city trip (begins_at trip parts (unit_of parts (k + 1))) (end_of parts (k + 1)))) [
+                | inl t ↦ rw t (last_closes_under are (stand_of parts k (unit_of parts (k + 1))) (point_behind parts k) (end_of parts (k + 1)) (entry tariff trip parts price lawful (k + 1)) (true_cost tariff trip parts (k + 1)) stand_before near contained cost)
+                | inr f ↦ rw f (last_jaw_under are (stand_of parts k (unit_of parts (k + 1))) (point_behind parts k) (end_of parts (k + 1)) (entry tariff trip parts price lawful (k + 1)) (true_cost tariff trip parts (k + 1)) stand_before (there_last f) contained cost)
+              ]
 
         -- with other parts of its unit behind it
         module _ (less : k + 1 < last_of (own parts (unit_of parts (k + 1)))) where
@@ -296,6 +334,12 @@ module _ (tariff : Tariff) (trip : Itinerary) (parts : List Part) (price : ℕ) 
 
           opened : Opens tariff trip closing jaw left parts (k + 1) (unit_of parts (k + 1)) (end_of parts (k + 1)) behind
           opened = opens tariff trip closing jaw left parts (k + 1) (unit_of parts (k + 1)) (end_of parts (k + 1)) behind mine_low goes (over_down tariff trip closing jaw left parts (k + 1) (unit_of parts (k + 1)) (greatest_unit parts (places parts)) (end_of parts (k + 1)) behind mine_high (λ v low most. above_not_next v low) over)
+
+          -- its unit stands where it ends
+          home_from : IsUpTo (opened.0) (homing_at trip (closing (end_of parts (k + 1))) (jaw (end_of parts (k + 1))) (begins_at trip parts (unit_of parts (k + 1))) (end_of parts (k + 1)) (home_at parts (unit_of parts (k + 1))))
+          home_from =
+              let P : ℕ → Type 0 = λ c. IsUpTo (opened.0) (homing_at trip (closing c) (jaw c) (begins_at trip parts (unit_of parts (k + 1))) (end_of parts (k + 1)) (home_at parts (unit_of parts (k + 1)))) in
+              subst P (stand_here parts k) opened.3
 
         -- where it is the last of its unit, what is behind it is over the units before that
         pub last_behind : last_of (own parts (unit_of parts (k + 1))) ≡ k + 1 → Stands k (unit_of parts (k + 1) - 1) (end_of parts (k + 1)) behind
@@ -315,7 +359,7 @@ module _ (tariff : Tariff) (trip : Itinerary) (parts : List Part) (price : ℕ) 
           pub until : ℕ
           pub left_over : ℕ
           pub sum : until + left_over ≤ behind
-          pub homing : IsUpTo until (homing_at trip closing jaw (begins_at trip parts (unit_of parts (k + 1))) (end_of parts (k + 1)) (home_at parts (unit_of parts (k + 1))))
+          pub homing : IsUpTo until (homing_at trip (closing (end_of parts (k + 1))) (jaw (end_of parts (k + 1))) (begins_at trip parts (unit_of parts (k + 1))) (end_of parts (k + 1)) (home_at parts (unit_of parts (k + 1))))
           pub stands : Stands k (unit_of parts (k + 1) - 1) (home_at parts (unit_of parts (k + 1))) left_over
           pub later : end_of parts (k + 1) < home_at parts (unit_of parts (k + 1))
           pub home_within : home_at parts (unit_of parts (k + 1)) ≤ count trip
@@ -331,7 +375,7 @@ module _ (tariff : Tariff) (trip : Itinerary) (parts : List Part) (price : ℕ) 
               until = c.0;
               left_over = c.1;
               sum = c.2;
-              homing = c.3;
+              homing = home_from less;
               stands = under_same (home_at parts (unit_of parts (k + 1))) c.1 c.4;
               later = h.0;
               home_within = h.1;
@@ -348,9 +392,8 @@ module _ (tariff : Tariff) (trip : Itinerary) (parts : List Part) (price : ℕ) 
             let h = home_later (unit_of parts (k + 1)) (goes less) in
             let low_mine : 1 ≤ unit_of parts (k + 1) = mine_low in
             let begins : begins_at trip parts (unit_of parts (k + 1)) ≡ begin_after trip (point_behind parts k) = ap (start_of trip parts) first ∙ sym (begins_next k high) in
-            let P : ℕ → Type 0 = λ a. IsUpTo c.0 (homing_at trip closing jaw a (end_of parts (k + 1)) (home_at parts (unit_of parts (k + 1)))) in
-            let homing : IsUpTo c.0 (homing_at trip closing jaw (begin_after trip (point_behind parts k)) (end_of parts (k + 1)) (home_at parts (unit_of parts (k + 1)))) = subst P begins c.3 in
-            let least : homing.0 ≤ c.0 = homing.2 in
+            let P : ℕ → Type 0 = λ a. IsUpTo c.0 (homing_at trip (closing (end_of parts (k + 1))) (jaw (end_of parts (k + 1))) a (end_of parts (k + 1)) (home_at parts (unit_of parts (k + 1)))) in
+            let homing : IsUpTo c.0 (homing_at trip (closing (end_of parts (k + 1))) (jaw (end_of parts (k + 1))) (begin_after trip (point_behind parts k)) (end_of parts (k + 1)) (home_at parts (unit_of parts (k + 1)))) = subst P begins (home_from less) in
             let Q : ℕ → Type 0 = λ a. may_end_at tariff trip a (home_at parts (unit_of parts (k + 1))) ≡ true in
             let some : 2 ≤ length (own parts (unit_of parts (k + 1))) = shape.0 in
             let may : may_end_at tariff trip (begin_after trip (point_behind parts k)) (home_at parts (unit_of parts (k + 1))) ≡ true = subst Q begins (half_ends_by (unit_of parts (k + 1)) mine_low mine_high (own parts (unit_of parts (k + 1))) refl (omega arith) none_ow) in
@@ -363,15 +406,15 @@ module _ (tariff : Tariff) (trip : Itinerary) (parts : List Part) (price : ℕ) 
             let pair : HasPair tariff trip (begin_after trip (point_behind parts k)) (home_at parts (unit_of parts (k + 1))) (true_cost tariff trip parts (k + 1) + c.0) =
             subst H begins (pair_of tariff trip parts price lawful (unit_of parts (k + 1)) mine_low mine_high apart (true_cost tariff trip parts (k + 1) + c.0) (subst F (sym first) (starts_behind (k + 1) (last_of (own parts (unit_of parts (k + 1)))) (omega arith) less g.within)) (subst G (sym first) (omega arith))) in
             let up : IsUpTo (true_cost tariff trip parts (k + 1) + c.0) (whole (point_behind parts k) (home_at parts (unit_of parts (k + 1)))) =
-            first_under are (point_behind parts k) (end_of parts (k + 1)) (home_at parts (unit_of parts (k + 1))) (entry tariff trip parts price lawful (k + 1)) (true_cost tariff trip parts (k + 1)) homing.0 (true_cost tariff trip parts (k + 1) + c.0) contained cost h.0 may homing.1 (omega arith) pair in
+            first_under are (point_behind parts k) (end_of parts (k + 1)) (home_at parts (unit_of parts (k + 1))) (entry tariff trip parts price lawful (k + 1)) (true_cost tariff trip parts (k + 1)) c.0 (true_cost tariff trip parts (k + 1) + c.0) contained cost h.0 may homing (omega arith) pair in
             let rise : point_behind parts k < end_of parts (k + 1) = rises in
             let past : end_of parts (k + 1) < home_at parts (unit_of parts (k + 1)) = h.0 in
-            let o : Stands (k + 1) (unit_of parts (k + 1) - 1) (point_behind parts k) ((true_cost tariff trip parts (k + 1) + c.0) + c.1) =
-            step_over tariff trip closing jaw whole left are parts (k + 1) (unit_of parts (k + 1) - 1) (point_behind parts k) (home_at parts (unit_of parts (k + 1))) (true_cost tariff trip parts (k + 1) + c.0) c.1 (omega arith) h.1 up
-            (λ v low most t. (home_behind tariff trip parts price lawful k v low high (omega arith) first less t, (home_later v t).1)) c.4 in
+            let o : Stands k (unit_of parts (k + 1) - 1) (point_behind parts k) ((true_cost tariff trip parts (k + 1) + c.0) + c.1) =
+            step_over tariff trip closing jaw whole left are parts k (unit_of parts (k + 1) - 1) (point_behind parts k) (home_at parts (unit_of parts (k + 1))) (true_cost tariff trip parts (k + 1) + c.0) c.1 (omega arith) h.1 up
+            (λ v low most t. (home_behind tariff trip parts price lawful k v low high (omega arith) first less (other_same v (λ e. omega arith) ∙ t), stand_low tariff trip parts price lawful k v t)) (under_same (home_at parts (unit_of parts (k + 1))) c.1 c.4) in
             let here : goes_on parts k (unit_of parts (k + 1)) ≡ false = goes_not parts k (unit_of parts (k + 1)) (λ a b. omega arith) in
             let m : Stands k (greatest_unit parts (places parts)) (point_behind parts k) ((true_cost tariff trip parts (k + 1) + c.0) + c.1) =
-            over_up tariff trip closing jaw left parts k (unit_of parts (k + 1) - 1) (greatest_unit parts (places parts)) (point_behind parts k) ((true_cost tariff trip parts (k + 1) + c.0) + c.1) under_most (λ v low most. from_mine k here above_not v low) (under_same (point_behind parts k) ((true_cost tariff trip parts (k + 1) + c.0) + c.1) o) in
+            over_up tariff trip closing jaw left parts k (unit_of parts (k + 1) - 1) (greatest_unit parts (places parts)) (point_behind parts k) ((true_cost tariff trip parts (k + 1) + c.0) + c.1) under_most (λ v low most. from_mine k here above_not v low) o in
             over_more tariff trip closing jaw left parts k (greatest_unit parts (places parts)) (point_behind parts k) ((true_cost tariff trip parts (k + 1) + c.0) + c.1) (true_cost tariff trip parts (k + 1) + behind) (omega arith) m
 
         between_over : first_of (own parts (unit_of parts (k + 1))) < k + 1 → k + 1 < last_of (own parts (unit_of parts (k + 1))) → Stands k (greatest_unit parts (places parts)) (point_behind parts k) (true_cost tariff trip parts (k + 1) + behind)
@@ -382,15 +425,17 @@ module _ (tariff : Tariff) (trip : Itinerary) (parts : List Part) (price : ℕ) 
             let h = home_later (unit_of parts (k + 1)) (goes less) in
             let long : 3 ≤ length (own parts (unit_of parts (k + 1))) = three first less in
             let city : is_same_city trip (begins_at trip parts (unit_of parts (k + 1))) (home_at parts (unit_of parts (k + 1))) ≡ true = shape.1 long in
-            let closes : IsUpTo c.0 (closing (end_of parts (k + 1)) (home_at parts (unit_of parts (k + 1)))) = at_city (begins_at trip parts (unit_of parts (k + 1))) (end_of parts (k + 1)) (home_at parts (unit_of parts (k + 1))) c.0 city c.3 in
+            let closes : IsUpTo c.0 (closing (end_of parts (k + 1)) (end_of parts (k + 1)) (home_at parts (unit_of parts (k + 1)))) = at_city (end_of parts (k + 1)) (begins_at trip parts (unit_of parts (k + 1))) (end_of parts (k + 1)) (home_at parts (unit_of parts (k + 1))) c.0 city (home_from less) in
             let home : ℕ = home_at parts (unit_of parts (k + 1)) in
             let origin_there : point trip home ≡ point trip (begins_at trip parts (unit_of parts (k + 1))) = (bytes_eq-Decides (point trip home) (point trip (begins_at trip parts (unit_of parts (k + 1))))).0 city in
             let C : ℕ → Type 0 = λ a. between_cost (heads_to tariff trip a (end_of parts (k + 1)) home) (entry tariff trip parts price lawful (k + 1)) ≡ Some (true_cost tariff trip parts (k + 1)) in
             let cost : C (begin_after trip (point_behind parts k)) = subst C (sym (begins_next k high)) (between_costs tariff trip parts price lawful (k + 1) (omega arith) high way less home origin_there) in
-            let low_homing : closes.0 ≤ c.0 = closes.2 in
-            let up : IsUpTo (true_cost tariff trip parts (k + 1) + c.0) (closing (point_behind parts k) home) = up_more (true_cost tariff trip parts (k + 1) + closes.0) (true_cost tariff trip parts (k + 1) + c.0) (closing (point_behind parts k) home) (omega arith) (between_under are (point_behind parts k) (end_of parts (k + 1)) home (entry tariff trip parts price lawful (k + 1)) (true_cost tariff trip parts (k + 1)) closes.0 contained cost h.0 (ends_apart (unit_of parts (k + 1)) (k + 1) mine_low mine_high long (own_has tariff trip parts price lawful (k + 1) (omega arith) high) less city) closes.1) in
+            let stand : ℕ = stand_of parts k (unit_of parts (k + 1)) in
+            let elsewhere : is_same_city trip home (end_of parts (k + 1)) ≡ false = ends_apart (unit_of parts (k + 1)) (k + 1) mine_low mine_high long (own_has tariff trip parts price lawful (k + 1) (omega arith) high) less city in
+            let up : IsUpTo (true_cost tariff trip parts (k + 1) + c.0) (closing stand (point_behind parts k) home) =
+            between_under are stand (point_behind parts k) (end_of parts (k + 1)) home (entry tariff trip parts price lawful (k + 1)) (true_cost tariff trip parts (k + 1)) c.0 (stand_before first) (there_between first long) contained cost h.0 h.1 elsewhere closes in
             let here : goes_on parts k (unit_of parts (k + 1)) ≡ true = goes_on_from parts k (unit_of parts (k + 1)) (omega arith) (omega arith) in
-            let o : Stands k (unit_of parts (k + 1)) (point_behind parts k) ((true_cost tariff trip parts (k + 1) + c.0) + c.1) = from_open tariff trip closing jaw left parts k (unit_of parts (k + 1)) (point_behind parts k) (true_cost tariff trip parts (k + 1) + c.0) c.1 mine_low here (from_city (begins_at trip parts (unit_of parts (k + 1))) (point_behind parts k) (home_at parts (unit_of parts (k + 1))) (true_cost tariff trip parts (k + 1) + c.0) city up) (under_same (home_at parts (unit_of parts (k + 1))) c.1 c.4)
+            let o : Stands k (unit_of parts (k + 1)) (point_behind parts k) ((true_cost tariff trip parts (k + 1) + c.0) + c.1) = from_open tariff trip closing jaw left parts k (unit_of parts (k + 1)) (point_behind parts k) (true_cost tariff trip parts (k + 1) + c.0) c.1 mine_low here (from_city stand (begins_at trip parts (unit_of parts (k + 1))) (point_behind parts k) (home_at parts (unit_of parts (k + 1))) (true_cost tariff trip parts (k + 1) + c.0) city up) (under_same (home_at parts (unit_of parts (k + 1))) c.1 c.4)
             (lasts_more tariff trip parts (last_of (own parts (unit_of parts (k + 1)))) (point_behind parts k) (end_of parts (k + 1)) c.0 (true_cost tariff trip parts (k + 1) + c.0) (omega arith) (omega arith) c.5) in
             let m : Stands k (greatest_unit parts (places parts)) (point_behind parts k) ((true_cost tariff trip parts (k + 1) + c.0) + c.1) = over_up tariff trip closing jaw left parts k (unit_of parts (k + 1)) (greatest_unit parts (places parts)) (point_behind parts k) ((true_cost tariff trip parts (k + 1) + c.0) + c.1) mine_high (λ v low most. above_not v low) o in
             over_more tariff trip closing jaw left parts k (greatest_unit parts (places parts)) (point_behind parts k) ((true_cost tariff trip parts (k + 1) + c.0) + c.1) (true_cost tariff trip parts (k + 1) + behind) (omega arith) m
@@ -401,13 +446,14 @@ module _ (tariff : Tariff) (trip : Itinerary) (parts : List Part) (price : ℕ) 
             let next : goes_on parts (k + 1) (unit_of parts (k + 1)) ≡ false = goes_not parts (k + 1) (unit_of parts (k + 1)) (λ a b. omega arith) in
             let o : Stands (k + 1) (unit_of parts (k + 1) - 1) (end_of parts (k + 1)) behind = over_down tariff trip closing jaw left parts (k + 1) (unit_of parts (k + 1) - 1) (greatest_unit parts (places parts)) (end_of parts (k + 1)) behind under_most (λ v low most. from_mine (k + 1) next above_not_next v low) over in
             let cost = back_costs tariff trip parts price lawful (k + 1) (omega arith) high way last in
-            let up : IsUpTo (true_cost tariff trip parts (k + 1)) (homing_at trip closing jaw (begins_at trip parts (unit_of parts (k + 1))) (point_behind parts k) (end_of parts (k + 1))) = last_up (begins_at trip parts (unit_of parts (k + 1))) cost in
+            let stand : ℕ = stand_of parts k (unit_of parts (k + 1)) in
+            let up : IsUpTo (true_cost tariff trip parts (k + 1)) (homing_at trip (closing stand) (jaw stand) (begins_at trip parts (unit_of parts (k + 1))) (point_behind parts k) (end_of parts (k + 1))) = last_up first cost in
             let home : end_of parts (k + 1) ≡ home_at parts (unit_of parts (k + 1)) = ap (end_of parts) (sym last) in
             let L : ℕ → Type 0 = λ j. LastsBy tariff trip parts j (point_behind parts k) (true_cost tariff trip parts (k + 1)) in
             let begins : begin_after trip (point_behind parts k) ≡ start_of trip parts (k + 1) = begins_next k high in
             let later : point_behind parts k ≤ begin_after trip (point_behind parts k) = begins_later trip (point_behind parts k) in
             let by_last : LastsBy tariff trip parts (last_of (own parts (unit_of parts (k + 1)))) (point_behind parts k) (true_cost tariff trip parts (k + 1)) = subst L (sym last) (record { begins = omega arith; costs = omega arith }) in
-            let P : ℕ → Type 0 = λ j. IsUpTo (true_cost tariff trip parts (k + 1)) (homing_at trip closing jaw (begins_at trip parts (unit_of parts (k + 1))) (point_behind parts k) j) in
+            let P : ℕ → Type 0 = λ j. IsUpTo (true_cost tariff trip parts (k + 1)) (homing_at trip (closing stand) (jaw stand) (begins_at trip parts (unit_of parts (k + 1))) (point_behind parts k) j) in
             let Q : ℕ → Type 0 = λ j. Stands k (unit_of parts (k + 1) - 1) j behind in
             let here : goes_on parts k (unit_of parts (k + 1)) ≡ true = goes_on_from parts k (unit_of parts (k + 1)) (omega arith) (omega arith) in
             let m : Stands k (unit_of parts (k + 1)) (point_behind parts k) (true_cost tariff trip parts (k + 1) + behind) = from_open tariff trip closing jaw left parts k (unit_of parts (k + 1)) (point_behind parts k) (true_cost tariff trip parts (k + 1)) behind mine_low here (subst P home up) (subst Q home (under_same (end_of parts (k + 1)) behind o)) by_last in
@@ -472,7 +518,7 @@ module _ (tariff : Tariff) (trip : Itinerary) (front rest : List Part) (price : 
       omega arith)
 
 -- what the parts behind the first parts of a lawful construction cost is over the units of these that go on
-pub behind_is_over : (tariff : Tariff) (trip : Itinerary) (closing jaw whole : ℕ → ℕ → Option ℕ) (left : ℕ → Option ℕ) → AreHomings tariff trip closing jaw whole left
+pub behind_is_over : (tariff : Tariff) (trip : Itinerary) (closing jaw : ℕ → ℕ → ℕ → Option ℕ) (whole : ℕ → ℕ → Option ℕ) (left : ℕ → Option ℕ) → AreHomings tariff trip closing jaw whole left
     → (front rest : List Part) (price : ℕ) → IsLawful tariff trip (front ++ rest) price
     → IsOver tariff trip closing jaw left (front ++ rest) (length front) (greatest_unit front (places front)) (end_of front (length front)) (sum_by (true_cost tariff trip (front ++ rest)) (range_with_len (length front + 1) (length rest)))
 behind_is_over tariff trip closing jaw whole left are front rest price lawful =

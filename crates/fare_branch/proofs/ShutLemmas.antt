@@ -59,7 +59,7 @@ last_is_earlier : (x : ℕ) (xs : List ℕ) (k : ℕ) (more : List ℕ) → Memb
 last_is_earlier x [] k more = inl refl
 last_is_earlier x (y ∷ ys) k more = inr (last_is_earlier y ys k more)
 
-filter_like : (p q : ℕ → Bool) (first n : ℕ) → ((k : ℕ) → first ≤ k → k < first + n → p k ≡ q k) → filter p (range_with_len first n) ≡ filter q (range_with_len first n)
+pub filter_like : (p q : ℕ → Bool) (first n : ℕ) → ((k : ℕ) → first ≤ k → k < first + n → p k ≡ q k) → filter p (range_with_len first n) ≡ filter q (range_with_len first n)
 filter_like p q first zero h = refl
 filter_like p q first (suc n) h =
     rw (h first (omega arith) (omega arith), filter_like p q (first + 1) n (λ k low high. h k (omega arith) (omega arith))) refl

@@ -29,8 +29,8 @@ use Rattle.fare_branch.specs.Ending.{needs_more}
 use Rattle.fare_branch.specs.Floors.{IsFloorAnswer}
 use Rattle.fare_branch.specs.Joining.{is_blocked, is_stuck, may_join}
 use Rattle.fare_branch.proofs.JoiningLemmas.{joined}
-use Rattle.fare_homing.specs.Rows.{cell, AreHomingsOf}
-use Rattle.fare_branch.specs.Stack.{goes_on, AreOver, may_come_to, IsUnderSum, IsOverOpen, AreOverOpen, IsOpenUnit}
+use Rattle.fare_homing.specs.Rows.{cell, closing_from, jaw_from, AreHomingsOf}
+use Rattle.fare_branch.specs.Stack.{goes_on, stand_of, AreOver, may_come_to, IsUnderSum, IsOverOpen, AreOverOpen, IsOpenUnit}
 use Rattle.fare_branch.proofs.CostLemmas.{unit_from_one, member_place}
 use Rattle.fare_branch.proofs.CrossingLemmas.{not_crossed, begun_by, began_before}
 use Rattle.fare_branch.proofs.UnitLemmas.{all, unit_in, own_has}
@@ -40,6 +40,7 @@ use Rattle.fare_branch.proofs.OverLemmas.{behind_is_over}
 use Rattle.fare_homing.proofs.ReachLemmas.{up_more}
 use Rattle.fare_branch.proofs.SameLemmas.{AreFirst}
 use Rattle.fare_branch.proofs.ShutLemmas.{own_behind, own_in_two, own_are_first, shut_alone, both_true, floor_by}
+use Rattle.fare_branch.proofs.StandLemmas.{stand_front}
 use Rattle.fare_branch.proofs.SumLemmas.{kept_member, sum_up, sum_up_members}
 use Rattle.fare_branch.proofs.TrueCostLemmas.{true_least, true_up}
 
@@ -262,7 +263,7 @@ module _ (table : Pricing) (homing : Homing) (front : List Part) (u : ℕ) (high
         e : own front (suc u) ≡ x ∷ xs
         e = unit_has.2
 
-        here : IsOverOpen table.trip homing (end_of front (length front)) opened.start opened.must i over_row.0 (rest_at behind i) (rest_at row i)
+        here : IsOverOpen table.trip homing (end_of front (length front)) opened.stands opened.start opened.must i over_row.0 (rest_at behind i) (rest_at row i)
         here = over_row.2 i low most
 
         begins : start_of table.trip (front ++ rest) (first_of (own (front ++ rest) (suc u))) ≡ opened.start
@@ -272,6 +273,9 @@ module _ (table : Pricing) (homing : Homing) (front : List Part) (u : ℕ) (high
             ∙ front_start table.trip front rest x place.0 place.1
             ∙ ap (λ ys. start_of table.trip front (first_of ys)) (sym e)
             ∙ sym is.start
+
+        stands : stand_of (front ++ rest) (length front) (suc u) ≡ opened.stands
+        stands = stand_front front rest (suc u) x xs e ∙ sym is.stands
 
         by_must : own_behind table.edition table.trip front rest (suc u) ≡ [] → opened.must ≡ true → ⊥
         by_must none must =
@@ -302,8 +306,9 @@ module _ (table : Pricing) (homing : Homing) (front : List Part) (u : ℕ) (high
             let may_here = subst T (sym is.closes) (subst S (sym is.start) may_own) in
             let c = over.0 (goes table.edition table.trip front rest price lawful (suc u) (omega arith) high x xs e k more some) in
             let sum : c.0 + c.1 ≤ cost = c.2 in
-            let U : ℕ → Type 0 = λ a. IsUpTo c.0 (homing_at table.trip (cell homing.closing) (cell homing.jaw) a i (end_of (front ++ rest) (last_of (own (front ++ rest) (suc u))))) in
-            let until = subst U begins c.3 in
+            let V : ℕ → Type 0 = λ s. IsUpTo c.0 (homing_at table.trip (closing_from homing s) (jaw_from homing s) (start_of table.trip (front ++ rest) (first_of (own (front ++ rest) (suc u)))) i (end_of (front ++ rest) (last_of (own (front ++ rest) (suc u))))) in
+            let U : ℕ → Type 0 = λ a. IsUpTo c.0 (homing_at table.trip (closing_from homing opened.stands) (jaw_from homing opened.stands) a i (end_of (front ++ rest) (last_of (own (front ++ rest) (suc u))))) in
+            let until = subst U begins (subst V stands c.3) in
             let then = known rest price (end_of (front ++ rest) (last_of (own (front ++ rest) (suc u)))) c.1 lawful within_home.0 within_home.1 c.4 in
             let there : rest_at over_row.0 (end_of (front ++ rest) (last_of (own (front ++ rest) (suc u)))) ≡ rest_at behind (end_of (front ++ rest) (last_of (own (front ++ rest) (suc u)))) = over_row.1 (end_of (front ++ rest) (last_of (own (front ++ rest) (suc u)))) within_home.0 within_home.1 may_here in
             let least = here.home (end_of (front ++ rest) (last_of (own (front ++ rest) (suc u)))) within_home.0 within_home.1 until.0 then.0 until.1 (there ∙ then.1) in
@@ -387,7 +392,7 @@ module _ (table : Pricing) (homing : Homing) (are : AreHomingsOf table.edition t
       let P : List Part → Type 0 = λ xs. IsLawful table.edition table.trip xs price in
       let lawful : IsLawful table.edition table.trip (front ++ c.begins.0) price = subst P c.begins.1 c.lawful in
       let least = over c.begins.0 price (end_of front (length front)) (sum_by (true_cost table.edition table.trip (front ++ c.begins.0)) (range_with_len (length front + 1) (length c.begins.0))) lawful (omega arith) within
-      (behind_is_over table.edition table.trip (cell homing.closing) (cell homing.jaw) (cell homing.whole) (rest_at homing.rest) are front c.begins.0 price lawful) in
+      (behind_is_over table.edition table.trip (closing_from homing) (jaw_from homing) (cell homing.whole) (rest_at homing.rest) are front c.begins.0 price lawful) in
       let spent : units_floor table.edition table.trip front + sum_by (true_cost table.edition table.trip (front ++ c.begins.0)) (range_with_len (length front + 1) (length c.begins.0)) ≤ price = spent_up table.edition table.trip front c.begins.0 price lawful in
       let low : least.0 ≤ sum_by (true_cost table.edition table.trip (front ++ c.begins.0)) (range_with_len (length front + 1) (length c.begins.0)) = least.2 in
       up_more (units_floor table.edition table.trip front + least.0) price found (omega arith) (sum (units_floor table.edition table.trip front) least.0 refl least.1)

@@ -9,7 +9,7 @@ use Rattle.fare_rules.specs.Construction.{start_of, end_of, own, first_of, last_
 use Rattle.fare_homing.specs.Homing.{IsUpTo, homing_at, is_same_city}
 use Rattle.fare_homing.specs.HomingRows.{AreHomings}
 use Rattle.fare_branch.specs.Costs.{true_cost}
-use Rattle.fare_branch.specs.Stack.{goes_on, IsOver, LastsBy}
+use Rattle.fare_branch.specs.Stack.{goes_on, stand_of, IsOver, LastsBy}
 use Rattle.fare_homing.proofs.ReachLemmas.{up_more}
 use Rattle.fare_homing.proofs.UnderLemmas.{nested_closes_under, nested_jaw_under, onward_under}
 
@@ -30,7 +30,7 @@ lasts_more tariff trip parts k i j x y low h last =
     let costs : true_cost tariff trip parts k ≤ x = last.costs in
     record { begins = omega arith; costs = omega arith }
 
-module _ (tariff : Tariff) (trip : Itinerary) (closing jaw : ℕ → ℕ → Option ℕ) (left : ℕ → Option ℕ) (parts : List Part) where
+module _ (tariff : Tariff) (trip : Itinerary) (closing jaw : ℕ → ℕ → ℕ → Option ℕ) (left : ℕ → Option ℕ) (parts : List Part) where
   abbrev pub Over : ℕ → ℕ → ℕ → ℕ → Type 0
   Over k u i cost = IsOver tariff trip closing jaw left parts k u i cost
 
@@ -40,12 +40,26 @@ module _ (tariff : Tariff) (trip : Itinerary) (closing jaw : ℕ → ℕ → Opt
   over_more k (suc u) i x y h o =
       (λ t. let c = o.0 t in let s : c.0 + c.1 ≤ x = c.2 in (c.0, c.1, omega arith, c.3, c.4, c.5), λ f. over_more k u i x y h (o.1 f))
 
-  -- it is the same behind another place where the same units go on
-  pub over_same : (k m u i x : ℕ) → ((v : ℕ) → 1 ≤ v → v ≤ u → goes_on parts k v ≡ goes_on parts m v) → Over k u i x → Over m u i x
+  -- until a unit that goes on comes home, from where it stands
+  abbrev pub HomeFrom : ℕ → ℕ → ℕ → ℕ → Type 0
+  HomeFrom k unit i x = IsUpTo x (homing_at trip (closing (stand_of parts k unit)) (jaw (stand_of parts k unit)) (begins_at trip parts unit) i (home_at parts unit))
+
+  home_same : (k m unit i x : ℕ) → stand_of parts k unit ≡ stand_of parts m unit → HomeFrom k unit i x → HomeFrom m unit i x
+  home_same k m unit i x e up =
+      let P : ℕ → Type 0 = λ c. IsUpTo x (homing_at trip (closing c) (jaw c) (begins_at trip parts unit) i (home_at parts unit)) in
+      subst P e up
+
+  -- two places at which the same units go on, and stand at the same points
+  abbrev pub AreSame : ℕ → ℕ → ℕ → Type 0
+  AreSame k m u = (v : ℕ) → 1 ≤ v → v ≤ u → (goes_on parts k v ≡ goes_on parts m v) × (goes_on parts k v ≡ true → stand_of parts k v ≡ stand_of parts m v)
+
+  -- what is over is the same behind both
+  pub over_same : (k m u i x : ℕ) → AreSame k m u → Over k u i x → Over m u i x
   over_same k m zero i x h o = o
   over_same k m (suc u) i x h o =
-      let e : goes_on parts k (suc u) ≡ goes_on parts m (suc u) = h (suc u) (omega arith) (omega arith) in (
-        λ t. let c = o.0 (e ∙ t) in (c.0, c.1, c.2, c.3, over_same k m u (home_at parts (suc u)) c.1 (λ v low high. h v low (omega arith)) c.4, c.5),
+      let here = h (suc u) (omega arith) (omega arith) in
+      let e : goes_on parts k (suc u) ≡ goes_on parts m (suc u) = here.0 in (
+        λ t. let c = o.0 (e ∙ t) in (c.0, c.1, c.2, home_same k m (suc u) i c.0 (here.1 (e ∙ t)) c.3, over_same k m u (home_at parts (suc u)) c.1 (λ v low high. h v low (omega arith)) c.4, c.5),
         λ f. over_same k m u i x (λ v low high. h v low (omega arith)) (o.1 (e ∙ f)),
       )
 
@@ -82,13 +96,13 @@ module _ (tariff : Tariff) (trip : Itinerary) (closing jaw : ℕ → ℕ → Opt
       ]
 
   -- a unit that goes on, with what is behind its home
-  pub over_open : (k u i x y : ℕ) → goes_on parts k (suc u) ≡ true → IsUpTo x (homing_at trip closing jaw (begins_at trip parts (suc u)) i (home_at parts (suc u))) → Over k u (home_at parts (suc u)) y → LastsBy tariff trip parts (last_of (own parts (suc u))) i x
+  pub over_open : (k u i x y : ℕ) → goes_on parts k (suc u) ≡ true → HomeFrom k (suc u) i x → Over k u (home_at parts (suc u)) y → LastsBy tariff trip parts (last_of (own parts (suc u))) i x
       → Over k (suc u) i (x + y)
   over_open k u i x y t up o last = (λ s. (x, y, omega arith, up, o, last), λ f. absurd (true_false (sym t ∙ f)))
 
   -- the same for a unit by its number
   abbrev pub Opens : ℕ → ℕ → ℕ → ℕ → Type 0
-  Opens k unit i cost = (x : ℕ) × (y : ℕ) × (x + y ≤ cost) × IsUpTo x (homing_at trip closing jaw (begins_at trip parts unit) i (home_at parts unit)) × Over k (unit - 1) (home_at parts unit) y × LastsBy tariff trip parts (last_of (own parts unit)) i x
+  Opens k unit i cost = (x : ℕ) × (y : ℕ) × (x + y ≤ cost) × HomeFrom k unit i x × Over k (unit - 1) (home_at parts unit) y × LastsBy tariff trip parts (last_of (own parts unit)) i x
 
   pub opens : (k unit i cost : ℕ) → 1 ≤ unit → goes_on parts k unit ≡ true → Over k unit i cost → Opens k unit i cost
   opens k zero i cost low t o = absurd (omega arith)
@@ -98,7 +112,7 @@ module _ (tariff : Tariff) (trip : Itinerary) (closing jaw : ℕ → ℕ → Opt
       let P : ℕ → Type 0 = λ w. Over k w (home_at parts (suc u)) c.1 in
       (c.0, c.1, c.2, c.3, subst P e c.4, c.5)
 
-  pub from_open : (k unit i x y : ℕ) → 1 ≤ unit → goes_on parts k unit ≡ true → IsUpTo x (homing_at trip closing jaw (begins_at trip parts unit) i (home_at parts unit)) → Over k (unit - 1) (home_at parts unit) y → LastsBy tariff trip parts (last_of (own parts unit)) i x
+  pub from_open : (k unit i x y : ℕ) → 1 ≤ unit → goes_on parts k unit ≡ true → HomeFrom k unit i x → Over k (unit - 1) (home_at parts unit) y → LastsBy tariff trip parts (last_of (own parts unit)) i x
       → Over k unit i (x + y)
   from_open k zero i x y low t up o last = absurd (omega arith)
   from_open k (suc u) i x y low t up o last =
@@ -106,43 +120,25 @@ module _ (tariff : Tariff) (trip : Itinerary) (closing jaw : ℕ → ℕ → Opt
       let P : ℕ → Type 0 = λ w. Over k w (home_at parts (suc u)) y in
       over_open k u i x y t up (subst P e o) last
 
-module _ (tariff : Tariff) (trip : Itinerary) (closing jaw whole : ℕ → ℕ → Option ℕ) (left : ℕ → Option ℕ) (are : AreHomings tariff trip closing jaw whole left) where
+module _ (tariff : Tariff) (trip : Itinerary) (closing jaw : ℕ → ℕ → ℕ → Option ℕ) (whole : ℕ → ℕ → Option ℕ) (left : ℕ → Option ℕ) (are : AreHomings tariff trip closing jaw whole left) where
   -- a number for what is nested with one for what is behind it
-  nested_closing : (i b j w x : ℕ) → i < b → b < j → IsUpTo w (whole i b) → IsUpTo x (closing b j) → IsUpTo (w + x) (closing i j)
-  nested_closing i b j w x low less up more =
-      let a : up.0 ≤ w = up.2 in
-      let c : more.0 ≤ x = more.2 in
-      up_more (up.0 + more.0) (w + x) (closing i j) (omega arith) (nested_closes_under are i b j up.0 more.0 low less up.1 more.1)
-
-  nested_at_jaw : (i b j w x : ℕ) → i < b → b < j → IsUpTo w (whole i b) → IsUpTo x (jaw b j) → IsUpTo (w + x) (jaw i j)
-  nested_at_jaw i b j w x low less up more =
-      let a : up.0 ≤ w = up.2 in
-      let c : more.0 ≤ x = more.2 in
-      up_more (up.0 + more.0) (w + x) (jaw i j) (omega arith) (nested_jaw_under are i b j up.0 more.0 low less up.1 more.1)
-
-  nested : (start i b j w x : ℕ) → i < b → b < j → IsUpTo w (whole i b) → IsUpTo x (homing_at trip closing jaw start b j) → IsUpTo (w + x) (homing_at trip closing jaw start i j)
-  nested start i b j w x low less up more =
+  nested : (c start i b j w x : ℕ) → c ≤ i → i < b → b < j → b ≤ count trip → IsUpTo w (whole i b) → IsUpTo x (homing_at trip (closing c) (jaw c) start b j) → IsUpTo (w + x) (homing_at trip (closing c) (jaw c) start i j)
+  nested c start i b j w x stands low less high up more =
       elim (cases_Bool (is_same_city trip start j)) [
-        | inl t ↦ rw t (nested_closing i b j w x low less up (rw t at more))
-        | inr f ↦ rw f (nested_at_jaw i b j w x low less up (rw f at more))
+        | inl t ↦ rw t (nested_closes_under are c i b j w x stands low less high up (rw t at more))
+        | inr f ↦ rw f (nested_jaw_under are c i b j w x stands low less high up (rw f at more))
       ]
 
-  behind_whole : (i b w x : ℕ) → i < b → b ≤ count trip → IsUpTo w (whole i b) → IsUpTo x (left b) → IsUpTo (w + x) (left i)
-  behind_whole i b w x low high up more =
-      let a : up.0 ≤ w = up.2 in
-      let c : more.0 ≤ x = more.2 in
-      up_more (up.0 + more.0) (w + x) (left i) (omega arith) (onward_under are i b up.0 more.0 low high up.1 more.1)
-
-  -- a whole unit stands before what is over the others, each of which comes home behind it
+  -- a whole unit stands before what is over the others, each of which comes home behind it and stands before it
   pub step_over : (parts : List Part) (k n i b w x : ℕ) → i < b → b ≤ count trip → IsUpTo w (whole i b)
-      → ((v : ℕ) → 1 ≤ v → v ≤ n → goes_on parts k v ≡ true → (b < home_at parts v) × (home_at parts v ≤ count trip))
+      → ((v : ℕ) → 1 ≤ v → v ≤ n → goes_on parts k v ≡ true → (b < home_at parts v) × (stand_of parts k v ≤ i))
       → IsOver tariff trip closing jaw left parts k n b x → IsOver tariff trip closing jaw left parts k n i (w + x)
-  step_over parts k zero i b w x low high up homes o = behind_whole i b w x low high up o
+  step_over parts k zero i b w x low high up homes o = onward_under are i b w x low high up o
   step_over parts k (suc u) i b w x low high up homes o = (
     λ t.
         let c = o.0 t in
         let s : c.0 + c.1 ≤ x = c.2 in
         let h = homes (suc u) (omega arith) (omega arith) t in
-        (w + c.0, c.1, omega arith, nested (begins_at trip parts (suc u)) i b (home_at parts (suc u)) w c.0 low h.0 up c.3, c.4, lasts_more tariff trip parts (last_of (own parts (suc u))) i b c.0 (w + c.0) (omega arith) (omega arith) c.5),
+        (w + c.0, c.1, omega arith, nested (stand_of parts k (suc u)) (begins_at trip parts (suc u)) i b (home_at parts (suc u)) w c.0 h.1 low h.0 high up c.3, c.4, lasts_more tariff trip parts (last_of (own parts (suc u))) i b c.0 (w + c.0) (omega arith) (omega arith) c.5),
     λ f. step_over parts k u i b w x low high up (λ v one most. homes v one (omega arith)) (o.1 f),
   )

@@ -1,6 +1,6 @@
 -- What the parts of a lawful construction cost in its units, by the entries of their spans.
 use Rattle.std.proofs.Common.{◌≡◌, ℕ, ◌+◌, ◌-◌, ◌<◌, ◌≤◌, Bool, true, false, ◌&&◌, ◌||◌, not, eqb, List, [], length, refl, ap, sym, subst, ◌∙◌, inl, inr, arith}
-use Rattle.std.specs.Prelude.{Option, Some, None, is_some, option_map, sum_by, bytes_eq, Contains, if◌then◌else◌}
+use Rattle.std.specs.Prelude.{Option, Some, None, is_some, sum_by, bytes_eq, Contains}
 use Rattle.std.proofs.lemmas.Bool.{cases_Bool, eq-eqb, ne_eqb}
 use Rattle.std.proofs.lemmas.List.Sums.{sum_by-cons}
 use Rattle.std.proofs.lemmas.Slice.Eq.{bytes_eq-Decides}
@@ -154,13 +154,17 @@ module _ (tariff : Tariff) (trip : Itinerary) (parts : List Part) (price : ℕ) 
       → between_cost (heads_to tariff trip (start_of trip parts k) (end_of parts k) home) (entry k) ≡ Some (true_cost tariff trip parts k)
   between_costs k low high way less home city =
       let found = half_amount k low high way in
-      let heads : Bool = heads_to tariff trip (start_of trip parts k) (end_of parts k) home in
-      let amount : component_amount tariff trip (start_of trip parts k) (end_of parts k) (part_at parts k).fare heads ≡ Some found.0 = in_direction k found.0 found.1 heads (between_is_back k low high way less home city) in
-      by_direction heads (entry k) found.0 (no_single k low high way) amount ∙ ap Some (sym found.2)
+      by_direction (heads_to tariff trip (start_of trip parts k) (end_of parts k) home) (between_is_back k low high way less home city) ∙ ap Some (sym found.2)
     where
-      by_direction : (heads : Bool) (one : Entry) (amount : Amount) → one.single ≡ None → (if heads then one.back else one.out) ≡ Some amount → between_cost heads one ≡ Some amount.amount
-      by_direction true one amount none e = rw (none, e) refl
-      by_direction false one amount none e = rw (none, e) refl
+      by_direction : (heads : Bool) → is_back tariff trip parts k ≡ heads → between_cost heads (entry k) ≡ Some (half_amount k low high way).0.amount
+      by_direction true e =
+          let found = half_amount k low high way in
+          let back : component_amount tariff trip (start_of trip parts k) (end_of parts k) (part_at parts k).fare true ≡ Some found.0 = in_direction k found.0 found.1 true e in
+          rw (no_single k low high way, back) refl
+      by_direction false e =
+          let found = half_amount k low high way in
+          let out : component_amount tariff trip (start_of trip parts k) (end_of parts k) (part_at parts k).fare false ≡ Some found.0 = in_direction k found.0 found.1 false e in
+          rw (no_single k low high way, out) refl
 
   -- a part costs at least what its fare does
   pub true_least : (k : ℕ) → 1 ≤ k → k ≤ length parts → part_least tariff trip parts k ≤ true_cost tariff trip parts k

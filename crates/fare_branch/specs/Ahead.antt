@@ -13,7 +13,7 @@ use Rattle.fare_branch.specs.declared.ahead.Ahead.{Ahead}
 use Rattle.fare_homing.specs.declared.homing.Homing.{Homing}
 use Rattle.fare_branch.specs.Costs.{part_least}
 use Rattle.fare_homing.specs.Homing.{IsUpTo, may_end_at}
-use Rattle.fare_homing.specs.Rows.{cell}
+use Rattle.fare_homing.specs.Rows.{cell, closing_from, jaw_from}
 use Rattle.fare_branch.specs.Stack.{AreHomes, IsOver, IsOverOpen}
 
 -- a number is behind the part that comes next after some first parts: it is there, and with what the first parts cost
@@ -42,8 +42,8 @@ AreBehindHalf table homing first unit numbers =
     (part : Part) (rest : List Part) (price cost : ℕ)
     → IsLawful table.edition table.trip (first ++ part ∷ rest) price → part.unit ≡ unit
     → is_ow table.edition (first ++ part ∷ rest) (length first + 1) ≡ false
-    → IsOver table.edition table.trip (cell homing.closing) (cell homing.jaw) (rest_at homing.rest) (first ++ part ∷ rest)
-    (length first + 1) (greatest_unit (first ++ part ∷ rest) (places (first ++ part ∷ rest)))
+    → IsOver table.edition table.trip (closing_from homing) (jaw_from homing) (rest_at homing.rest)
+    (first ++ part ∷ rest) (length first + 1) (greatest_unit (first ++ part ∷ rest) (places (first ++ part ∷ rest)))
     (end_of (first ++ part ∷ rest) (length first + 1)) cost → IsUpTo cost (rest_at numbers part.end)
 
 -- a unit that begins at a point must go on behind a half round trip that ends at another: this is its first part, or
@@ -51,10 +51,11 @@ AreBehindHalf table homing first unit numbers =
 abbrev pub must_go_from : Tariff → Itinerary → ℕ → Bool → ℕ → Bool
 must_go_from tariff trip start begun i = not (begun && may_end_at tariff trip start i)
 
--- a row is what is over a unit behind a half round trip of it that ends at each point, by what is there without it
+-- a row is what is over a unit behind a half round trip of it that ends at each point, where the unit then stands, by
+-- what is there without it
 abbrev pub IsHalfRow : Pricing → Homing → ℕ → ℕ → Bool → List (Option ℕ) → List (Option ℕ) → Type 0
 IsHalfRow table homing from start begun below row =
     (homes : List (Option ℕ)) × AreHomes table.edition table.trip from start begun below homes
     × ((i : ℕ) → from ≤ i → i ≤ count table.trip
-    → IsOverOpen table.trip homing (i + 1) start (must_go_from table.edition table.trip start begun i) i homes
+    → IsOverOpen table.trip homing (i + 1) i start (must_go_from table.edition table.trip start begun i) i homes
     (rest_at below i) (rest_at row i))

@@ -1,11 +1,12 @@
 -- Stack: units that go on behind some first parts come home one inside the other, the one that began last first.
 use Rattle.std.specs.Prelude.{◌≡◌, ℕ, zero, suc, ◌+◌, ◌≤◌, Bool, true, false, List, ◌++◌, length, Option, Some}
-use Rattle.std.specs.Prelude.{nat_le, nat_lt, ◌&&◌, if◌then◌else◌}
+use Rattle.std.specs.Prelude.{nat_le, nat_lt, ◌&&◌, if◌then◌else◌, filter}
 use Rattle.fare_trip.specs.Itinerary.{Itinerary, count}
 use Rattle.fare_tariff.specs.Tariff.{Tariff}
 use Rattle.fare_rules.specs.declared.part.Part.{Part}
 use Rattle.fare_rules.specs.Best.{IsLawful}
-use Rattle.fare_rules.specs.Construction.{own, first_of, last_of, start_of, end_of}
+use Rattle.fare_rules.specs.Numbers.{numbers}
+use Rattle.fare_rules.specs.Construction.{own, is_own, first_of, last_of, start_of, end_of}
 use Rattle.fare_component.specs.Table.{Pricing}
 use Rattle.fare_bounds.specs.Covers.{rest_at}
 use Rattle.fare_homing.specs.declared.homing.Homing.{Homing}
@@ -13,26 +14,34 @@ use Rattle.fare_branch.specs.declared.stacking.Open.{Open}
 use Rattle.fare_branch.specs.Costs.{true_cost}
 use Rattle.fare_branch.specs.Ending.{needs_more}
 use Rattle.fare_homing.specs.Homing.{IsUpTo, may_end_at, is_same_city, homing_at}
-use Rattle.fare_homing.specs.Rows.{cell}
+use Rattle.fare_homing.specs.Rows.{closing_from, jaw_from}
 
 -- a unit goes on behind a place: its first part stands there or before, and its last one behind
 abbrev pub goes_on : List Part → ℕ → ℕ → Bool
 goes_on parts k unit = nat_le (first_of (own parts unit)) k && nat_lt k (last_of (own parts unit))
+
+-- the places of a unit up to a place
+abbrev pub own_to : List Part → ℕ → ℕ → List ℕ
+own_to parts k unit = filter (is_own parts unit) (numbers 1 (k + 1))
+
+-- a unit stands at a place where the last of its parts up to there ended
+abbrev pub stand_of : List Part → ℕ → ℕ → ℕ
+stand_of parts k unit = end_of parts (last_of (own_to parts k unit))
 
 -- the last part of a unit begins at a point or behind it, and costs no more than a number
 pub record LastsBy (tariff : Tariff) (trip : Itinerary) (parts : List Part) (k i cost : ℕ) : Type 0 where
   pub begins : i ≤ start_of trip parts k
   pub costs : true_cost tariff trip parts k ≤ cost
 
--- a cost is over the units, up to a number, that go on behind a place: from a point on, each comes home where it does,
--- the greatest number first, and behind that there is what is behind where no unit is open
-abbrev pub IsOver : Tariff → Itinerary → (ℕ → ℕ → Option ℕ) → (ℕ → ℕ → Option ℕ) → (ℕ → Option ℕ) → List Part → ℕ → ℕ
-    → ℕ → ℕ → Type 0
+-- a cost is over the units, up to a number, that go on behind a place: from a point on, each comes home where it does
+-- from where it stands, the greatest number first, and behind that there is what is behind where no unit is open
+abbrev pub IsOver : Tariff → Itinerary → (ℕ → ℕ → ℕ → Option ℕ) → (ℕ → ℕ → ℕ → Option ℕ) → (ℕ → Option ℕ) → List Part
+    → ℕ → ℕ → ℕ → ℕ → Type 0
 IsOver tariff trip closing jaw left parts k zero i cost = IsUpTo cost (left i)
 IsOver tariff trip closing jaw left parts k (suc u) i cost =
     (goes_on parts k (suc u) ≡ true → (x : ℕ) × (y : ℕ) × (x + y ≤ cost)
-    × IsUpTo x (homing_at trip closing jaw (start_of trip parts (first_of (own parts (suc u)))) i
-    (end_of parts (last_of (own parts (suc u)))))
+    × IsUpTo x (homing_at trip (closing (stand_of parts k (suc u))) (jaw (stand_of parts k (suc u)))
+    (start_of trip parts (first_of (own parts (suc u)))) i (end_of parts (last_of (own parts (suc u)))))
     × IsOver tariff trip closing jaw left parts k u (end_of parts (last_of (own parts (suc u)))) y
     × LastsBy tariff trip parts (last_of (own parts (suc u))) i x)
     × (goes_on parts k (suc u) ≡ false → IsOver tariff trip closing jaw left parts k u i cost)
@@ -43,8 +52,8 @@ abbrev pub AreOver : Pricing → Homing → List Part → ℕ → List (Option �
 AreOver table homing first unit numbers =
     (rest : List Part) (price i cost : ℕ) → IsLawful table.edition table.trip (first ++ rest) price
     → end_of first (length first) ≤ i → i ≤ count table.trip
-    → IsOver table.edition table.trip (cell homing.closing) (cell homing.jaw) (rest_at homing.rest) (first ++ rest) (length first)
-    unit i cost → IsUpTo cost (rest_at numbers i)
+    → IsOver table.edition table.trip (closing_from homing) (jaw_from homing) (rest_at homing.rest) (first ++ rest)
+    (length first) unit i cost → IsUpTo cost (rest_at numbers i)
 
 -- a unit that begins at a point may come home at another: in the same city, or, where it has one part so far, in its
 -- country
@@ -62,24 +71,27 @@ AreHomes tariff trip from start closes behind homes =
 abbrev pub IsUnderSum : Option ℕ → Option ℕ → Option ℕ → Type 0
 IsUnderSum a b least = (x y : ℕ) → a ≡ Some x → b ≡ Some y → IsUpTo (x + y) least
 
--- a number is under what is behind a point until a unit comes home, at any point from one on, with what is behind that
-abbrev pub IsUntilHome : Itinerary → Homing → ℕ → ℕ → ℕ → List (Option ℕ) → Option ℕ → Type 0
-IsUntilHome trip homing from start i homes least =
+-- a number is under what is behind a point until a unit that stands at another comes home, at any point from one on,
+-- with what is behind that
+abbrev pub IsUntilHome : Itinerary → Homing → ℕ → ℕ → ℕ → ℕ → List (Option ℕ) → Option ℕ → Type 0
+IsUntilHome trip homing from stand start i homes least =
     (home : ℕ) → from ≤ home → home ≤ count trip
-    → IsUnderSum (homing_at trip (cell homing.closing) (cell homing.jaw) start i home) (rest_at homes home) least
+    → IsUnderSum (homing_at trip (closing_from homing stand) (jaw_from homing stand) start i home) (rest_at homes home)
+    least
 
 -- a number is under what is behind a point over an open unit: until it comes home; or, where the unit need not go on,
 -- what was there without it
-pub record IsOverOpen (trip : Itinerary) (homing : Homing) (from start : ℕ) (must : Bool) (i : ℕ)
+pub record IsOverOpen (trip : Itinerary) (homing : Homing) (from stand start : ℕ) (must : Bool) (i : ℕ)
     (homes : List (Option ℕ)) (behind least : Option ℕ) : Type 0 where
-  pub home : IsUntilHome trip homing from start i homes least
+  pub home : IsUntilHome trip homing from stand start i homes least
   pub whole : must ≡ false → (cost : ℕ) → IsUpTo cost behind → IsUpTo cost least
 
--- what is known of an open unit of some parts: where it begins, whether it has two parts or more, and whether it must
--- have more
+-- what is known of an open unit of some parts: where it begins, where it stands, whether it has two parts or more, and
+-- whether it must have more
 pub record IsOpenUnit (table : Pricing) (parts : List Part) (unit : ℕ) (opened : Open) : Type 0 where
   pub start : opened.start ≡ start_of table.trip parts (first_of (own parts unit))
   pub within : opened.start ≤ count table.trip
+  pub stands : opened.stands ≡ end_of parts (last_of (own parts unit))
   pub closes : opened.closes ≡ nat_lt 1 (length (own parts unit))
   pub must : opened.must ≡ needs_more table.edition table.trip parts (own parts unit)
 
@@ -88,4 +100,5 @@ abbrev pub AreOverOpen : Pricing → Homing → ℕ → Open → List (Option �
 AreOverOpen table homing from opened behind row =
     (homes : List (Option ℕ)) × AreHomes table.edition table.trip from opened.start opened.closes behind homes
     × ((i : ℕ) → from ≤ i → i ≤ count table.trip
-    → IsOverOpen table.trip homing from opened.start opened.must i homes (rest_at behind i) (rest_at row i))
+    → IsOverOpen table.trip homing from opened.stands opened.start opened.must i homes (rest_at behind i)
+    (rest_at row i))

@@ -63,6 +63,7 @@ fn half_row(
     let trip = table.trip();
     let opened = Open {
         start,
+        stands: from,
         closes: begun,
         must: true,
     };
@@ -71,6 +72,7 @@ fn half_row(
     for i in from..trip.count() + 1 {
         let here = Open {
             start,
+            stands: i,
             closes: begun,
             must: must_go_from(table, start, begun, i),
         };

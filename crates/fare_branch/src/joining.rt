@@ -3,7 +3,7 @@
 ghost use Rattle.std.specs.Prelude.{◌≡◌, ◌+◌, ◌≤◌, length};
 ghost use Rattle.std.specs.List.{list_any};
 ghost use Rattle.fare_trip.specs.Itinerary.{count};
-ghost use Rattle.fare_rules.specs.Construction.{first_of, own};
+ghost use Rattle.fare_rules.specs.Construction.{end_of, first_of, last_of, own};
 ghost use Rattle.fare_rules.specs.Numbers.{numbers};
 ghost use Rattle.fare_units.specs.Onward.{is_in_city};
 ghost use Rattle.fare_units.specs.Walk.{IsFront};
@@ -29,6 +29,13 @@ pub(crate) fn first_place(parts: &[Part], unit: usize) -> usize
         }
     }
     0
+}
+
+/// The point where the last part of a unit ended; 0 where it has none.
+pub(crate) fn standing_point(parts: &[Part], unit: usize) -> usize
+    ensures { result ≡ end_of parts.now (last_of (own parts.now unit)) }
+{
+    part_at(parts, last_place(parts, unit)).end as usize
 }
 
 /// How many parts a unit has.
@@ -79,7 +86,7 @@ fn may_join(trip: &Trip, front: &Partial, unit: usize) -> bool
     ensures { result ≡ may_join trip.now front.now (own front.now unit) }
 {
     let parts = front.parts();
-    let stands = part_at(parts, last_place(parts, unit)).end as usize;
+    let stands = standing_point(parts, unit);
     let start = start_of(trip, parts, first_place(parts, unit));
     city_comes(trip, trip.point(stands), front.next_start(trip))
         || part_count(parts, unit) < 2 && city_comes(trip, trip.point(start), front.end() + 1)

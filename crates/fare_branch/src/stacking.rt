@@ -8,18 +8,18 @@ ghost use Rattle.fare_rules.specs.Construction.{end_of, first_of, greatest_unit,
 ghost use Rattle.fare_units.specs.Advance.{Advances};
 ghost use Rattle.fare_branch.specs.Floors.{IsMadeWith, IsFloorAnswer};
 ghost use Rattle.fare_homing.specs.Homing.{homing_at};
-ghost use Rattle.fare_homing.specs.Rows.{cell, AreHomingsOf};
+ghost use Rattle.fare_homing.specs.Rows.{AreHomingsOf, closing_from, jaw_from};
 ghost use Rattle.fare_branch.specs.Stack.{AreOver, AreHomes, IsUntilHome, IsOverOpen};
 ghost use Rattle.fare_branch.specs.Stack.{IsOpenUnit, may_come_to};
 
 use crate::costs::units_floor;
 use crate::ending::needs_more;
-use crate::joining::{first_place, is_stuck, part_count};
+use crate::joining::{first_place, is_stuck, part_count, standing_point};
 use crate::lasting::{Going, greater_of, over_lasts};
 use crate::partial::Partial;
 use fare_bounds::lesser;
 use fare_component::Table;
-use fare_homing::{Homing, added, are_near, cell};
+use fare_homing::{Homing, added, are_near, closing_from, jaw_from};
 use fare_rules::{MOST_POINTS, Part};
 use fare_trip::Trip;
 use fare_units::{MOST_PARTS, is_shut_unit, start_of};
@@ -29,6 +29,8 @@ use fare_units::{MOST_PARTS, is_shut_unit, start_of};
 pub(crate) struct Open {
     /// The point where it begins.
     pub start: usize,
+    /// The point where its last part ended.
+    pub stands: usize,
     /// Whether it must close, since it has two parts or more.
     pub closes: bool,
     /// Whether it must have more parts.
@@ -49,16 +51,17 @@ pub(crate) fn may_come_to(table: &Table, start: usize, closes: bool, home: usize
     }
 }
 
-/// What is behind a point at least until a unit comes home at another, by where it began.
-fn homing_at(trip: &Trip, homing: &Homing, start: usize, i: usize, home: usize) -> Option<u64>
-    requires start { start ≤ count trip.now }
+/// What is behind a point at least until a unit comes home at another, by where it began and where it stands.
+fn homing_at(trip: &Trip, homing: &Homing, opened: Open, i: usize, home: usize) -> Option<u64>
+    requires start { opened.start ≤ count trip.now }
     requires home { home ≤ count trip.now }
-    ensures { result ≡ homing_at trip.now (cell homing.now.closing) (cell homing.now.jaw) start i home }
+    ensures { result ≡ homing_at trip.now (closing_from homing.now opened.stands) (jaw_from homing.now opened.stands)
+        opened.start i home }
 {
-    if trip.point(home).is(trip.point(start)) {
-        cell(&homing.closing, i, home)
+    if trip.point(home).is(trip.point(opened.start)) {
+        closing_from(homing, opened.stands, i, home)
     } else {
-        cell(&homing.jaw, i, home)
+        jaw_from(homing, opened.stands, i, home)
     }
 }
 
@@ -86,16 +89,16 @@ fn until_home(
     trip: &Trip,
     homing: &Homing,
     from: usize,
-    start: usize,
+    opened: Open,
     i: usize,
     homes: &[Option<u64>; MOST_POINTS],
 ) -> Option<u64>
-    requires start { start ≤ count trip.now }
-    ensures { IsUntilHome trip.now homing.now from start i homes.now result }
+    requires start { opened.start ≤ count trip.now }
+    ensures { IsUntilHome trip.now homing.now from opened.stands opened.start i homes.now result }
 {
     let mut least = None;
     for home in from..trip.count() + 1 {
-        let here = added(homing_at(trip, homing, start, i, home), homes[home]);
+        let here = added(homing_at(trip, homing, opened, i, home), homes[home]);
         least = lesser(least, here);
     }
     least
@@ -113,9 +116,9 @@ pub(crate) fn over_point(
     behind: Option<u64>,
 ) -> Option<u64>
     requires start { opened.start ≤ count trip.now }
-    ensures { IsOverOpen trip.now homing.now from opened.start opened.must i homes.now behind result }
+    ensures { IsOverOpen trip.now homing.now from opened.stands opened.start opened.must i homes.now behind result }
 {
-    let until = until_home(trip, homing, from, opened.start, i, homes);
+    let until = until_home(trip, homing, from, opened, i, homes);
     if opened.must {
         until
     } else {
@@ -133,8 +136,9 @@ fn over_open(
     behind: &[Option<u64>; MOST_POINTS],
 ) -> [Option<u64>; MOST_POINTS]
     requires start { opened.start ≤ count trip.now }
-    ensures { (i : ℕ) → from ≤ i → i ≤ count trip.now → IsOverOpen trip.now homing.now from opened.start opened.must i
-        homes.now (rest_at behind.now i) (rest_at result i) }
+    ensures { (i : ℕ) → from ≤ i → i ≤ count trip.now
+        → IsOverOpen trip.now homing.now from opened.stands opened.start opened.must i homes.now (rest_at behind.now i)
+        (rest_at result i) }
 {
     let mut row = [None; MOST_POINTS];
     for i in from..trip.count() + 1 {
@@ -153,6 +157,7 @@ fn open_unit(table: &Table, parts: &[Part], unit: usize) -> Open
     let trip = table.trip();
     Open {
         start: start_of(trip, parts, first_place(parts, unit)),
+        stands: standing_point(parts, unit),
         closes: part_count(parts, unit) > 1,
         must: needs_more(table, parts, unit),
     }

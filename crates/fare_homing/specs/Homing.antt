@@ -51,6 +51,10 @@ may_end_at tariff trip start home = are_near tariff (point trip home) (point tri
 abbrev pub is_same_city : Itinerary → ℕ → ℕ → Bool
 is_same_city trip start home = bytes_eq (point trip home) (point trip start)
 
+-- the last part of a unit that stands in the city of a point may begin at another: in that city, or in its country
+abbrev pub may_go_on : Tariff → Itinerary → ℕ → ℕ → Bool
+may_go_on tariff trip stand a = are_near tariff (point trip stand) (point trip a)
+
 -- what is behind a point until a unit comes home, by the city where it began: in that city it closes, after any parts;
 -- elsewhere it is an open jaw, of which the next part is the last
 abbrev pub homing_at : Itinerary → (ℕ → ℕ → Option ℕ) → (ℕ → ℕ → Option ℕ) → ℕ → ℕ → ℕ → Option ℕ

@@ -1,7 +1,8 @@
 -- Legs: what the parts from a point cost at least, by what a part is in its unit.
-use Rattle.std.specs.Prelude.{ℕ, List, Option}
-use Rattle.fare_trip.specs.Itinerary.{Itinerary}
+use Rattle.std.specs.Prelude.{ℕ, ◌<◌, List, [], Option, slice_index_or}
+use Rattle.fare_trip.specs.Itinerary.{Itinerary, count}
 use Rattle.fare_tariff.specs.Tariff.{Tariff}
+use Rattle.fare_rules.specs.Construction.{begin_after}
 use Rattle.fare_component.specs.declared.table.entry.Entry.{Entry}
 use Rattle.fare_bounds.specs.Covers.{rest_at}
 use Rattle.fare_homing.specs.declared.legs.Least.{Least}
@@ -25,3 +26,12 @@ pub record AreLegsOf (tariff : Tariff) (trip : Itinerary) (a : ℕ) (legs : LegR
   pub alone : AreLegs tariff trip single_cost a legs.alone
   pub first : AreLegs tariff trip first_cost a legs.first
   pub last : AreLegs tariff trip back_cost a legs.last
+
+-- no numbers
+abbrev pub no_legs : LegRows
+no_legs = record { alone = []; first = []; last = [] }
+
+-- rows are what the parts behind each point cost at least
+abbrev pub AreLegsBehind : Tariff → Itinerary → List LegRows → Type 0
+AreLegsBehind tariff trip rows =
+    (i : ℕ) → i < count trip → AreLegsOf tariff trip (begin_after trip i) (slice_index_or rows i no_legs)

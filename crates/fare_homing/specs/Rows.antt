@@ -7,16 +7,29 @@ use Rattle.fare_rules.specs.Indicator.{country}
 use Rattle.fare_rules.specs.Shape.{is_same_country}
 use Rattle.fare_bounds.specs.Covers.{rest_at}
 use Rattle.fare_homing.specs.declared.homing.Homing.{Homing}
+use Rattle.fare_homing.specs.declared.homing.Standing.{Standing}
 use Rattle.fare_homing.specs.HomingRows.{AreHomings}
 
 -- a number by its two points; none where there is no such row or place
 abbrev pub cell : List (List (Option ℕ)) → ℕ → ℕ → Option ℕ
 cell rows i j = slice_index_or (slice_index_or rows i []) j None
 
+-- no numbers
+abbrev pub no_standing : Standing
+no_standing = record { closing = []; jaw = [] }
+
+-- what is behind a point until a unit that stands in the city of another closes at a third
+abbrev pub closing_from : Homing → ℕ → ℕ → ℕ → Option ℕ
+closing_from homing c i j = cell (slice_index_or homing.standing c no_standing).closing i j
+
+-- the same until it ends there as an open jaw
+abbrev pub jaw_from : Homing → ℕ → ℕ → ℕ → Option ℕ
+jaw_from homing c i j = cell (slice_index_or homing.standing c no_standing).jaw i j
+
 -- the numbers of a trip are what its parts cost at least
 abbrev pub AreHomingsOf : Tariff → Itinerary → Homing → Type 0
 AreHomingsOf tariff trip homing =
-    AreHomings tariff trip (cell homing.closing) (cell homing.jaw) (cell homing.whole) (rest_at homing.rest)
+    AreHomings tariff trip (closing_from homing) (jaw_from homing) (cell homing.whole) (rest_at homing.rest)
 
 -- no number stands past the trip's end
 abbrev pub EndWithin : Itinerary → List (List (Option ℕ)) → Type 0
@@ -41,3 +54,7 @@ heads_in countries a b home =
 -- else as a first one
 abbrev pub step_to : List (Option Country) → ℕ → (ℕ → Option ℕ) → (ℕ → Option ℕ) → ℕ → ℕ → Option ℕ
 step_to countries a first last home b = if heads_in countries a b home then last b else first b
+
+-- no number is known of a trip but that nothing is behind its end
+abbrev pub AreNoHomings : ℕ → Homing → Type 0
+AreNoHomings count homing = rest_at homing.rest count ≡ Some 0

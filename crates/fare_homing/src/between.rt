@@ -1,13 +1,13 @@
-//! Parts between the first and the last of a unit: what is behind a point until a unit closes, by its last part, or by
-//! one between that comes next.
+//! Parts between the first and the last of a unit: what is behind a point until a unit closes, by one that comes next.
 
-ghost use Rattle.std.specs.Prelude.{◌≡◌, ℕ, ◌<◌, ◌≤◌};
+ghost use Rattle.std.specs.Prelude.{◌≡◌, ℕ, ◌+◌, ◌<◌, ◌≤◌, false};
 ghost use Rattle.fare_trip.specs.Itinerary.{count};
 ghost use Rattle.fare_bounds.specs.Covers.{rest_at};
-ghost use Rattle.fare_homing.specs.HomingRows.{behind_between};
-ghost use Rattle.fare_homing.specs.Least.{IsLeastOf, IsReached};
-ghost use Rattle.fare_homing.specs.Rows.{cell, heads_in, step_to, EndWithin};
+ghost use Rattle.fare_homing.specs.Homing.{IsUpTo, is_same_city};
+ghost use Rattle.fare_rules.specs.Shape.{is_same_country};
+ghost use Rattle.fare_homing.specs.Rows.{closing_from, country_at, heads_in, step_to};
 
+use crate::homing::{Homing, closing_from};
 use crate::legs::LegRows;
 use crate::reaching::added;
 use fare_bounds::lesser;
@@ -16,14 +16,22 @@ use fare_rules::MOST_POINTS;
 use fare_trip::Trip;
 use fare_units::is_same_country;
 
-/// The parts from a point that may come between the first and the last of a unit.
+/// A point where parts begin, with what they cost at least.
 #[derive(Clone, Copy)]
-pub(crate) struct Between<'a> {
-    /// The point where they begin.
-    pub(crate) start: usize,
+pub(crate) struct Start<'a> {
+    pub(crate) point: usize,
     pub(crate) legs: &'a LegRows,
     /// The countries of the points of the trip.
     pub(crate) countries: &'a [Option<Country>; MOST_POINTS],
+}
+
+/// Whether two points lie in one country.
+pub(crate) fn lie_together(countries: &[Option<Country>; MOST_POINTS], a: usize, b: usize) -> bool
+    requires one { a < MOST_POINTS }
+    requires other { b < MOST_POINTS }
+    ensures { result ≡ is_same_country (country_at countries.now a) (country_at countries.now b) }
+{
+    is_same_country(countries[a], countries[b])
 }
 
 /// Whether a part between two points heads home in a unit that closes at another: it comes into the country of the city
@@ -34,93 +42,67 @@ fn heads_in(countries: &[Option<Country>; MOST_POINTS], a: usize, b: usize, home
     requires home { home < MOST_POINTS }
     ensures { result ≡ heads_in countries.now a b home }
 {
-    if !is_same_country(countries[b], countries[home]) {
-        return false;
-    }
-    !is_same_country(countries[a], countries[home])
+    lie_together(countries, b, home) && !lie_together(countries, a, home)
 }
 
 /// What a part between costs at least that ends at a point, where its unit closes at another.
-fn step_to(between: &Between, home: usize, b: usize) -> Option<u64>
-    requires start { between.now.start < MOST_POINTS }
+fn step_to(start: &Start, home: usize, b: usize) -> Option<u64>
+    requires point { start.now.point < MOST_POINTS }
     requires home { home < MOST_POINTS }
     requires end { b < MOST_POINTS }
-    ensures { result ≡ step_to between.now.countries.now between.now.start (rest_at between.now.legs.now.first)
-        (rest_at between.now.legs.now.last) home b }
+    ensures { result ≡ step_to start.now.countries.now start.now.point (rest_at start.now.legs.now.first)
+        (rest_at start.now.legs.now.last) home b }
 {
-    if heads_in(between.countries, between.start, b, home) {
-        between.legs.last[b]
+    if heads_in(start.countries, start.point, b, home) {
+        start.legs.last[b]
     } else {
-        between.legs.first[b]
+        start.legs.first[b]
     }
 }
 
-/// What is behind a part between that ends at a point until its unit closes at another: nothing where both lie in one
-/// city, since no earlier part of a unit ends where it closes.
-fn behind_between(
-    trip: &Trip,
-    closing: &[[Option<u64>; MOST_POINTS]; MOST_POINTS],
-    b: usize,
-    home: usize,
-) -> Option<u64>
-    requires end { b ≤ count trip.now }
-    requires home { home ≤ count trip.now }
-    ensures { result ≡ behind_between trip.now (cell closing.now b) b home }
-{
-    let sectors = trip.count();
-    prove!(b <= sectors);
-    prove!(home <= sectors);
-    if trip.point(b).is(trip.point(home)) {
-        None
-    } else {
-        closing[b][home]
-    }
-}
-
-/// The least of a last part and of all parts between that end before a point, with what is behind them until their unit
-/// closes there.
-fn reach_between(
-    trip: &Trip,
-    between: &Between,
-    closing: &[[Option<u64>; MOST_POINTS]; MOST_POINTS],
-    i: usize,
-    home: usize,
-) -> Option<u64>
-    requires start { between.now.start < MOST_POINTS }
+/// The least of all parts between that end before a point, elsewhere than in its city, with what is behind them until
+/// their unit closes there.
+fn reach_between(trip: &Trip, homing: &Homing, start: &Start, i: usize, home: usize) -> Option<u64>
+    requires point { start.now.point < MOST_POINTS }
     requires rises { i < home }
     requires within { home ≤ count trip.now }
-    ensures { IsLeastOf (IsReached (rest_at between.now.legs.now.last home) (step_to between.now.countries.now
-        between.now.start (rest_at between.now.legs.now.first) (rest_at between.now.legs.now.last) home)
-        (λ b. behind_between trip.now (cell closing.now b) b home) i home) result }
+    ensures { (b x y : ℕ) → i < b → b < home → is_same_city trip.now home b ≡ false
+        → IsUpTo x (step_to start.now.countries.now start.now.point (rest_at start.now.legs.now.first)
+        (rest_at start.now.legs.now.last) home b) → IsUpTo y (closing_from homing.now b b home) → IsUpTo (x + y) result }
 {
     let sectors = trip.count();
     prove!(home <= sectors);
-    let mut least = between.legs.last[home];
+    let mut least = None;
     for b in i + 1..home {
-        let behind = behind_between(trip, closing, b, home);
-        least = lesser(least, added(step_to(between, home, b), behind));
+        if trip.point(b).is(trip.point(home)) {
+            continue;
+        }
+        let behind = closing_from(homing, b, b, home);
+        least = lesser(least, added(step_to(start, home, b), behind));
     }
     least
 }
 
-/// The same by the points where a unit closes.
-pub(crate) fn reached_between(
+/// A row by the points where a unit closes, lowered to the parts between that may come next.
+pub(crate) fn with_between(
     trip: &Trip,
-    between: &Between,
-    closing: &[[Option<u64>; MOST_POINTS]; MOST_POINTS],
+    homing: &Homing,
+    start: &Start,
     i: usize,
+    row: &[Option<u64>; MOST_POINTS],
 ) -> [Option<u64>; MOST_POINTS]
-    requires start { between.now.start < MOST_POINTS }
+    requires point { start.now.point < MOST_POINTS }
     requires rises { i < count trip.now }
-    requires within { EndWithin trip.now closing.now }
-    ensures { (j : ℕ) → IsLeastOf (IsReached (rest_at between.now.legs.now.last j) (step_to between.now.countries.now
-        between.now.start (rest_at between.now.legs.now.first) (rest_at between.now.legs.now.last) j)
-        (λ b. behind_between trip.now (cell closing.now b) b j) i j) (rest_at result j) }
+    ensures kept { (j most : ℕ) → IsUpTo most (rest_at row.now j) → IsUpTo most (rest_at result j) }
+    ensures between { (b j x y : ℕ) → i < b → b < j → j ≤ count trip.now → is_same_city trip.now j b ≡ false
+        → IsUpTo x (step_to start.now.countries.now start.now.point (rest_at start.now.legs.now.first)
+        (rest_at start.now.legs.now.last) j b) → IsUpTo y (closing_from homing.now b b j)
+        → IsUpTo (x + y) (rest_at result j) }
 {
     let count = trip.count();
-    let mut row = between.legs.last_row();
+    let mut least = *row;
     for j in i + 1..count + 1 {
-        row[j] = reach_between(trip, between, closing, i, j);
+        least[j] = lesser(least[j], reach_between(trip, homing, start, i, j));
     }
-    row
+    least
 }

@@ -5,9 +5,9 @@ ghost use Rattle.fare_trip.specs.Itinerary.{count};
 ghost use Rattle.fare_component.specs.declared.table.entry.Entry.{Entry};
 ghost use Rattle.fare_bounds.specs.Covers.{hundredths_of};
 ghost use Rattle.fare_homing.specs.Homing.{half_cost, single_cost};
-ghost use Rattle.fare_homing.specs.Legs.{AreLeastOf, AreLegsOf};
+ghost use Rattle.fare_homing.specs.Legs.{AreLeastOf, AreLegsBehind, AreLegsOf};
 
-use fare_bounds::lesser;
+use fare_bounds::{begin_after, lesser};
 use fare_component::{Amount, Entry, Table};
 use fare_rules::MOST_POINTS;
 
@@ -23,7 +23,7 @@ struct Least {
 }
 
 /// What the parts from a point cost at least, by the points where they end, for each that a part is in its unit.
-#[derive(Drop)]
+#[derive(Clone, Copy)]
 pub(crate) struct LegRows {
     /// A one way fare, alone in it.
     pub(crate) alone: [Option<u64>; MOST_POINTS],
@@ -100,7 +100,7 @@ fn cheapest(entries: &[Entry]) -> Least
 }
 
 /// The least that the parts from a point cost.
-pub(crate) fn legs(table: &Table, a: usize) -> LegRows
+fn legs(table: &Table, a: usize) -> LegRows
     requires { a ≤ count table.now.trip }
     ensures { AreLegsOf table.now.edition table.now.trip a result }
 {
@@ -118,4 +118,21 @@ pub(crate) fn legs(table: &Table, a: usize) -> LegRows
         legs.last[b] = least.last;
     }
     legs
+}
+
+/// The least that the parts behind each point cost.
+pub(crate) fn legs_behind(table: &Table) -> [LegRows; MOST_POINTS]
+    ensures { AreLegsBehind table.now.edition table.now.trip result }
+{
+    let trip = table.trip();
+    let none = LegRows {
+        alone: [None; MOST_POINTS],
+        first: [None; MOST_POINTS],
+        last: [None; MOST_POINTS],
+    };
+    let mut rows = [none; MOST_POINTS];
+    for i in 0..trip.count() {
+        rows[i] = legs(table, begin_after(trip, i));
+    }
+    rows
 }

@@ -4,8 +4,10 @@
 //! - `nearness`: which cities lie near each other, and the countries of a trip's points;
 //! - `reaching`: the least by which a point is reached, over steps to the points before it;
 //! - `legs`: what the parts from a point cost at least, by what a part is in its unit;
-//! - `between`: what is behind a point until a unit closes, by a part between its first and its last;
 //! - `pairs`: what the first and the last part of a unit cost at least together;
+//! - `whole`: what one unit costs at least that begins behind a point;
+//! - `between`: what is behind a point until a unit closes, by a part between its first and its last;
+//! - `standing`: what is behind each point until a unit comes home that stands in the city of one point;
 //! - `homing`: the numbers of a trip.
 //!
 //! Each of these stands on those above it.
@@ -17,7 +19,9 @@ mod legs;
 mod nearness;
 mod pairs;
 mod reaching;
+mod standing;
+mod whole;
 
-pub use homing::{Homing, cell, homing_of, number_at};
+pub use homing::{Homing, Standing, cell, closing_from, homing_of, jaw_from, number_at};
 pub use nearness::are_near;
 pub use reaching::added;

@@ -1,8 +1,10 @@
 //! Reaching: the least by which a point of a trip is reached, over steps to the points before it.
 
-ghost use Rattle.std.specs.Prelude.{◌≡◌, ℕ, ◌<◌, ◌≤◌, ◌⊎◌, Some};
-ghost use Rattle.fare_bounds.specs.Covers.{lesser, rest_at};
-ghost use Rattle.fare_homing.specs.Least.{IsAt, IsLeastOf, IsReached, IsSum, added};
+ghost use Rattle.std.specs.Prelude.{◌≡◌, ℕ, ◌+◌, ◌<◌, ◌≤◌};
+ghost use Rattle.fare_bounds.specs.Covers.{rest_at};
+ghost use Rattle.fare_homing.specs.Homing.{IsUpTo};
+ghost use Rattle.fare_homing.specs.HomingRows.{IsUnderBoth};
+ghost use Rattle.fare_homing.specs.Least.{added};
 ghost use Rattle.fare_homing.specs.Rows.{cell};
 
 use fare_bounds::lesser;
@@ -18,61 +20,41 @@ pub fn added(a: Option<u64>, b: Option<u64>) -> Option<u64>
     }
 }
 
-/// The least of a number and of all steps from a point to one before another, with what is behind that until the other.
-pub(crate) fn reach(
-    steps: &[Option<u64>; MOST_POINTS],
-    later: &[[Option<u64>; MOST_POINTS]; MOST_POINTS],
-    last: Option<u64>,
-    i: usize,
-    j: usize,
-) -> Option<u64>
-    requires rises { i < j }
-    requires within { j < MOST_POINTS }
-    ensures { IsLeastOf (IsReached last (rest_at steps.now) (λ b. cell later.now b j) i j) result }
-{
-    let mut least = last;
-    for b in i + 1..j {
-        least = lesser(least, added(steps[b], later[b][j]));
-    }
-    least
-}
-
-/// Lowers the numbers of a row past a point to what a step there costs with what is behind that.
-fn lower(
-    row: &mut [Option<u64>; MOST_POINTS],
-    step: u64,
+/// A row whose numbers are lowered to a step with what is behind it.
+pub(crate) fn lowered(
+    row: &[Option<u64>; MOST_POINTS],
+    step: Option<u64>,
     behind: &[Option<u64>; MOST_POINTS],
-    b: usize,
-)
-    requires { b < MOST_POINTS }
-    ensures lowered { (j : ℕ) → b < j → j < MOST_POINTS
-        → rest_at row.new j ≡ lesser (rest_at row.old j) (added (Some step) (rest_at behind.now j)) }
-    ensures others { (j : ℕ) → (j ≤ b) ⊎ (MOST_POINTS ≤ j) → rest_at row.new j ≡ rest_at row.old j }
+) -> [Option<u64>; MOST_POINTS]
+    ensures kept { (j most : ℕ) → IsUpTo most (rest_at row.now j) → IsUpTo most (rest_at result j) }
+    ensures under { (j x y : ℕ) → IsUpTo x step → IsUpTo y (rest_at behind.now j) → IsUpTo (x + y) (rest_at result j) }
 {
-    for j in b + 1..MOST_POINTS {
-        row[j] = lesser(row[j], added(Some(step), behind[j]));
+    let mut lowered = [None; MOST_POINTS];
+    for j in 0..MOST_POINTS {
+        lowered[j] = lesser(row[j], added(step, behind[j]));
     }
+    lowered
 }
 
-/// A row by the points that are reached: of each the least of its number and of all steps from a point to one before.
-pub(crate) fn reached(
+/// A row whose numbers are lowered to each step from a point with what is behind it.
+pub(crate) fn lowered_by(
+    row: &[Option<u64>; MOST_POINTS],
     steps: &[Option<u64>; MOST_POINTS],
-    later: &[[Option<u64>; MOST_POINTS]; MOST_POINTS],
-    last: &[Option<u64>; MOST_POINTS],
+    behind: &[[Option<u64>; MOST_POINTS]; MOST_POINTS],
     i: usize,
 ) -> [Option<u64>; MOST_POINTS]
-    requires start { i < MOST_POINTS }
-    requires within { (b j number : ℕ) → cell later.now b j ≡ Some number → j < MOST_POINTS }
-    ensures { (j : ℕ) → IsLeastOf (IsReached (rest_at last.now j) (rest_at steps.now) (λ b. cell later.now b j) i j)
-        (rest_at result j) }
+    requires { i < MOST_POINTS }
+    ensures kept { (j most : ℕ) → IsUpTo most (rest_at row.now j) → IsUpTo most (rest_at result j) }
+    ensures under { IsUnderBoth (rest_at steps.now) (cell behind.now) i (rest_at result) }
 {
-    let mut row = *last;
+    let mut least = *row;
     for b in i + 1..MOST_POINTS {
-        if let Some(step) = steps[b] {
-            lower(&mut row, step, &later[b], b);
+        if steps[b].is_none() {
+            continue;
         }
+        least = lowered(&least, steps[b], &behind[b]);
     }
-    row
+    least
 }
 
 /// The least of all steps from a point to one before another, with what is behind that.
@@ -84,7 +66,8 @@ pub(crate) fn least_onward(
 ) -> Option<u64>
     requires rises { i < past }
     requires within { past ≤ MOST_POINTS }
-    ensures { IsLeastOf (IsSum (IsAt (rest_at steps.now)) (rest_at rests.now) i past) result }
+    ensures { (b x y : ℕ) → i < b → b < past → IsUpTo x (rest_at steps.now b) → IsUpTo y (rest_at rests.now b)
+        → IsUpTo (x + y) result }
 {
     let mut least = None;
     for b in i + 1..past {

@@ -9,4 +9,4 @@ pub loop-home-preserved : goal.loop-home-preserved
 loop-home-preserved c =
     let P : Option ℕ → Type 0 = λ a. IsUnderSum a (rest_at c.args.homes.now c.loop-home.home) c.added-here.result in
     rw c.lesser-least.ensures
-    (until_next c.args.trip.now c.args.homing.now c.args.from c.args.start c.args.i c.args.homes.now c.loop-home.home c.loop-home.least c.added-here.result c.loop-home.invariant (subst P c.homing_at.ensures (added_up c.homing_at.result (rest_at c.args.homes.now c.loop-home.home) c.added-here.result c.added-here.ensures)))
+    (until_next c.args.trip.now c.args.homing.now c.args.from c.args.opened.stands c.args.opened.start c.args.i c.args.homes.now c.loop-home.home c.loop-home.least c.added-here.result c.loop-home.invariant (subst P c.homing_at.ensures (added_up c.homing_at.result (rest_at c.args.homes.now c.loop-home.home) c.added-here.result c.added-here.ensures)))

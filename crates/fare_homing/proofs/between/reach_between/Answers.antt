@@ -1,28 +1,36 @@
-use Rattle.std.proofs.Common.{◌≡◌, ℕ, ◌+◌, subst, arith}
+use Rattle.std.proofs.Common.{◌≡◌, ℕ, ◌+◌, true, false, refl, subst, sym, ◌∙◌, inl, inr, arith}
+use Rattle.std.specs.Prelude.{Option}
+use Rattle.std.proofs.lemmas.Bool.{both_ways, cases_eq}
 use Rattle.fare_bounds.specs.Covers.{rest_at}
-use Rattle.fare_homing.specs.HomingRows.{behind_between}
-use Rattle.fare_homing.specs.Least.{IsLeastOf, IsReached}
-use Rattle.fare_homing.specs.Rows.{cell, step_to}
-use Rattle.fare_homing.proofs.LeastLemmas.{reach_first, reach_more}
+use Rattle.fare_homing.specs.Homing.{IsUpTo, is_same_city}
+use Rattle.fare_homing.specs.Rows.{closing_from, step_to}
+use Rattle.fare_homing.proofs.HomingRowLemmas.{lesser_kept, lesser_sum}
 use Rattle.fare_homing.proofs.between.reach_between.Goals as goal
 
-pub loop-b-init : goal.loop-b-init
-loop-b-init c =
-    let between = c.args.between.now in
-    reach_first (rest_at between.legs.now.last c.args.home) (step_to between.countries.now between.start (rest_at between.legs.now.first) (rest_at between.legs.now.last) c.args.home)
-    (λ b. behind_between c.args.trip.now (cell c.args.closing.now b) b c.args.home) c.args.i (c.args.i + 1) (omega arith)
-
 pub loop-b-preserved : goal.loop-b-preserved
-loop-b-preserved c =
-    let between = c.args.between.now in
-    rw (c.lesser-least.ensures, c.added.ensures, c.step_to.ensures, c.behind_between-behind.ensures)
-    (reach_more (rest_at between.legs.now.last c.args.home) (step_to between.countries.now between.start (rest_at between.legs.now.first) (rest_at between.legs.now.last) c.args.home)
-    (λ b. behind_between c.args.trip.now (cell c.args.closing.now b) b c.args.home) c.args.i c.loop-b.b c.loop-b.least (omega arith) c.loop-b.invariant)
+loop-b-preserved c b x y low less apart up more =
+    let start = c.args.start.now in
+    let home = c.args.home in
+    let Step : ℕ → Option ℕ = step_to start.countries.now start.point (rest_at start.legs.now.first) (rest_at start.legs.now.last) home in
+    elim (cases_eq b c.loop-b.b) [
+      | inl same ↦
+          let P : ℕ → Type 0 = λ k. IsUpTo x (Step k) in
+          let Q : ℕ → Type 0 = λ k. IsUpTo y (closing_from c.args.homing.now k k home) in
+          lesser_sum c.loop-b.least (Step c.loop-b.b) (closing_from c.args.homing.now c.loop-b.b c.loop-b.b home) c.lesser-least.result
+          (rw (c.lesser-least.ensures, c.added.ensures, c.step_to.ensures, c.closing_from-behind.ensures) refl) x y (subst P same up) (subst Q same more)
+      | inr other ↦ lesser_kept c.loop-b.least c.added.result c.lesser-least.result c.lesser-least.ensures (x + y) (c.loop-b.invariant b x y low (omega arith) apart up more)
+    ]
+
+pub loop-b-preserved-then-is : goal.loop-b-preserved-then-is
+loop-b-preserved-then-is c b x y low less apart up more =
+    elim (cases_eq b c.loop-b.b) [
+      | inl same ↦
+          let here : c.is.result ≡ is_same_city c.args.trip.now c.args.home c.loop-b.b = cc in
+          let city : is_same_city c.args.trip.now c.args.home c.loop-b.b ≡ true = sym here ∙ c.if-is.true in
+          let P : ℕ → Type 0 = λ k. is_same_city c.args.trip.now c.args.home k ≡ false in
+          absurd (both_ways (is_same_city c.args.trip.now c.args.home c.loop-b.b) (subst P same apart) city)
+      | inr other ↦ c.loop-b.invariant b x y low (omega arith) apart up more
+    ]
 
 pub returns : goal.returns
-returns c =
-    let between = c.args.between.now in
-    let P : ℕ → Type 0 = λ p. IsLeastOf (IsReached (rest_at between.legs.now.last c.args.home) (step_to between.countries.now between.start (rest_at between.legs.now.first) (rest_at between.legs.now.last) c.args.home)
-    (λ b. behind_between c.args.trip.now (cell c.args.closing.now b) b c.args.home) c.args.i p) c.loop-b.least in
-    let end : c.loop-b.b ≡ c.args.home = omega arith in
-    subst P end c.loop-b.invariant
+returns c b x y low less apart up more = c.loop-b.invariant b x y low (omega arith) apart up more

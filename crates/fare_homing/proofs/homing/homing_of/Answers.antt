@@ -1,46 +1,52 @@
-use Rattle.std.proofs.Common.{◌≡◌, ℕ, refl, ◌+◌, ◌-◌, sym, subst, ◌∙◌, ap, arith, length-set, set, replicate}
-use Rattle.std.specs.Prelude.{Option, Some, None}
+use Rattle.std.proofs.Common.{rules, ◌≡◌, ◌+◌, ◌-◌, ℕ, sym, subst, ◌∙◌, ap, arith, length-set}
+use Rattle.std.specs.Prelude.{Some, slice_index_or}
 use Rattle.fare_trip.specs.Itinerary.{count}
-use Rattle.fare_homing.proofs.HomingRowLemmas.{AreHomingsFrom, homings_whole, put_homings, homings_at_end}
+use Rattle.fare_rules.specs.Construction.{begin_after}
+use Rattle.fare_bounds.specs.Covers.{rest_at}
+use Rattle.fare_homing.specs.Legs.{AreLegsOf, no_legs}
+use Rattle.fare_homing.proofs.HomingLemmas.{AreHomingsFrom, all_homings, no_homings, put_homings}
 use Rattle.fare_homing.proofs.homing.homing_of.Goals as goal
 
-pub loop-i-init : goal.loop-i-init
-loop-i-init c =
-    let tariff = c.args.table.now.edition in
+pub wholes_at-whole-requires-clause-legs : goal.wholes_at-whole-requires-clause-legs
+wholes_at-whole-requires-clause-legs c =
     let trip = c.args.table.now.trip in
-    let last : c.count-count.result ≡ count trip = c.count-count.ensures.value ∙ ap count c.trip.ensures in
-    let P : ℕ → Type 0 = λ n. AreHomingsFrom tariff trip n (replicate 17 (replicate 17 None)) (replicate 17 (replicate 17 None)) (replicate 17 (replicate 17 None)) (set (replicate 17 None) n (Some 0)) in
+    let place = c.loop-c.c - 1 in
+    let last : c.count-count.result ≡ count trip = c.count-count.ensures.value ∙ ap count c.trip-trip.ensures in
+    let begins : c.begin_after.result ≡ begin_after trip place = c.begin_after.ensures.value ∙ ap (λ t. begin_after t place) c.trip-trip.ensures in
+    subst (λ a. AreLegsOf c.args.table.now.edition trip a (slice_index_or c.legs_behind-legs.result place no_legs)) (sym begins) (c.legs_behind-legs.ensures place (omega arith))
+
+pub loop-c-init : goal.loop-c-init
+loop-c-init c =
+    let last : c.count-count.result ≡ count c.args.table.now.trip = c.count-count.ensures.value ∙ ap count c.trip-trip.ensures in
+    let P : ℕ → Type 0 = λ n. AreHomingsFrom c.args.table.now.edition c.args.table.now.trip n c.unknown-homing.result in
     record {
-      long_closing = refl;
-      long_jaw = refl;
-      long_whole = refl;
-      long_rest = length-set {A = Option ℕ} (replicate 17 None) c.count-count.result (Some 0);
-      known = subst P (sym last) (homings_at_end tariff trip 17 (omega (arith, c.count-count.ensures.at_most)));
+      long_standing = search rules;
+      long_whole = search rules;
+      long_rest = search rules;
+      known = subst P (sym last) (no_homings c.args.table.now.edition c.args.table.now.trip c.unknown-homing.result (subst (λ n. rest_at c.unknown-homing.result.rest n ≡ Some 0) last c.unknown-homing.ensures));
     }
 
-pub loop-i-preserved : goal.loop-i-preserved
-loop-i-preserved c =
+pub loop-c-preserved : goal.loop-c-preserved
+loop-c-preserved c =
     let tariff = c.args.table.now.edition in
     let trip = c.args.table.now.trip in
-    let homing = c.loop-i.homing in
-    let long = c.loop-i.invariant in
-    let row = c.row_at-row.result in
-    let place = c.loop-i.i - 1 in
-    let next : c.loop-i.i ≡ place + 1 = omega arith in
-    let last : c.count-count.result ≡ count trip = c.count-count.ensures.value ∙ ap count c.trip.ensures in
-    let P : ℕ → Type 0 = λ first. AreHomingsFrom tariff trip first homing.closing homing.jaw homing.whole homing.rest in
+    let homing = c.loop-c.homing in
+    let known = c.loop-c.invariant in
+    let place = c.loop-c.c - 1 in
+    let next : c.loop-c.c ≡ place + 1 = omega arith in
+    let last : c.count-count.result ≡ count trip = c.count-count.ensures.value ∙ ap count c.trip-trip.ensures in
+    let From : ℕ → Type 0 = λ n. AreHomingsFrom tariff trip n homing in
     record {
-      long_closing = length-set homing.closing place row.closing ∙ long.long_closing;
-      long_jaw = length-set homing.jaw place row.jaw ∙ long.long_jaw;
-      long_whole = length-set homing.whole place row.whole ∙ long.long_whole;
-      long_rest = length-set homing.rest place row.rest ∙ long.long_rest;
-      known = put_homings tariff trip place homing.closing homing.jaw homing.whole homing.rest row.closing row.jaw row.whole row.rest
-          (omega (arith, long.long_closing)) (omega (arith, long.long_jaw)) (omega (arith, long.long_whole)) (omega (arith, long.long_rest)) (subst P next long.known) c.row_at-row.ensures;
+      long_standing = length-set homing.standing place c.standing_at-standing.result ∙ known.long_standing;
+      long_whole = length-set homing.whole place c.wholes_at-whole.result ∙ known.long_whole;
+      long_rest = length-set homing.rest place c.least_onward.result ∙ known.long_rest;
+      known = put_homings tariff trip homing place (omega arith) c.wholes_at-whole.result c.least_onward.result c.standing_at-standing.result
+          (omega (arith, known.long_standing, c.count-count.ensures.at_most)) (omega (arith, known.long_whole, c.count-count.ensures.at_most)) (omega (arith, known.long_rest, c.count-count.ensures.at_most)) (subst From next known.known)
+          c.wholes_at-whole.ensures (λ b x y past within up more. c.least_onward.ensures b x y past (omega arith) up more) c.standing_at-standing.ensures.closes c.standing_at-standing.ensures.ends;
     }
 
 pub returns : goal.returns
 returns c =
-    let homing = c.loop-i.homing in
-    let done : c.loop-i.i ≡ 0 = omega arith in
-    let P : ℕ → Type 0 = λ first. AreHomingsFrom c.args.table.now.edition c.args.table.now.trip first homing.closing homing.jaw homing.whole homing.rest in
-    homings_whole c.args.table.now.edition c.args.table.now.trip homing.closing homing.jaw homing.whole homing.rest (subst P done c.loop-i.invariant.known)
+    let done : c.loop-c.c ≡ 0 = omega arith in
+    let P : ℕ → Type 0 = λ first. AreHomingsFrom c.args.table.now.edition c.args.table.now.trip first c.loop-c.homing in
+    all_homings c.args.table.now.edition c.args.table.now.trip c.loop-c.homing (subst P done c.loop-c.invariant.known)

@@ -1,13 +1,12 @@
 -- the numbers are known from this point on
 use Rattle.std.proofs.Common.{◌≡◌, length}
-use Rattle.fare_homing.proofs.HomingRowLemmas.{AreHomingsFrom}
+use Rattle.fare_homing.proofs.HomingLemmas.{AreHomingsFrom}
 use Rattle.fare_homing.proofs.homing.homing_of.Given as goal
 
-abbrev pub invariant-loop-i : goal.invariant-loop-i
-invariant-loop-i l = record {
-  long_closing : length l.homing.closing ≡ 17;
-  long_jaw : length l.homing.jaw ≡ 17;
+abbrev pub invariant-loop-c : goal.invariant-loop-c
+invariant-loop-c l = record {
+  long_standing : length l.homing.standing ≡ 17;
   long_whole : length l.homing.whole ≡ 17;
   long_rest : length l.homing.rest ≡ 17;
-  known : AreHomingsFrom l.table.edition l.table.trip l.i l.homing.closing l.homing.jaw l.homing.whole l.homing.rest;
+  known : AreHomingsFrom l.table.edition l.table.trip l.c l.homing;
 }

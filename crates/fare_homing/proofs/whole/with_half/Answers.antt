@@ -2,7 +2,7 @@ use Rattle.std.proofs.Common.{◌≡◌, ℕ, Option, sym, subst, ◌∙◌, ari
 use Rattle.std.proofs.lemmas.Option.{same_Some}
 use Rattle.fare_homing.specs.Homing.{IsUpTo}
 use Rattle.fare_homing.proofs.ReachLemmas.{up_second}
-use Rattle.fare_homing.proofs.homing.with_half.Goals as goal
+use Rattle.fare_homing.proofs.whole.with_half.Goals as goal
 
 pub returns-clause-half : goal.returns-clause-half
 returns-clause-half c most cost up low pair =

@@ -1,0 +1,133 @@
+//! Whole units: what one costs at least that begins behind a point, by the point where it ends.
+
+ghost use Rattle.std.specs.Prelude.{◌≡◌, ℕ, ◌+◌, ◌<◌, ◌≤◌, true, if◌then◌else◌};
+ghost use Rattle.fare_trip.specs.Itinerary.{count};
+ghost use Rattle.fare_rules.specs.Construction.{begin_after};
+ghost use Rattle.fare_bounds.specs.Covers.{rest_at};
+ghost use Rattle.fare_homing.specs.Homing.{IsUpTo, first_cost, homing_at, may_end_at, single_cost};
+ghost use Rattle.fare_homing.specs.HomingRows.{AreWholes, IsPart};
+ghost use Rattle.fare_homing.specs.Legs.{AreLegsOf};
+ghost use Rattle.fare_homing.specs.Pairs.{HasPair};
+ghost use Rattle.fare_homing.specs.Rows.{closing_from, jaw_from, AreCountries};
+
+use crate::between::{Start, lie_together};
+use crate::homing::{Homing, closing_from, jaw_from};
+use crate::pairs::{Pairing, least_pair};
+use crate::reaching::added;
+use fare_bounds::lesser;
+use fare_component::Table;
+use fare_rules::MOST_POINTS;
+
+/// What one unit costs at least that begins at a point and ends at another: one part alone, or half round trips, by
+/// what they cost at least and by the first and the last of them.
+fn with_half(
+    table: &Table,
+    start: usize,
+    home: usize,
+    half: Option<u64>,
+    alone: Option<u64>,
+) -> Option<u64>
+    requires home { home ≤ count table.now.trip }
+    ensures alone { (most : ℕ) → IsUpTo most alone → IsUpTo most result }
+    ensures half { (most cost : ℕ) → IsUpTo most half → most ≤ cost
+        → HasPair table.now.edition table.now.trip start home cost → IsUpTo cost result }
+{
+    let Some(floor) = half else {
+        return alone;
+    };
+    if start >= table.trip().count() || alone.unwrap_or(u64::MAX) <= floor {
+        return lesser(alone, half);
+    }
+    let pairing = Pairing {
+        table,
+        start,
+        home,
+        floor,
+    };
+    lesser(alone, least_pair(&pairing))
+}
+
+/// What is behind a first part that ends at a point until its unit ends at another: it closes there, or is an open jaw.
+fn behind_first(homing: &Homing, closes: bool, b: usize, home: usize) -> Option<u64>
+    ensures { result ≡ (if closes then closing_from homing.now b b home else jaw_from homing.now b b home) }
+{
+    if closes {
+        closing_from(homing, b, b, home)
+    } else {
+        jaw_from(homing, b, b, home)
+    }
+}
+
+/// What a unit of half round trips costs at least by its first part, with what is then behind that.
+fn reach_first(
+    homing: &Homing,
+    first: &[Option<u64>; MOST_POINTS],
+    closes: bool,
+    i: usize,
+    home: usize,
+) -> Option<u64>
+    requires rises { i < home }
+    requires within { home < MOST_POINTS }
+    ensures { (b x y : ℕ) → i < b → b < home → IsUpTo x (rest_at first.now b) → IsUpTo y (if closes
+        then closing_from homing.now b b home else jaw_from homing.now b b home) → IsUpTo (x + y) result }
+{
+    let mut least = None;
+    for b in i + 1..home {
+        least = lesser(
+            least,
+            added(first[b], behind_first(homing, closes, b, home)),
+        );
+    }
+    least
+}
+
+/// What one unit costs at least that begins behind a point and ends at another.
+fn whole_to(table: &Table, homing: &Homing, start: &Start, i: usize, home: usize) -> Option<u64>
+    requires point { start.now.point ≡ begin_after table.now.trip i }
+    requires inside { start.now.point ≤ count table.now.trip }
+    requires rises { i < home }
+    requires within { home ≤ count table.now.trip }
+    requires countries { AreCountries table.now.edition table.now.trip start.now.countries.now }
+    requires legs { AreLegsOf table.now.edition table.now.trip start.now.point start.now.legs.now }
+    ensures alone { (cost : ℕ) → IsPart table.now.edition table.now.trip single_cost start.now.point home cost
+        → IsUpTo cost result }
+    ensures first { (b x y cost : ℕ) → may_end_at table.now.edition table.now.trip start.now.point home ≡ true
+        → IsPart table.now.edition table.now.trip first_cost start.now.point b x → b < home
+        → IsUpTo y (homing_at table.now.trip (closing_from homing.now b) (jaw_from homing.now b) start.now.point b home)
+        → x + y ≤ cost → HasPair table.now.edition table.now.trip start.now.point home cost → IsUpTo cost result }
+{
+    let trip = table.trip();
+    let count = trip.count();
+    prove!(home <= count);
+    prove!(start.point <= count);
+    let alone = start.legs.alone[home];
+    let closes = trip.point(home).is(trip.point(start.point));
+    if !closes && !lie_together(start.countries, home, start.point) {
+        return alone;
+    }
+    let half = reach_first(homing, &start.legs.first, closes, i, home);
+    with_half(table, start.point, home, half, alone)
+}
+
+/// What one unit costs at least that begins behind a point, by the points where it ends.
+pub(crate) fn wholes_at(
+    table: &Table,
+    homing: &Homing,
+    start: &Start,
+    i: usize,
+) -> [Option<u64>; MOST_POINTS]
+    requires point { start.now.point ≡ begin_after table.now.trip i }
+    requires inside { start.now.point ≤ count table.now.trip }
+    requires within { i < count table.now.trip }
+    requires countries { AreCountries table.now.edition table.now.trip start.now.countries.now }
+    requires legs { AreLegsOf table.now.edition table.now.trip start.now.point start.now.legs.now }
+    ensures { AreWholes table.now.edition table.now.trip (closing_from homing.now) (jaw_from homing.now) i
+        (rest_at result) }
+{
+    let count = table.trip().count();
+    let mut row = [None; MOST_POINTS];
+    for home in i + 1..count + 1 {
+        row[home] = whole_to(table, homing, start, i, home);
+    }
+    row
+}
