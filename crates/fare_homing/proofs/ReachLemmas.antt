@@ -1,5 +1,5 @@
 -- The lesser and the sum of two amounts, and the numbers of a row.
-use Rattle.std.proofs.Common.{◌≡◌, refl, ℕ, ◌+◌, ◌<◌, ◌≤◌, ◌⊎◌, min, List, length, set, sym, subst, ◌∙◌, ap, inl, inr, arith, get_or}
+use Rattle.std.proofs.Common.{◌≡◌, refl, ℕ, ◌+◌, ◌<◌, ◌≤◌, min, List, length, set, sym, subst, ◌∙◌, inl, inr, arith, get_or}
 use Rattle.std.specs.Prelude.{Option, Some, None}
 use Rattle.std.proofs.lemmas.Bool.{cases_eq}
 use Rattle.std.proofs.lemmas.Option.{none-some, same_Some}
@@ -7,11 +7,6 @@ use Rattle.std.proofs.lemmas.List.{get_or-set_same, get_or-set_other}
 use Rattle.fare_bounds.specs.Covers.{lesser, rest_at}
 use Rattle.fare_homing.specs.Homing.{IsUpTo}
 use Rattle.fare_homing.specs.Least.{added, capped_sum}
-
--- an amount that is no number isn't there
-pub none_there : (x : Option ℕ) → ((n : ℕ) → x ≡ Some n → ⊥) → x ≡ None
-none_there None never = refl
-none_there (Some n) never = absurd (never n refl)
 
 -- the lesser of two amounts is no more than either
 pub lesser_first : (a b : Option ℕ) (amount : ℕ) → a ≡ Some amount → IsUpTo amount (lesser a b)
@@ -34,13 +29,7 @@ up_first a b most up = let least = lesser_first a b up.0 up.1 in up_more up.0 mo
 pub up_second : (a b : Option ℕ) (most : ℕ) → IsUpTo most b → IsUpTo most (lesser a b)
 up_second a b most up = let least = lesser_second a b up.0 up.1 in up_more up.0 most (lesser a b) up.2 least
 
--- a sum is there exactly where both amounts are
-pub added_is : (a b : Option ℕ) (sum : ℕ) → added a b ≡ Some sum
-    → (x : ℕ) × (y : ℕ) × (a ≡ Some x) × (b ≡ Some y) × (sum ≡ capped_sum x y)
-added_is None b sum e = absurd (none-some sum e)
-added_is (Some x) None sum e = absurd (none-some sum e)
-added_is (Some x) (Some y) sum e = (x, y, refl, refl, sym (same_Some (capped_sum x y) sum e))
-
+-- a sum is there where both amounts are
 pub added_of : (a b : Option ℕ) (x y : ℕ) → a ≡ Some x → b ≡ Some y → added a b ≡ Some (capped_sum x y)
 added_of a b x y e f = rw (e, f) refl
 
@@ -73,28 +62,3 @@ row_put Before After row p number within before goes here j =
           subst Q (sym same) (subst (After p) (sym (get_or-set_same row p number None within)) here)
       | inr other ↦ subst (After j) (sym (get_or-set_other row p j number None other)) (goes j (rest_at row j) other (before j))
     ]
-
--- the numbers of a row past a point, and before another, are lowered to a step with what is behind it
-pub record AreLowered (old : List (Option ℕ)) (step : ℕ) (behind : List (Option ℕ)) (b past : ℕ) (row : List (Option ℕ)) : Type 0 where
-  pub lowered : (j : ℕ) → b < j → j < past → rest_at row j ≡ lesser (rest_at old j) (added (Some step) (rest_at behind j))
-  pub others : (j : ℕ) → (j ≤ b) ⊎ (past ≤ j) → rest_at row j ≡ rest_at old j
-
-module _ (old : List (Option ℕ)) (step : ℕ) (behind : List (Option ℕ)) (b : ℕ) where
-  pub lower_first : AreLowered old step behind b (b + 1) old
-  lower_first = record { lowered = λ j low high. absurd (omega arith); others = λ j other. refl }
-
-  pub lower_more : (p : ℕ) (row : List (Option ℕ)) (number : Option ℕ) → p < length row → b < p → number ≡ lesser (rest_at row p) (added (Some step) (rest_at behind p))
-      → AreLowered old step behind b p row → AreLowered old step behind b (p + 1) (set row p number)
-  lower_more p row number within past is known = record {
-    lowered = λ j low high. elim (cases_eq j p) [
-      | inl same ↦
-          let P : ℕ → Type 0 = λ k. rest_at (set row p number) k ≡ lesser (rest_at old k) (added (Some step) (rest_at behind k)) in
-          subst P (sym same) (get_or-set_same row p number None within ∙ is ∙ ap (λ x. lesser x (added (Some step) (rest_at behind p))) (known.others p (inr (omega arith))))
-      | inr other ↦ get_or-set_other row p j number None other ∙ known.lowered j low (omega arith)
-    ];
-    others = λ j other. get_or-set_other row p j number None (apart j other) ∙ known.others j (elim other [ inl low ↦ inl low | inr high ↦ inr (omega arith) ]);
-  }
-    where
-      apart : (j : ℕ) → (j ≤ b) ⊎ (p + 1 ≤ j) → j ≡ p → ⊥
-      apart j (inl low) same = omega arith
-      apart j (inr high) same = omega arith

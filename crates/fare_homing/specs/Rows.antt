@@ -31,10 +31,6 @@ abbrev pub AreHomingsOf : Tariff → Itinerary → Homing → Type 0
 AreHomingsOf tariff trip homing =
     AreHomings tariff trip (closing_from homing) (jaw_from homing) (cell homing.whole) (rest_at homing.rest)
 
--- no number stands past the trip's end
-abbrev pub EndWithin : Itinerary → List (List (Option ℕ)) → Type 0
-EndWithin trip rows = (i j number : ℕ) → cell rows i j ≡ Some number → j ≤ count trip
-
 -- the countries of the points of a trip
 abbrev pub AreCountries : Tariff → Itinerary → List (Option Country) → Type 0
 AreCountries tariff trip countries =
