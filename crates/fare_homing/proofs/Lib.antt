@@ -3,3 +3,4 @@ pub mod LeastLemmas
 pub mod HomingRowLemmas
 pub mod UnderLemmas
 pub mod LegLemmas
+pub mod CrowdingLemmas

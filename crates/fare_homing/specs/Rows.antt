@@ -7,15 +7,16 @@ use Rattle.fare_rules.specs.Indicator.{country}
 use Rattle.fare_bounds.specs.Covers.{rest_at}
 use Rattle.fare_homing.specs.declared.homing.Homing.{Homing}
 use Rattle.fare_homing.specs.HomingRows.{AreHomings}
+use Rattle.fare_homing.specs.Crowding.{IsCrowdOf}
 
 -- a number by its two points; none where there is no such row or place
 abbrev pub cell : List (List (Option ℕ)) → ℕ → ℕ → Option ℕ
 cell rows i j = slice_index_or (slice_index_or rows i []) j None
 
--- the numbers of a trip are what its parts cost at least
-abbrev pub AreHomingsOf : Tariff → Itinerary → Homing → Type 0
-AreHomingsOf tariff trip homing =
-    AreHomings tariff trip (cell homing.closing) (cell homing.jaw) (cell homing.whole) (rest_at homing.rest)
+-- the numbers of a trip are what its parts cost at least, and how many rules they take
+pub record AreHomingsOf (tariff : Tariff) (trip : Itinerary) (homing : Homing) : Type 0 where
+  pub known : AreHomings tariff trip (cell homing.closing) (cell homing.jaw) (cell homing.whole) (rest_at homing.rest)
+  pub crowd : IsCrowdOf tariff trip homing.crowd
 
 -- no number stands past the trip's end
 abbrev pub EndWithin : Itinerary → List (List (Option ℕ)) → Type 0

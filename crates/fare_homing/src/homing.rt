@@ -10,6 +10,7 @@ ghost use Rattle.fare_homing.specs.Pairs.{HasPair};
 ghost use Rattle.fare_homing.specs.Legs.{AreLegsOf};
 ghost use Rattle.fare_homing.specs.Rows.{cell, AreCountries, AreHomingsOf, EndWithin};
 
+use crate::crowding::{Crowd, crowd_of};
 use crate::legs::{LegRows, legs};
 use crate::nearness::countries_of;
 use crate::pairs::{Pairing, least_pair};
@@ -31,6 +32,8 @@ pub struct Homing {
     pub whole: [[Option<u64>; MOST_POINTS]; MOST_POINTS],
     /// All that is behind the point, where no unit is open.
     pub rest: [Option<u64>; MOST_POINTS],
+    /// What must come of one way fares whose rules don't combine with themselves.
+    pub crowd: Crowd,
 }
 
 /// What is behind one point of a trip at least, by the points where a unit ends.
@@ -191,6 +194,7 @@ pub fn homing_of(table: &Table) -> Homing
         jaw: rows,
         whole: rows,
         rest,
+        crowd: crowd_of(table),
     };
     let countries = countries_of(table);
     for i in (0..count).rev() {
