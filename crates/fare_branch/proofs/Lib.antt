@@ -30,4 +30,5 @@ pub mod OverLastLemmas
 pub mod GoesOnLemmas
 pub mod TrueCostLemmas
 pub mod OverLemmas
+pub mod CrowdingLemmas
 pub mod AheadLemmas
