@@ -3,7 +3,7 @@ use Rattle.std.proofs.Common.{◌≡◌, ℕ, zero, suc, ◌+◌, ◌-◌, ◌<�
 use Rattle.std.specs.Prelude.{Option, Some, None, Contains, IfSome, filter, is_some, option_and_then, slice_index}
 use Rattle.std.specs.List.{list_any}
 use Rattle.std.proofs.Math.ListN.{length-append}
-use Rattle.std.proofs.lemmas.Bool.{and_parts, cases_Bool, cases_eq, ne_eqb, or_cases}
+use Rattle.std.proofs.lemmas.Bool.{and_parts, cases_Bool, ne_eqb, or_cases}
 use Rattle.std.proofs.lemmas.List.Elements.{All-contains}
 use Rattle.std.proofs.lemmas.Option.{same_Some}
 use Rattle.std.proofs.lemmas.Slice.Eq.{bytes_eq-Decides}
@@ -14,7 +14,7 @@ use Rattle.fare_tariff.specs.Tariff.{Tariff}
 use Rattle.fare_tariff.specs.Lookup.{ends_ok}
 use Rattle.fare_rules.specs.declared.part.Part.{Part}
 use Rattle.fare_rules.specs.Best.{IsLawful}
-use Rattle.fare_rules.specs.Construction.{begin_after, end_of, fare_of, part_at, places, start_of, unit_of}
+use Rattle.fare_rules.specs.Construction.{end_of, fare_of, places, unit_of}
 use Rattle.fare_rules.specs.Numbers.{numbers}
 use Rattle.fare_rules.specs.Shape.{is_ow, is_same_unit}
 use Rattle.fare_rules.specs.UnitRules.{are_end_mates, clashed, clashes, is_clash, rules_pass}
