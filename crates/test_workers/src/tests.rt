@@ -1,6 +1,7 @@
 //! The best construction by every number of workers.
 
 mod cases;
+mod lonely_rules;
 
 ghost use Rattle.std.specs.Prelude.{◌≤◌};
 ghost use Rattle.fare_drill.specs.declared.limits.TheConstants.{LAST_SEED};
@@ -16,6 +17,7 @@ use fare_split::{MOST_WORKERS, SplitQuoter};
 use fare_tariff::Edition;
 use fare_trip::{Trip, read_trip};
 use fare_units::{Construction, PlainQuoter, Quoter};
+use lonely_rules::{A_SECTOR_MORE_THAN_RULES, AS_MANY_RULES_AS_SECTORS, ONE_RULE_TOO_FEW};
 use std::alloc::Global;
 use std::process::Abort;
 use std::test::Fail;
@@ -110,6 +112,21 @@ fn plain_best_is_found<R: Threads + Sync + Abort>(
     }
 }
 
+/// Finds no fare for a trip by any number of workers.
+fn nothing_is_found<R: Threads + Sync + Abort>(
+    rt: &R,
+    alloc: Global,
+    edition: &Edition,
+    trip: &Trip,
+) -> Result<(), Fail> {
+    for workers in 1..MOST_WORKERS + 1 {
+        let quoter = SplitQuoter::new(workers, &OpenGate);
+        let found = quoter.quote(rt, alloc, edition, trip)?;
+        assert!(rt; found.is_none(), "{workers} workers");
+    }
+    Ok(())
+}
+
 #[test]
 fn trips_of_outside(rt: HostRuntime) -> Result<(), Fail> {
     for case in &CASES {
@@ -158,4 +175,26 @@ fn generated_trips_of_sixteen_sectors(rt: HostRuntime) -> Result<(), Fail> {
         long_trip_is_found(&rt, rt.alloc(), seed)?;
     }
     Ok(())
+}
+
+#[test]
+fn trip_of_as_many_rules_as_sectors(rt: HostRuntime) -> Result<(), Fail> {
+    plain_best_is_found(&rt, rt.alloc(), &AS_MANY_RULES_AS_SECTORS)
+}
+
+#[test]
+fn trip_of_a_sector_more_than_rules(rt: HostRuntime) -> Result<(), Fail> {
+    let input = &A_SECTOR_MORE_THAN_RULES;
+    let (edition, trip) = input_of(&rt, rt.alloc(), input.tariff, input.itinerary)?;
+    let plain = PlainQuoter.quote(&rt, rt.alloc(), &edition, &trip)?;
+    assert!(rt; plain.is_none());
+    nothing_is_found(&rt, rt.alloc(), &edition, &trip)
+}
+
+/// Without a count of the rules that are left each order of fifteen of them would be walked.
+#[test]
+fn trip_of_sixteen_sectors_with_a_rule_too_few(rt: HostRuntime) -> Result<(), Fail> {
+    let input = &ONE_RULE_TOO_FEW;
+    let (edition, trip) = input_of(&rt, rt.alloc(), input.tariff, input.itinerary)?;
+    nothing_is_found(&rt, rt.alloc(), &edition, &trip)
 }
