@@ -30,5 +30,6 @@ pub mod OverLastLemmas
 pub mod GoesOnLemmas
 pub mod TrueCostLemmas
 pub mod OverLemmas
+pub mod NeedLemmas
 pub mod CrowdingLemmas
 pub mod AheadLemmas

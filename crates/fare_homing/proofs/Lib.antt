@@ -3,4 +3,3 @@ pub mod LeastLemmas
 pub mod HomingRowLemmas
 pub mod UnderLemmas
 pub mod LegLemmas
-pub mod CrowdingLemmas

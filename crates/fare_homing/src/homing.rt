@@ -10,8 +10,8 @@ ghost use Rattle.fare_homing.specs.Pairs.{HasPair};
 ghost use Rattle.fare_homing.specs.Legs.{AreLegsOf};
 ghost use Rattle.fare_homing.specs.Rows.{cell, AreCountries, AreHomingsOf, EndWithin};
 
-use crate::crowding::{Crowd, crowd_of};
 use crate::legs::{LegRows, legs};
+use crate::lonely::{MOST_LONELY, lonely_fares};
 use crate::nearness::countries_of;
 use crate::pairs::{Pairing, least_pair};
 use crate::reaching::{least_onward, reach, reached, reached_between};
@@ -32,8 +32,9 @@ pub struct Homing {
     pub whole: [[Option<u64>; MOST_POINTS]; MOST_POINTS],
     /// All that is behind the point, where no unit is open.
     pub rest: [Option<u64>; MOST_POINTS],
-    /// What must come of one way fares whose rules don't combine with themselves.
-    pub crowd: Crowd,
+    /// The record number of one fare of each rule that doesn't combine end on end with itself, of the one way fares: of
+    /// as many rules as are told apart; 0 at the places that are free.
+    pub lonely: [u32; MOST_LONELY],
 }
 
 /// What is behind one point of a trip at least, by the points where a unit ends.
@@ -194,7 +195,7 @@ pub fn homing_of(table: &Table) -> Homing
         jaw: rows,
         whole: rows,
         rest,
-        crowd: crowd_of(table),
+        lonely: lonely_fares(table),
     };
     let countries = countries_of(table);
     for i in (0..count).rev() {

@@ -5,20 +5,20 @@
 //! - `reaching`: the least by which a point is reached, over steps to the points before it;
 //! - `legs`: what the parts from a point cost at least, by what a part is in its unit;
 //! - `pairs`: what the first and the last part of a unit cost at least together;
-//! - `crowding`: how many one way fares must come of which no two may have one rule;
+//! - `lonely`: the rules of one way fares that don't combine with themselves;
 //! - `homing`: the numbers of a trip.
 //!
 //! Each of these stands on those above it.
 #![tactic(auto)]
 
-mod crowding;
 mod homing;
 mod legs;
+mod lonely;
 mod nearness;
 mod pairs;
 mod reaching;
 
-pub use crowding::{Crowd, MOST_LONELY, rule_at};
 pub use homing::{Homing, cell, homing_of, number_at};
+pub use lonely::{MOST_LONELY, is_rule_of, rule_at};
 pub use nearness::are_near;
 pub use reaching::added;

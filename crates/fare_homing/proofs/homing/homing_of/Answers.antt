@@ -16,7 +16,7 @@ loop-i-init c =
       long_whole = refl;
       long_rest = length-set {A = Option ℕ} (replicate 17 None) c.count-count.result (Some 0);
       known = subst P (sym last) (homings_at_end tariff trip 17 (omega (arith, c.count-count.ensures.at_most)));
-      crowd = c.crowd_of.ensures;
+      lonely = c.lonely_fares.ensures;
     }
 
 pub loop-i-preserved : goal.loop-i-preserved
@@ -37,7 +37,7 @@ loop-i-preserved c =
       long_rest = length-set homing.rest place row.rest ∙ long.long_rest;
       known = put_homings tariff trip place homing.closing homing.jaw homing.whole homing.rest row.closing row.jaw row.whole row.rest
           (omega (arith, long.long_closing)) (omega (arith, long.long_jaw)) (omega (arith, long.long_whole)) (omega (arith, long.long_rest)) (subst P next long.known) c.row_at-row.ensures;
-      crowd = long.crowd;
+      lonely = long.lonely;
     }
 
 pub returns : goal.returns
@@ -47,5 +47,5 @@ returns c =
     let P : ℕ → Type 0 = λ first. AreHomingsFrom c.args.table.now.edition c.args.table.now.trip first homing.closing homing.jaw homing.whole homing.rest in
     record {
       known = homings_whole c.args.table.now.edition c.args.table.now.trip homing.closing homing.jaw homing.whole homing.rest (subst P done c.loop-i.invariant.known);
-      crowd = c.loop-i.invariant.crowd;
+      lonely = c.loop-i.invariant.lonely;
     }

@@ -1,8 +1,8 @@
 use Rattle.std.proofs.Common.{◌≡◌, ℕ, false}
 use Rattle.std.specs.Prelude.{IfSome}
 use Rattle.std.proofs.lemmas.List.Elements.{All-replicate}
-use Rattle.fare_homing.specs.Crowding.{rule_at, suits_itself}
-use Rattle.fare_homing.proofs.crowding.lonely_fares.Goals as goal
+use Rattle.fare_homing.specs.Lonely.{rule_at, suits_itself}
+use Rattle.fare_homing.proofs.lonely.lonely_fares.Goals as goal
 
 pub loop-a-init : goal.loop-a-init
 loop-a-init c =

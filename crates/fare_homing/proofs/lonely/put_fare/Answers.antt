@@ -2,8 +2,8 @@ use Rattle.std.proofs.Common.{◌≡◌, ℕ, false, sym, subst, ◌∙◌}
 use Rattle.std.specs.Prelude.{Option, IfSome}
 use Rattle.std.proofs.lemmas.List.Elements.{All-set}
 use Rattle.fare_codes.specs.declared.rule_id.RuleId.{RuleId}
-use Rattle.fare_homing.specs.Crowding.{rule_at, suits_itself}
-use Rattle.fare_homing.proofs.crowding.put_fare.Goals as goal
+use Rattle.fare_homing.specs.Lonely.{rule_at, suits_itself}
+use Rattle.fare_homing.proofs.lonely.put_fare.Goals as goal
 
 pub returns-in-Some-position : goal.returns-in-Some-position
 returns-in-Some-position c =
