@@ -154,9 +154,15 @@ pub fn is_crowded(table: &Table, homing: &Homing, front: &Partial) -> bool
     requires made { IsMadeWith table.now front.now }
     ensures { result ≡ true → HasNoCompletion table.now.edition table.now.trip front.now }
 {
-    let _sectors = table.trip().count();
+    let sectors = table.trip().count();
     let lonely = &homing.lonely;
     if lonely[0] == 0 {
+        return false;
+    }
+    let end = front.end();
+    let left = left_count(table.edition(), front.parts(), lonely);
+    // No list takes more than one rule a sector, so most aren't worth the walk over the table.
+    if left >= sectors.saturating_sub(end) {
         return false;
     }
     let crowding = Crowding {
@@ -164,7 +170,6 @@ pub fn is_crowded(table: &Table, homing: &Homing, front: &Partial) -> bool
         front,
         lonely,
     };
-    let end = front.end();
     let needs = needs_behind(&crowding, end);
-    left_count(table.edition(), front.parts(), lonely) < needs[end] as usize
+    left < needs[end] as usize
 }
