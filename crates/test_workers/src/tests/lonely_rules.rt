@@ -92,3 +92,44 @@ pub static ONE_RULE_TOO_FEW: Input = Input {
                 {\"to\":\"CAB\",\"carrier\":\"Q1\",\"day\":\"2025-04-15\",\"cabin\":\"Y\"},\
                 {\"to\":\"CAA\",\"carrier\":\"Q1\",\"day\":\"2025-04-16\",\"cabin\":\"Y\"}]}",
 };
+
+/// Twelve sectors, eleven such rules, and a dear fare of the free rule, which combines with none of these.
+pub static A_DEAR_FARE_BESIDES: Input = Input {
+    tariff: "HEAD,1,1,2025-01-01\nCUR,AA,XAA,1.000000,2,1,U\nCUR,AB,XAB,1.000000,2,1,U\nCITY,CAA,AA,2\n\
+             CITY,CAB,AB,2\nRULE,R0,16,16,0,0,999,Y,*,R1 R2 R3 R4 R5 R6 R7 R8 R9 R10\n\
+             RULE,R1,16,16,0,0,999,Y,*,R0 R2 R3 R4 R5 R6 R7 R8 R9 R10\n\
+             RULE,R2,16,16,0,0,999,Y,*,R0 R1 R3 R4 R5 R6 R7 R8 R9 R10\n\
+             RULE,R3,16,16,0,0,999,Y,*,R0 R1 R2 R4 R5 R6 R7 R8 R9 R10\n\
+             RULE,R4,16,16,0,0,999,Y,*,R0 R1 R2 R3 R5 R6 R7 R8 R9 R10\n\
+             RULE,R5,16,16,0,0,999,Y,*,R0 R1 R2 R3 R4 R6 R7 R8 R9 R10\n\
+             RULE,R6,16,16,0,0,999,Y,*,R0 R1 R2 R3 R4 R5 R7 R8 R9 R10\n\
+             RULE,R7,16,16,0,0,999,Y,*,R0 R1 R2 R3 R4 R5 R6 R8 R9 R10\n\
+             RULE,R8,16,16,0,0,999,Y,*,R0 R1 R2 R3 R4 R5 R6 R7 R9 R10\n\
+             RULE,R9,16,16,0,0,999,Y,*,R0 R1 R2 R3 R4 R5 R6 R7 R8 R10\n\
+             RULE,R10,16,16,0,0,999,Y,*,R0 R1 R2 R3 R4 R5 R6 R7 R8 R9\nFARE,CAA,CAB,EH,YY,Y,OW,R0,100.17\n\
+             FARE,CAA,CAB,EH,YY,Y,OW,R1,100.72\nFARE,CAA,CAB,EH,YY,Y,OW,R2,100.97\n\
+             FARE,CAA,CAB,EH,YY,Y,OW,R3,100.08\nFARE,CAA,CAB,EH,YY,Y,OW,R4,100.32\n\
+             FARE,CAA,CAB,EH,YY,Y,OW,R5,100.15\nFARE,CAA,CAB,EH,YY,Y,OW,R6,100.63\n\
+             FARE,CAA,CAB,EH,YY,Y,OW,R7,100.97\nFARE,CAA,CAB,EH,YY,Y,OW,R8,100.57\n\
+             FARE,CAA,CAB,EH,YY,Y,OW,R9,100.60\nFARE,CAA,CAB,EH,YY,Y,OW,R10,100.83\n\
+             FARE,CAB,CAA,EH,YY,Y,OW,R0,100.48\nFARE,CAB,CAA,EH,YY,Y,OW,R1,100.26\n\
+             FARE,CAB,CAA,EH,YY,Y,OW,R2,100.12\nFARE,CAB,CAA,EH,YY,Y,OW,R3,100.62\n\
+             FARE,CAB,CAA,EH,YY,Y,OW,R4,100.03\nFARE,CAB,CAA,EH,YY,Y,OW,R5,100.49\n\
+             FARE,CAB,CAA,EH,YY,Y,OW,R6,100.55\nFARE,CAB,CAA,EH,YY,Y,OW,R7,100.77\n\
+             FARE,CAB,CAA,EH,YY,Y,OW,R8,100.97\nFARE,CAB,CAA,EH,YY,Y,OW,R9,100.98\n\
+             FARE,CAB,CAA,EH,YY,Y,OW,R10,100.00\nFARE,CAA,CAB,EH,YY,Y,OW,,500.00\n\
+             FARE,CAB,CAA,EH,YY,Y,OW,,500.00\nEND\n",
+    itinerary: "{\"sale\":\"2025-03-01\",\"from\":\"CAA\",\"sectors\":[\
+                {\"to\":\"CAB\",\"carrier\":\"Q1\",\"day\":\"2025-04-01\",\"cabin\":\"Y\"},\
+                {\"to\":\"CAA\",\"carrier\":\"Q1\",\"day\":\"2025-04-02\",\"cabin\":\"Y\"},\
+                {\"to\":\"CAB\",\"carrier\":\"Q1\",\"day\":\"2025-04-03\",\"cabin\":\"Y\"},\
+                {\"to\":\"CAA\",\"carrier\":\"Q1\",\"day\":\"2025-04-04\",\"cabin\":\"Y\"},\
+                {\"to\":\"CAB\",\"carrier\":\"Q1\",\"day\":\"2025-04-05\",\"cabin\":\"Y\"},\
+                {\"to\":\"CAA\",\"carrier\":\"Q1\",\"day\":\"2025-04-06\",\"cabin\":\"Y\"},\
+                {\"to\":\"CAB\",\"carrier\":\"Q1\",\"day\":\"2025-04-07\",\"cabin\":\"Y\"},\
+                {\"to\":\"CAA\",\"carrier\":\"Q1\",\"day\":\"2025-04-08\",\"cabin\":\"Y\"},\
+                {\"to\":\"CAB\",\"carrier\":\"Q1\",\"day\":\"2025-04-09\",\"cabin\":\"Y\"},\
+                {\"to\":\"CAA\",\"carrier\":\"Q1\",\"day\":\"2025-04-10\",\"cabin\":\"Y\"},\
+                {\"to\":\"CAB\",\"carrier\":\"Q1\",\"day\":\"2025-04-11\",\"cabin\":\"Y\"},\
+                {\"to\":\"CAA\",\"carrier\":\"Q1\",\"day\":\"2025-04-12\",\"cabin\":\"Y\"}]}",
+};
