@@ -1,7 +1,7 @@
 -- Crowding: how many one way fares must still come behind some first parts of which no two may have one rule, and how
 -- many such rules the first parts leave.
-use Rattle.std.specs.Prelude.{◌≡◌, ℕ, ◌+◌, ◌<◌, ◌≤◌, Bool, true, false, not, ◌&&◌, ◌||◌, List, Option, Some, None, filter}
-use Rattle.std.specs.Prelude.{length, Contains, is_some, is_none, slice_index, if◌then◌else◌}
+use Rattle.std.specs.Prelude.{◌≡◌, ℕ, ◌+◌, ◌<◌, ◌≤◌, Bool, true, false, not, ◌&&◌, ◌||◌, List, Option, Some, None}
+use Rattle.std.specs.Prelude.{filter, length, Contains, is_some, is_none, slice_index, if◌then◌else◌}
 use Rattle.std.specs.List.{list_any}
 use Rattle.fare_codes.specs.declared.rule_id.RuleId.{RuleId}
 use Rattle.fare_trip.specs.Itinerary.{Itinerary, count}
@@ -35,7 +35,8 @@ leaves_fare tariff parts number = is_some (rule_at tariff number) && leaves_rule
 abbrev pub left_count : Tariff → List Part → List ℕ → ℕ
 left_count tariff parts fares = length (filter (leaves_fare tariff parts) fares)
 
--- a part with an entry may come behind some parts: its fare is no one way fare, or combines end on end with all of theirs
+-- a part with an entry may come behind some parts: its fare is no one way fare, or combines end on end with each of
+-- theirs
 abbrev pub may_come : Tariff → List Part → Entry → Bool
 may_come tariff parts entry = is_none entry.single || leaves_rule tariff parts (rule_at tariff entry.fare)
 

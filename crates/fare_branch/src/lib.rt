@@ -47,7 +47,6 @@ mod walking;
 pub use ahead::{Ahead, ahead_of, floor_with};
 pub use barred::is_barred;
 pub use bound::{Bound, NO_PRICE};
-pub use crowding::is_crowded;
 pub use floors::floor_of;
 pub use own_bound::OwnBound;
 pub use partial::Partial;
