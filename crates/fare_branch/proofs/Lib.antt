@@ -31,4 +31,6 @@ pub mod OverLastLemmas
 pub mod GoesOnLemmas
 pub mod TrueCostLemmas
 pub mod OverLemmas
+pub mod NeedLemmas
+pub mod CrowdingLemmas
 pub mod AheadLemmas

@@ -58,7 +58,7 @@ behind_next parts k =
     let P : ℕ → Type 0 = λ n. point_behind parts n ≡ end_of parts n in
     subst P e refl
 
-behind_all : (parts : List Part) → point_behind parts (length parts) ≡ end_of parts (length parts)
+pub behind_all : (parts : List Part) → point_behind parts (length parts) ≡ end_of parts (length parts)
 behind_all [] = refl
 behind_all (x ∷ xs) = refl
 
@@ -101,13 +101,13 @@ module _ (tariff : Tariff) (trip : Itinerary) (parts : List Part) (price : ℕ) 
       (or_parts (is_surface trip 1) (list_any (is_surface trip) (sectors 1 (end_of parts 1))) (sym (any_next (is_surface trip) 1 (end_of parts 1 + 1) (omega arith)) ∙ gap)).0
 
   -- a part begins behind the one before it
-  begins_next : (k : ℕ) → k + 1 ≤ length parts → begin_after trip (point_behind parts k) ≡ start_of trip parts (k + 1)
+  pub begins_next : (k : ℕ) → k + 1 ≤ length parts → begin_after trip (point_behind parts k) ≡ start_of trip parts (k + 1)
   begins_next zero high = rw (flown (omega arith)) refl
   begins_next (suc k) high =
       let n : suc k + 1 - 1 ≡ suc k = omega arith in
       rw (lt-leb (suc k + 1) 1 (omega arith), n) refl
 
-  part_rises : (k : ℕ) → k + 1 ≤ length parts → point_behind parts k < end_of parts (k + 1)
+  pub part_rises : (k : ℕ) → k + 1 ≤ length parts → point_behind parts k < end_of parts (k + 1)
   part_rises k high =
       let cover = all tariff trip parts price lawful in
       let later : point_behind parts k ≤ begin_after trip (point_behind parts k) = begins_later trip (point_behind parts k) in

@@ -392,7 +392,7 @@ module _ (table : Pricing) (homing : Homing) (are : AreHomingsOf table.edition t
       let P : List Part → Type 0 = λ xs. IsLawful table.edition table.trip xs price in
       let lawful : IsLawful table.edition table.trip (front ++ c.begins.0) price = subst P c.begins.1 c.lawful in
       let least = over c.begins.0 price (end_of front (length front)) (sum_by (true_cost table.edition table.trip (front ++ c.begins.0)) (range_with_len (length front + 1) (length c.begins.0))) lawful (omega arith) within
-      (behind_is_over table.edition table.trip (closing_from homing) (jaw_from homing) (cell homing.whole) (rest_at homing.rest) are front c.begins.0 price lawful) in
+      (behind_is_over table.edition table.trip (closing_from homing) (jaw_from homing) (cell homing.whole) (rest_at homing.rest) are.known front c.begins.0 price lawful) in
       let spent : units_floor table.edition table.trip front + sum_by (true_cost table.edition table.trip (front ++ c.begins.0)) (range_with_len (length front + 1) (length c.begins.0)) ≤ price = spent_up table.edition table.trip front c.begins.0 price lawful in
       let low : least.0 ≤ sum_by (true_cost table.edition table.trip (front ++ c.begins.0)) (range_with_len (length front + 1) (length c.begins.0)) = least.2 in
       up_more (units_floor table.edition table.trip front + least.0) price found (omega arith) (sum (units_floor table.edition table.trip front) least.0 refl least.1)

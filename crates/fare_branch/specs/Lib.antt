@@ -9,6 +9,7 @@ pub mod Refusals
 pub mod Joining
 pub mod Beginnings
 pub mod Costs
+pub mod Crowding
 pub mod LastParts
 pub mod Stack
 pub mod Ahead

@@ -10,6 +10,7 @@
 //! - `joining`: whether a part may come to a unit of first parts again;
 //! - `costs`: what parts cost at least;
 //! - `floors`: what first parts cost at least, with all that may follow;
+//! - `crowding`: whether more one way fares must come than first parts leave rules for;
 //! - `lasting`: what the last part of a unit that goes on costs at least;
 //! - `stacking`: what first parts cost at least, with all that may follow, since what begins must end;
 //! - `ahead`: what is behind the part that comes next at least;
@@ -27,6 +28,7 @@ mod ahead;
 mod barred;
 mod bound;
 mod costs;
+mod crowding;
 mod descent;
 mod diving;
 mod ending;

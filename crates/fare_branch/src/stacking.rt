@@ -13,6 +13,7 @@ ghost use Rattle.fare_branch.specs.Stack.{AreOver, AreHomes, IsUntilHome, IsOver
 ghost use Rattle.fare_branch.specs.Stack.{IsOpenUnit, may_come_to};
 
 use crate::costs::units_floor;
+use crate::crowding::is_crowded;
 use crate::ending::needs_more;
 use crate::joining::{first_place, is_stuck, part_count, standing_point};
 use crate::lasting::{Going, greater_of, over_lasts};
@@ -236,13 +237,17 @@ fn over_units(table: &Table, homing: &Homing, partial: &Partial) -> [Option<u64>
 
 /// A number that is at most the price of every completion of some first parts; nothing only where there is none. It
 /// knows that what begins must end: each open unit comes home, one inside the other, and so does each that begins
-/// behind.
+/// behind; and that one way fares whose rules don't combine with themselves can't be had more often than there are
+/// rules.
 pub fn stack_floor(table: &Table, homing: &Homing, partial: &Partial) -> Option<u64>
     requires homing { AreHomingsOf table.now.edition table.now.trip homing.now }
     requires made { IsMadeWith table.now partial.now }
     ensures { IsFloorAnswer table.now.edition table.now.trip partial.now result }
 {
     let _sectors = table.trip().count();
+    if is_crowded(table, homing, partial) {
+        return None;
+    }
     let spent = units_floor(table, partial.parts(), partial.greatest_unit());
     let behind = over_units(table, homing, partial);
     added(Some(spent), behind[partial.end()])

@@ -9,8 +9,8 @@ use Rattle.fare_bounds.specs.Covers.{rest_at}
 use Rattle.fare_homing.specs.declared.homing.Homing.{Homing}
 use Rattle.fare_homing.specs.declared.homing.Standing.{Standing}
 use Rattle.fare_homing.specs.Homing.{IsUpTo}
-use Rattle.fare_homing.specs.HomingRows.{AreClosings, AreJaws, AreWholes, IsOnward}
-use Rattle.fare_homing.specs.Rows.{cell, closing_from, jaw_from, no_standing, AreHomingsOf}
+use Rattle.fare_homing.specs.HomingRows.{AreClosings, AreHomings, AreJaws, AreWholes, IsOnward}
+use Rattle.fare_homing.specs.Rows.{cell, closing_from, jaw_from, no_standing}
 use Rattle.fare_homing.proofs.HomingRowLemmas.{closings_same, jaws_same, wholes_same}
 
 -- the numbers of a trip are known from a point on
@@ -21,7 +21,7 @@ pub record AreHomingsFrom (tariff : Tariff) (trip : Itinerary) (p : ℕ) (homing
   pub onward : (i : ℕ) → p ≤ i → i < count trip → IsOnward trip (cell homing.whole i) (rest_at homing.rest) i (rest_at homing.rest i)
   pub nothing : rest_at homing.rest (count trip) ≡ Some 0
 
-pub all_homings : (tariff : Tariff) (trip : Itinerary) (homing : Homing) → AreHomingsFrom tariff trip 0 homing → AreHomingsOf tariff trip homing
+pub all_homings : (tariff : Tariff) (trip : Itinerary) (homing : Homing) → AreHomingsFrom tariff trip 0 homing → AreHomings tariff trip (closing_from homing) (jaw_from homing) (cell homing.whole) (rest_at homing.rest)
 all_homings tariff trip homing known = record {
   wholes = λ i high. known.wholes i (omega arith) high;
   closes = λ c i low high. known.closes c i (omega arith) low high;
@@ -45,11 +45,11 @@ module _ (tariff : Tariff) (trip : Itinerary) (homing : Homing) (p : ℕ) (befor
     (wholes_here : AreWholes tariff trip (closing_from homing) (jaw_from homing) p (rest_at row)) (onward_here : IsOnward trip (rest_at row) (rest_at homing.rest) p number) where
   -- the whole units and the rest of the point are put
   abbrev pub half : Homing
-  half = record { standing = homing.standing; whole = set homing.whole p row; rest = set homing.rest p number }
+  half = record { standing = homing.standing; whole = set homing.whole p row; rest = set homing.rest p number; lonely = homing.lonely }
 
   -- and what is behind each point for a unit that stands there
   abbrev pub all : Homing
-  all = record { standing = set homing.standing p new; whole = set homing.whole p row; rest = set homing.rest p number }
+  all = record { standing = set homing.standing p new; whole = set homing.whole p row; rest = set homing.rest p number; lonely = homing.lonely }
 
   this_whole : (j : ℕ) → cell (set homing.whole p row) p j ≡ rest_at row j
   this_whole j = ap (λ (xs : List (Option ℕ)). slice_index_or xs j None) (get_or-set_same homing.whole p row [] long_whole)

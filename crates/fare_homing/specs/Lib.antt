@@ -5,4 +5,5 @@ pub mod Least
 pub mod Pairs
 pub mod HomingRows
 pub mod Legs
+pub mod Lonely
 pub mod Rows

@@ -1,5 +1,5 @@
 -- Rows: the numbers of homing by two points of a trip.
-use Rattle.std.specs.Prelude.{◌≡◌, ℕ, ◌≤◌, Bool, not, ◌&&◌, List, [], Option, Some, None, slice_index_or, if◌then◌else◌}
+use Rattle.std.specs.Prelude.{◌≡◌, ℕ, ◌≤◌, Bool, not, ◌&&◌, List, [], Option, None, slice_index_or, if◌then◌else◌}
 use Rattle.fare_trip.specs.Itinerary.{Itinerary, count, point}
 use Rattle.fare_tariff.specs.Tariff.{Tariff}
 use Rattle.fare_codes.specs.declared.country.Country.{Country}
@@ -9,6 +9,7 @@ use Rattle.fare_bounds.specs.Covers.{rest_at}
 use Rattle.fare_homing.specs.declared.homing.Homing.{Homing}
 use Rattle.fare_homing.specs.declared.homing.Standing.{Standing}
 use Rattle.fare_homing.specs.HomingRows.{AreHomings}
+use Rattle.fare_homing.specs.Lonely.{AreLonely}
 
 -- a number by its two points; none where there is no such row or place
 abbrev pub cell : List (List (Option ℕ)) → ℕ → ℕ → Option ℕ
@@ -26,10 +27,11 @@ closing_from homing c i j = cell (slice_index_or homing.standing c no_standing).
 abbrev pub jaw_from : Homing → ℕ → ℕ → ℕ → Option ℕ
 jaw_from homing c i j = cell (slice_index_or homing.standing c no_standing).jaw i j
 
--- the numbers of a trip are what its parts cost at least
-abbrev pub AreHomingsOf : Tariff → Itinerary → Homing → Type 0
-AreHomingsOf tariff trip homing =
-    AreHomings tariff trip (closing_from homing) (jaw_from homing) (cell homing.whole) (rest_at homing.rest)
+-- the numbers of a trip are what its parts cost at least, and its lonely fares have rules that combine with no fare of
+-- their own
+pub record AreHomingsOf (tariff : Tariff) (trip : Itinerary) (homing : Homing) : Type 0 where
+  pub known : AreHomings tariff trip (closing_from homing) (jaw_from homing) (cell homing.whole) (rest_at homing.rest)
+  pub lonely : AreLonely tariff homing.lonely
 
 -- the countries of the points of a trip
 abbrev pub AreCountries : Tariff → Itinerary → List (Option Country) → Type 0
@@ -50,7 +52,3 @@ heads_in countries a b home =
 -- else as a first one
 abbrev pub step_to : List (Option Country) → ℕ → (ℕ → Option ℕ) → (ℕ → Option ℕ) → ℕ → ℕ → Option ℕ
 step_to countries a first last home b = if heads_in countries a b home then last b else first b
-
--- no number is known of a trip but that nothing is behind its end
-abbrev pub AreNoHomings : ℕ → Homing → Type 0
-AreNoHomings count homing = rest_at homing.rest count ≡ Some 0

@@ -1,11 +1,12 @@
 //! Homing: what the parts behind a point of a trip cost at least until a unit comes home, at each later point.
 
-ghost use Rattle.std.specs.Prelude.{◌≡◌, ◌<◌};
+ghost use Rattle.std.specs.Prelude.{◌≡◌, ◌<◌, Some};
 ghost use Rattle.fare_bounds.specs.Covers.{rest_at};
-ghost use Rattle.fare_homing.specs.Rows.{cell, closing_from, jaw_from, AreHomingsOf, AreNoHomings};
+ghost use Rattle.fare_homing.specs.Rows.{cell, closing_from, jaw_from, AreHomingsOf};
 
 use crate::between::Start;
 use crate::legs::legs_behind;
+use crate::lonely::{MOST_LONELY, lonely_fares};
 use crate::nearness::countries_of;
 use crate::reaching::least_onward;
 use crate::standing::standing_at;
@@ -33,6 +34,9 @@ pub struct Homing {
     pub whole: [[Option<u64>; MOST_POINTS]; MOST_POINTS],
     /// All that is behind the point, where no unit is open.
     pub rest: [Option<u64>; MOST_POINTS],
+    /// The record number of one fare of each rule that doesn't combine end on end with itself, of the one way fares: of
+    /// as many rules as are told apart; 0 at the places that are free.
+    pub lonely: [u32; MOST_LONELY],
 }
 
 /// A number of a row by its point.
@@ -75,10 +79,11 @@ pub fn jaw_from(homing: &Homing, stand: usize, i: usize, home: usize) -> Option<
     }
 }
 
-/// The numbers of a trip of which none but the end is known.
-fn unknown(count: usize) -> Homing
+/// The numbers of a trip with its lonely fares, of which no other is known but that nothing is behind the end.
+fn unknown(count: usize, lonely: [u32; MOST_LONELY]) -> Homing
     requires { count < MOST_POINTS }
-    ensures { AreNoHomings count result }
+    ensures end { rest_at result.rest count ≡ Some 0 }
+    ensures lonely { result.lonely ≡ lonely }
 {
     let rows = [[None; MOST_POINTS]; MOST_POINTS];
     let none = Standing {
@@ -91,6 +96,7 @@ fn unknown(count: usize) -> Homing
         standing: [none; MOST_POINTS],
         whole: rows,
         rest,
+        lonely,
     }
 }
 
@@ -102,7 +108,7 @@ pub fn homing_of(table: &Table) -> Homing
     let count = trip.count();
     let countries = countries_of(table);
     let legs = legs_behind(table);
-    let mut homing = unknown(count);
+    let mut homing = unknown(count, lonely_fares(table));
     for c in (0..count).rev() {
         let start = Start {
             point: begin_after(trip, c),

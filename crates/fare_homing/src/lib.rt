@@ -8,6 +8,7 @@
 //! - `whole`: what one unit costs at least that begins behind a point;
 //! - `between`: what is behind a point until a unit closes, by a part between its first and its last;
 //! - `standing`: what is behind each point until a unit comes home that stands in the city of one point;
+//! - `lonely`: the rules of one way fares that don't combine with themselves;
 //! - `homing`: the numbers of a trip.
 //!
 //! Each of these stands on those above it.
@@ -16,6 +17,7 @@
 mod between;
 mod homing;
 mod legs;
+mod lonely;
 mod nearness;
 mod pairs;
 mod reaching;
@@ -23,5 +25,6 @@ mod standing;
 mod whole;
 
 pub use homing::{Homing, Standing, cell, closing_from, homing_of, jaw_from, number_at};
+pub use lonely::{MOST_LONELY, is_rule_of, rule_at};
 pub use nearness::are_near;
 pub use reaching::added;

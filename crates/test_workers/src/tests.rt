@@ -1,6 +1,7 @@
 //! The best construction by every number of workers.
 
 mod cases;
+mod lonely_rules;
 
 ghost use Rattle.std.specs.Prelude.{◌≤◌};
 ghost use Rattle.fare_drill.specs.declared.limits.TheConstants.{LAST_SEED};
@@ -16,6 +17,9 @@ use fare_split::{MOST_WORKERS, SplitQuoter};
 use fare_tariff::Edition;
 use fare_trip::{Trip, read_trip};
 use fare_units::{Construction, PlainQuoter, Quoter};
+use lonely_rules::{
+    A_DEAR_FARE_BESIDES, A_SECTOR_MORE_THAN_RULES, AS_MANY_RULES_AS_SECTORS, ONE_RULE_TOO_FEW,
+};
 use std::alloc::Global;
 use std::process::Abort;
 use std::test::Fail;
@@ -110,6 +114,21 @@ fn plain_best_is_found<R: Threads + Sync + Abort>(
     }
 }
 
+/// Finds no fare for a trip by any number of workers.
+fn nothing_is_found<R: Threads + Sync + Abort>(
+    rt: &R,
+    alloc: Global,
+    edition: &Edition,
+    trip: &Trip,
+) -> Result<(), Fail> {
+    for workers in 1..MOST_WORKERS + 1 {
+        let quoter = SplitQuoter::new(workers, &OpenGate);
+        let found = quoter.quote(rt, alloc, edition, trip)?;
+        assert!(rt; found.is_none(), "{workers} workers");
+    }
+    Ok(())
+}
+
 #[test]
 fn trips_of_outside(rt: HostRuntime) -> Result<(), Fail> {
     for case in &CASES {
@@ -137,6 +156,22 @@ fn generated_trip_of_one_sector(rt: HostRuntime) -> Result<(), Fail> {
     is_found_by_all(&rt, rt.alloc(), &edition, &trip, 23_113, &parts)
 }
 
+/// Compares what all numbers of workers find of a trip with what one search alone does, and gives its price.
+fn price_by_all<R: Threads + Sync + Abort>(
+    rt: &R,
+    alloc: Global,
+    edition: &Edition,
+    trip: &Trip,
+) -> Result<u64, Fail> {
+    match BranchQuoter.quote(rt, alloc, edition, trip)? {
+        None => Err(Fail::from("no fare")),
+        Some((best, price)) => {
+            is_found_by_all(rt, alloc, edition, trip, price, best.parts())?;
+            Ok(price)
+        }
+    }
+}
+
 /// Compares what all numbers of workers find of a generated trip of sixteen sectors with what one search alone does.
 fn long_trip_is_found<R: Threads + Sync + Abort>(
     rt: &R,
@@ -146,10 +181,8 @@ fn long_trip_is_found<R: Threads + Sync + Abort>(
     requires { seed ≤ LAST_SEED }
 {
     let (edition, trip) = drill_input(rt, alloc, seed, 16, 0)?;
-    match BranchQuoter.quote(rt, alloc, &edition, &trip)? {
-        None => Err(Fail::from("no fare")),
-        Some((best, price)) => is_found_by_all(rt, alloc, &edition, &trip, price, best.parts()),
-    }
+    let _price = price_by_all(rt, alloc, &edition, &trip)?;
+    Ok(())
 }
 
 #[test]
@@ -157,5 +190,37 @@ fn generated_trips_of_sixteen_sectors(rt: HostRuntime) -> Result<(), Fail> {
     for seed in 1..3 {
         long_trip_is_found(&rt, rt.alloc(), seed)?;
     }
+    Ok(())
+}
+
+#[test]
+fn trip_of_as_many_rules_as_sectors(rt: HostRuntime) -> Result<(), Fail> {
+    plain_best_is_found(&rt, rt.alloc(), &AS_MANY_RULES_AS_SECTORS)
+}
+
+#[test]
+fn trip_of_a_sector_more_than_rules(rt: HostRuntime) -> Result<(), Fail> {
+    let input = &A_SECTOR_MORE_THAN_RULES;
+    let (edition, trip) = input_of(&rt, rt.alloc(), input.tariff, input.itinerary)?;
+    let plain = PlainQuoter.quote(&rt, rt.alloc(), &edition, &trip)?;
+    assert!(rt; plain.is_none());
+    nothing_is_found(&rt, rt.alloc(), &edition, &trip)
+}
+
+/// Without a count of the rules that are left, lists in each order of the fifteen rules would be walked.
+#[test]
+fn trip_of_sixteen_sectors_with_a_rule_too_few(rt: HostRuntime) -> Result<(), Fail> {
+    let input = &ONE_RULE_TOO_FEW;
+    let (edition, trip) = input_of(&rt, rt.alloc(), input.tariff, input.itinerary)?;
+    nothing_is_found(&rt, rt.alloc(), &edition, &trip)
+}
+
+/// Each sector by the dear fare. The lists that begin with another one would be walked in each order of the rules too.
+#[test]
+fn trip_of_twelve_sectors_by_a_dear_fare(rt: HostRuntime) -> Result<(), Fail> {
+    let input = &A_DEAR_FARE_BESIDES;
+    let (edition, trip) = input_of(&rt, rt.alloc(), input.tariff, input.itinerary)?;
+    let price = price_by_all(&rt, rt.alloc(), &edition, &trip)?;
+    assert!(rt; price == 12 * 50_000, "{price}");
     Ok(())
 }

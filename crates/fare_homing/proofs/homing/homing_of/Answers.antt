@@ -4,6 +4,7 @@ use Rattle.fare_trip.specs.Itinerary.{count}
 use Rattle.fare_rules.specs.Construction.{begin_after}
 use Rattle.fare_bounds.specs.Covers.{rest_at}
 use Rattle.fare_homing.specs.Legs.{AreLegsOf, no_legs}
+use Rattle.fare_homing.specs.Lonely.{AreLonely}
 use Rattle.fare_homing.proofs.HomingLemmas.{AreHomingsFrom, all_homings, no_homings, put_homings}
 use Rattle.fare_homing.proofs.homing.homing_of.Goals as goal
 
@@ -23,7 +24,8 @@ loop-c-init c =
       long_standing = search rules;
       long_whole = search rules;
       long_rest = search rules;
-      known = subst P (sym last) (no_homings c.args.table.now.edition c.args.table.now.trip c.unknown-homing.result (subst (λ n. rest_at c.unknown-homing.result.rest n ≡ Some 0) last c.unknown-homing.ensures));
+      known = subst P (sym last) (no_homings c.args.table.now.edition c.args.table.now.trip c.unknown-homing.result (subst (λ n. rest_at c.unknown-homing.result.rest n ≡ Some 0) last c.unknown-homing.ensures.end));
+      lonely = subst (AreLonely c.args.table.now.edition) (sym c.unknown-homing.ensures.lonely) c.lonely_fares.ensures;
     }
 
 pub loop-c-preserved : goal.loop-c-preserved
@@ -43,10 +45,14 @@ loop-c-preserved c =
       known = put_homings tariff trip homing place (omega arith) c.wholes_at-whole.result c.least_onward.result c.standing_at-standing.result
           (omega (arith, known.long_standing, c.count-count.ensures.at_most)) (omega (arith, known.long_whole, c.count-count.ensures.at_most)) (omega (arith, known.long_rest, c.count-count.ensures.at_most)) (subst From next known.known)
           c.wholes_at-whole.ensures (λ b x y past within up more. c.least_onward.ensures b x y past (omega arith) up more) c.standing_at-standing.ensures.closes c.standing_at-standing.ensures.ends;
+      lonely = known.lonely;
     }
 
 pub returns : goal.returns
 returns c =
     let done : c.loop-c.c ≡ 0 = omega arith in
     let P : ℕ → Type 0 = λ first. AreHomingsFrom c.args.table.now.edition c.args.table.now.trip first c.loop-c.homing in
-    all_homings c.args.table.now.edition c.args.table.now.trip c.loop-c.homing (subst P done c.loop-c.invariant.known)
+    record {
+      known = all_homings c.args.table.now.edition c.args.table.now.trip c.loop-c.homing (subst P done c.loop-c.invariant.known);
+      lonely = c.loop-c.invariant.lonely;
+    }

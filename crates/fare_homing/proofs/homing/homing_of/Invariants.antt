@@ -1,5 +1,6 @@
 -- the numbers are known from this point on
 use Rattle.std.proofs.Common.{◌≡◌, length}
+use Rattle.fare_homing.specs.Lonely.{AreLonely}
 use Rattle.fare_homing.proofs.HomingLemmas.{AreHomingsFrom}
 use Rattle.fare_homing.proofs.homing.homing_of.Given as goal
 
@@ -9,4 +10,5 @@ invariant-loop-c l = record {
   long_whole : length l.homing.whole ≡ 17;
   long_rest : length l.homing.rest ≡ 17;
   known : AreHomingsFrom l.table.edition l.table.trip l.c l.homing;
+  lonely : AreLonely l.table.edition l.homing.lonely;
 }
