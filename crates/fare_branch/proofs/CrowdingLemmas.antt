@@ -30,7 +30,8 @@ use Rattle.fare_branch.specs.Crowding.{AreNeeds, bars_rule, combines_with, leave
 use Rattle.fare_branch.specs.Floors.{HasNoCompletion}
 use Rattle.fare_branch.proofs.CostLemmas.{unit_from_one}
 use Rattle.fare_branch.proofs.GoesOnLemmas.{not_so}
-use Rattle.fare_branch.proofs.OverLemmas.{point_behind, behind_next, behind_all, behind_front, begins_next, part_rises}
+use Rattle.fare_branch.proofs.OverLemmas.{behind_next, behind_all, behind_front, begins_next, part_rises}
+use Rattle.fare_branch.proofs.StandLemmas.{point_behind}
 use Rattle.fare_branch.proofs.SameLemmas.{fare_same}
 use Rattle.fare_branch.proofs.ShutLemmas.{any_at, both_true}
 use Rattle.fare_branch.proofs.SumLemmas.{range_member}
