@@ -4,6 +4,7 @@ ghost use Rattle.std.specs.Prelude.{◌≡◌, [], IfOk};
 
 mod computed;
 mod further;
+mod store_faults;
 mod worked;
 
 use computed::COMPUTED;

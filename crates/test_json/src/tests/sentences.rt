@@ -6,6 +6,7 @@ use fare_csv::TextFault;
 use fare_sentences::{Fault, OneMethod, fault_of_audit, fault_text, fault_words, push_broken};
 use fare_trip::{Member, TripFault};
 use std::alloc::Global;
+use std::process::Abort;
 use std::test::Fail;
 
 /// A refusal, its plain line and its sentence.
@@ -16,8 +17,8 @@ struct Case {
     words: &'static str,
 }
 
-/// Refusals with their plain lines and their sentences.
-fn refusals() -> [Case; 12] {
+/// Refusals of an itinerary, with their plain lines and their sentences.
+fn of_itineraries() -> [Case; 3] {
     [
         Case {
             fault: Fault::Trip(TripFault::Missing(Member::Sale, 0)),
@@ -34,6 +35,12 @@ fn refusals() -> [Case; 12] {
             text: "TRIP Bad from 0",
             words: "the member from of the itinerary has to be three letters A to Z, as a string",
         },
+    ]
+}
+
+/// The same of a request.
+fn of_requests() -> [Case; 5] {
+    [
         Case {
             fault: Fault::NoBatch,
             text: "TRIP Bad trip 0",
@@ -50,11 +57,6 @@ fn refusals() -> [Case; 12] {
             words: "the first 147 bytes of the line begin a calculation line, and no more of them do",
         },
         Case {
-            fault: Fault::SourceLimit(65_536),
-            text: "LIMIT",
-            words: "the source holds more than 65536 bytes",
-        },
-        Case {
             fault: Fault::NoRoute,
             text: "NO ROUTE",
             words: "nothing is at this path",
@@ -63,6 +65,17 @@ fn refusals() -> [Case; 12] {
             fault: Fault::Method(OneMethod::Post),
             text: "METHOD",
             words: "this path takes POST alone",
+        },
+    ]
+}
+
+/// The same of a source or a store.
+fn of_sources_and_stores() -> [Case; 4] {
+    [
+        Case {
+            fault: Fault::SourceLimit(65_536),
+            text: "LIMIT",
+            words: "the source holds more than 65536 bytes",
         },
         Case {
             fault: Fault::ReadFault,
@@ -82,19 +95,23 @@ fn refusals() -> [Case; 12] {
     ]
 }
 
-/// Whether a refusal has its plain line and its sentence.
-fn holds(alloc: Global, case: &Case) -> Result<bool, Fail> {
-    let text = fault_text(alloc, &case.fault)?;
-    let words = fault_words(alloc, &case.fault)?;
-    Ok(text.as_slice() == case.text.as_bytes() && words.as_slice() == case.words.as_bytes())
+/// Compares each refusal with its plain line and its sentence.
+fn have_their_words<R: Abort>(rt: &R, alloc: Global, cases: &[Case]) -> Result<(), Fail> {
+    for case in cases {
+        let text = fault_text(alloc, &case.fault)?;
+        assert!(rt; text.as_slice() == case.text.as_bytes(), "{}", case.text);
+        let words = fault_words(alloc, &case.fault)?;
+        assert!(rt; words.as_slice() == case.words.as_bytes(), "{}", case.text);
+    }
+    Ok(())
 }
 
 #[test]
 fn refusals_have_their_words(rt: HostRuntime) -> Result<(), Fail> {
-    for case in &refusals() {
-        assert!(rt; holds(rt.alloc(), case)?, "{}", case.words);
-    }
-    Ok(())
+    let alloc = rt.alloc();
+    have_their_words(&rt, alloc, &of_itineraries())?;
+    have_their_words(&rt, alloc, &of_requests())?;
+    have_their_words(&rt, alloc, &of_sources_and_stores())
 }
 
 #[test]
