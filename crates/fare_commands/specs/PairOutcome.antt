@@ -1,5 +1,5 @@
 -- What a command that names two editions of a store answers: which records differ, or what trips cost in both.
-use Rattle.std.specs.Prelude.{◌≡◌, ℕ, List, Result, Ok, Err, MatchResult, MatchOption, MatchBool, nat_lt, length}
+use Rattle.std.specs.Prelude.{◌≡◌, ℕ, List, Ok, Err, MatchResult, MatchOption, MatchBool, nat_lt, length}
 use Rattle.serde_json.specs.Data.{Items}
 use Rattle.fare_tariff.specs.Tariff.{Tariff}
 use Rattle.fare_book.specs.Book.{numbered}

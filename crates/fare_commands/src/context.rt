@@ -1,6 +1,6 @@
 //! What every command works with.
 
-ghost use Rattle.std.specs.Prelude.{◌<◌};
+ghost use Rattle.std.specs.Prelude.{◌≡◌, ◌<◌};
 
 use fare_split::{SplitQuoter, Turnstile};
 use std::alloc::Global;
@@ -19,7 +19,8 @@ pub struct Context<'c, R> {
 impl<R> Context<'_, R> {
     /// The most threads on which searches run side by side: one for each worker.
     pub(crate) fn threads(&self) -> usize
-        ensures { 0 < result }
+        ensures workers { result ≡ self.now.quoter.now.workers }
+        ensures some { 0 < result }
     {
         let quoter = self.quoter;
         quoter.workers as usize

@@ -1,6 +1,5 @@
 //! The command `export`.
 
-ghost use Rattle.std.specs.Prelude.{◌≡◌};
 ghost use Rattle.fare_outside.specs.Keeper.{BodiesStay, WhereTold};
 ghost use Rattle.fare_commands.specs.Answer.{IsDoneOr};
 ghost use Rattle.fare_commands.specs.Ends.{IsRefusalOfExport};
