@@ -52,8 +52,7 @@ pub fn answer<R: Threads + Sync, S: Source, P: Keeper, D: Door, W: Watch>(
         (S.left src.old) (S.left src.new) (S.faults src.old) (S.faults src.new) }
 
     ensures store { LeavesStore asked.now → store.new ≡ store.old }
-    ensures bodies { WhereTold (P.bodies store.old) (P.bodies store.new)
-        (LeavesBodies asked.now (S.left src.old)) }
+    ensures bodies { WhereTold (P.bodies store.old) (P.bodies store.new) (LeavesBodies asked.now (S.left src.old)) }
     ensures refused { IfErr result (λ exit. LeavesBodiesAt asked.now exit →
         WhereTold (P.bodies store.old) (P.bodies store.new) BodiesStay) }
     ensures name { IfSome (store_of asked.now) (λ name.
