@@ -109,4 +109,5 @@ row_at rows number = slice_index_or rows (number - 1) []
 unfoldable pub tariff_words : List ℕ → TextFault → List ℕ
 tariff_words text found =
     codes "record " ++ decimal (number_of found) ++ codes ": "
-    ++ sentence (version_of (rows_of text)) (filed_records (rows_of text)) (row_at (rows_of text) (number_of found)) found
+    ++ sentence (version_of (rows_of text)) (filed_records (rows_of text)) (row_at (rows_of text) (number_of found))
+    found

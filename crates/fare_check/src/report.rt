@@ -1,6 +1,7 @@
 //! The report of faults, of which the first are shown and the others counted.
 
-ghost use Rattle.std.specs.Prelude.{◌≡◌, ℕ, ◌+◌, ◌≤◌, [], ◌∷◌, ◌++◌, List, length, nat_le, IfOk, OnOk, Some, None};
+ghost use Rattle.std.specs.Prelude.{◌≡◌, ◌+◌, ◌≤◌, ◌++◌, ◌∷◌, [], ℕ, List, length, nat_le, Some, None};
+ghost use Rattle.std.specs.Prelude.{IfOk, OnOk};
 ghost use Rattle.fare_check.specs.CheckText.{line_of, lines_text, more_line};
 ghost use Rattle.fare_check.specs.Reports.{WasTold, finished};
 

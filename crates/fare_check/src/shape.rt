@@ -1,7 +1,8 @@
 //! The shapes of records: how many fields the record of each kind has, and which they are.
 
 ghost use Rattle.std.specs.Prelude.{◌≡◌, length};
-ghost use Rattle.fare_check.specs.Shapes.{fare_shape, field_at, fields_of, kind_shape, right_words, shape_of, shape_words};
+ghost use Rattle.fare_check.specs.Shapes.{fare_shape, field_at, fields_of, kind_shape, right_words, shape_of};
+ghost use Rattle.fare_check.specs.Shapes.{shape_words};
 
 use crate::field_name::FieldName;
 use fare_csv::{RecordKind, Row, Version, is_end, is_head};

@@ -48,8 +48,8 @@ fn row_at(alloc: Global, bytes: &[u8], number: u32) -> Result<Row, NoMemory>
 }
 
 /// The number of the record that has a fault of a text, and the fault's sentence: `record {record}: {sentence}`. The
-/// fault that is wanted is the first of this text, as the reading of its edition or `check_text` answers it: the sentence
-/// is made from the record of the fault's number, and from the cities that the text files.
+/// fault that is wanted is the first of this text, as the reading of its edition or `check_text` answers it: the
+/// sentence is made from the record of the fault's number, and from the cities that the text files.
 #[tactic(auto, unfolding(crate::specs::Sentences::tariff_words))]
 pub fn tariff_words<R: Threads + Sync>(
     rt: &R,

@@ -1,5 +1,3 @@
-pub mod MigrationLemmas
-pub mod PublicationLemmas
 pub mod ToldLemmas
 pub mod ProgramLemmas
 pub mod WithinLemmas

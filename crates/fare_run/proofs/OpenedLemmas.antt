@@ -1,13 +1,15 @@
 -- By which name a run opened its store, from what its command came to.
-use Rattle.std.proofs.Common.{◌≡◌, ◌≤◌, inl, inr, ℕ, Bool, true, false, List, [], Option, Some, refl, ap, subst, length, suc, arith}
+use Rattle.std.proofs.Common.{◌≡◌, ◌≤◌, inl, inr, ℕ, Bool, true, false, List, [], Option, Some, refl, ap, subst, length}
+use Rattle.std.proofs.Common.{suc, arith}
 use Rattle.std.specs.Prelude.{IfSome}
 use Rattle.fare_words.specs.declared.command.Command.{Command}
 use Rattle.fare_words.specs.declared.command.Command.TheVariants as command
 use Rattle.fare_outside.specs.Sink.{AppendsPrefix}
-use Rattle.fare_run.specs.declared.exit.Exit.{Exit}
-use Rattle.fare_run.specs.declared.exit.Exit.TheVariants as ended
-use Rattle.fare_run.specs.Answer.{ExitAndText}
-use Rattle.fare_run.specs.Opened.{IsNamed, IsNamedAt, MayComeBefore, OpensNamed, store_of}
+use Rattle.fare_commands.specs.declared.exit.Exit.{Exit}
+use Rattle.fare_commands.specs.declared.exit.Exit.TheVariants as ended
+use Rattle.fare_commands.specs.Answer.{ExitAndText}
+use Rattle.fare_commands.specs.Opened.{IsNamed, MayComeBefore}
+use Rattle.fare_run.specs.Opened.{IsNamedAt, OpensNamed, store_of}
 use Rattle.fare_run.specs.Refusal.{IsSilent, TellsTariff, wants_json}
 use Rattle.fare_run.specs.Run.{Writes}
 
@@ -62,10 +64,12 @@ run_named (Some (command.Publish store)) ending exit old new before after is sil
     (λ plain early. silent (silent_before (Some (command.Publish store)) ending.exit (λ none. none) plain early)) writes
 run_named (Some (command.List store json)) ending exit old new before after is silent writes =
     written_named json store old new ending exit before after is
-    (λ plain early. silent (silent_before (Some (command.List store json)) ending.exit (λ none. none) plain early)) writes
+    (λ plain early. silent (silent_before (Some (command.List store json)) ending.exit (λ none. none) plain early))
+    writes
 run_named (Some (command.Export store edition)) ending exit old new before after is silent writes =
     written_named false store old new ending exit before after is
-    (λ plain early. silent (silent_before (Some (command.Export store edition)) ending.exit (λ none. none) plain early)) writes
+    (λ plain early. silent (silent_before (Some (command.Export store edition)) ending.exit (λ none. none) plain early))
+    writes
 run_named (Some (command.Quote store workers what json)) ending exit old new before after is silent writes =
     written_named json store old new ending exit before after is
     (λ plain early. silent
@@ -79,7 +83,8 @@ run_named (Some (command.Migrate store)) ending exit old new before after is sil
     (λ plain early. silent (silent_before (Some (command.Migrate store)) ending.exit (λ none. none) plain early)) writes
 run_named (Some (command.Diff store from to)) ending exit old new before after is silent writes =
     written_named false store old new ending exit before after is
-    (λ plain early. silent (silent_before (Some (command.Diff store from to)) ending.exit (λ none. none) plain early)) writes
+    (λ plain early. silent (silent_before (Some (command.Diff store from to)) ending.exit (λ none. none) plain early))
+    writes
 run_named (Some (command.Compare store from to workers)) ending exit old new before after is silent writes =
     written_named false store old new ending exit before after is
     (λ plain early. silent
@@ -88,7 +93,8 @@ run_named other ending exit old new before after is silent writes = tt
 
 -- the same for the words that gave the command
 pub run_named_as : (asked wanted : Option Command) (ending : ExitAndText) (exit : Exit) (old new : Name)
-    (before after : Option (List ℕ)) → asked ≡ wanted → IfSome (store_of asked) (λ name. IsNamed name old new ending.exit)
+    (before after : Option (List ℕ)) → asked ≡ wanted → IfSome (store_of asked)
+    (λ name. IsNamed name old new ending.exit)
     → (IsSilent asked ending.exit → ending.text ≡ []) → Writes ending exit before after → OpensNamed wanted old new exit
 run_named_as asked wanted ending exit old new before after same is silent writes =
     subst (λ one. OpensNamed one old new exit) same (run_named asked ending exit old new before after is silent writes)

@@ -4,8 +4,8 @@ use Rattle.fare_sentences.specs.declared.fault.Fault.{Fault}
 use Rattle.fare_sentences.specs.declared.fault.Fault.TheVariants as fault
 use Rattle.fare_json.specs.FaultData.{fault_data}
 use Rattle.fare_json.specs.JsonText.{json_line}
-use Rattle.fare_run.specs.declared.exit.Exit.{Exit}
-use Rattle.fare_run.specs.declared.exit.Exit.TheVariants as ended
+use Rattle.fare_commands.specs.declared.exit.Exit.{Exit}
+use Rattle.fare_commands.specs.declared.exit.Exit.TheVariants as ended
 
 -- the fault of an end, with the most bytes that the source may hold. The first fault of a tariff text is told with that
 -- text

@@ -1,48 +1,22 @@
--- What a run answers to its words, the bytes of its source and the bodies of its store. Each definition looks at one
--- thing, in the order in which the refusals come: the words, the length of the source, its tariff, its itinerary, and
--- its quotation.
-use Rattle.std.specs.Prelude.{◌≡◌, ℕ, Bool, List, [], ◌∷◌, Option, Some, None, Result, Err, MatchResult, MatchBool}
-use Rattle.std.specs.Prelude.{nat_lt, length, ⊤}
+-- What a run answers to its words, the bytes of its source and the bodies of its store.
+use Rattle.std.specs.Prelude.{◌≡◌, ℕ, List, Option, Some, None, Err, ⊤}
 use Rattle.fare_words.specs.Words.{command_of}
-use Rattle.fare_words.specs.declared.asked.Asked.{Asked}
 use Rattle.fare_words.specs.declared.command.Command.{Command}
 use Rattle.fare_words.specs.declared.command.Command.TheVariants as command
-use Rattle.fare_trip.specs.Itinerary.{Itinerary}
-use Rattle.fare_trip.specs.declared.fault.TripFault.{TripFault}
-use Rattle.fare_tariff.specs.Tariff.{Tariff}
-use Rattle.fare_csv.specs.TariffText.{edition_of}
-use Rattle.fare_run.specs.declared.exit.Exit.TheVariants as ended
-use Rattle.fare_run.specs.Answer.{Answer}
-use Rattle.fare_run.specs.CheckOutcome.{AnswersCheck, tariff_refusal}
-use Rattle.fare_run.specs.DrillOutcome.{Drills}
-use Rattle.fare_run.specs.Input.{itinerary_text, tariff_text, itinerary_of}
-use Rattle.fare_run.specs.Limits.{price_limit}
-use Rattle.fare_run.specs.PairOutcome.{AnswersCompare, AnswersDiff}
-use Rattle.fare_run.specs.StoreOutcome.{AnswersMigrate, AnswersOver, AnswersPublish, AnswersQuote, AnswersTrip, Exports}
-use Rattle.fare_run.specs.StoreOutcome.{Lists, OverStore, ReadsStore, RefusalLeaves, Told}
-
--- the answer to an itinerary over the book of one edition: `BadTrip` of its first fault, if it has one
-abbrev pub AnswersItinerary : Asked → Bool → Tariff → Result Itinerary TripFault → Answer → Type 0
-AnswersItinerary asked json tariff itinerary answer =
-    MatchResult itinerary (λ trip. AnswersTrip asked json trip (tariff ∷ []) answer)
-    (λ fault. answer ≡ Err (ended.BadTrip fault))
-
--- the answer to a source that isn't too long: `BadTariff` of the first fault of its tariff text, if that has one
-unfoldable pub AnswersSource : Asked → Bool → List ℕ → Answer → Type 0
-AnswersSource asked json source answer =
-    MatchResult (edition_of (tariff_text source))
-    (λ tariff. AnswersItinerary asked json tariff (itinerary_of (itinerary_text source)) answer)
-    (λ fault. answer ≡ tariff_refusal json (tariff_text source) fault)
-
--- the answer to the source of `price`: `Limit` where it holds more bytes than that
-abbrev pub AnswersPrice : Asked → Bool → List ℕ → Answer → Type 0
-AnswersPrice asked json source answer =
-    MatchBool (nat_lt price_limit (length source)) (answer ≡ Err ended.Limit) (AnswersSource asked json source answer)
+use Rattle.fare_commands.specs.declared.exit.Exit.TheVariants as ended
+use Rattle.fare_commands.specs.Answer.{Answer}
+use Rattle.fare_commands.specs.CheckOutcome.{AnswersCheck}
+use Rattle.fare_commands.specs.DrillOutcome.{Drills}
+use Rattle.fare_commands.specs.PairOutcome.{AnswersCompare, AnswersDiff}
+use Rattle.fare_commands.specs.PriceOutcome.{AnswersPrice}
+use Rattle.fare_commands.specs.StoreOutcome.{AnswersMigrate, AnswersOver, AnswersPublish, AnswersQuote, Exports, Lists}
+use Rattle.fare_commands.specs.StoreOutcome.{OverStore, ReadsStore, RefusalLeaves, Told}
 
 -- the answer to a command, with the bodies of the store that are told before and after: `Usage` where the words aren't
 -- taken. What `serve` answers depends on its door too, and is said by `EndsServing`
 abbrev pub AnswersCommand : Option Command → List ℕ → Told → Told → Answer → Type 0
-AnswersCommand (Some (command.Price workers asked json)) source before after answer = AnswersPrice asked json source answer
+AnswersCommand (Some (command.Price workers asked json)) source before after answer =
+    AnswersPrice asked json source answer
 AnswersCommand (Some (command.Publish store)) source before after answer =
     OverStore before after (λ bodies left. AnswersPublish source bodies left answer × RefusalLeaves answer bodies left)
 AnswersCommand (Some (command.List store json)) source before after answer =

@@ -2,9 +2,10 @@
 use Rattle.std.specs.Prelude.{◌≡◌, ◌⊎◌, ℕ, Bool, true, false, List, [], Option, Some, Ok, Err, ⊤}
 use Rattle.fare_words.specs.declared.command.Command.{Command}
 use Rattle.fare_words.specs.declared.command.Command.TheVariants as command
-use Rattle.fare_run.specs.declared.exit.Exit.{Exit}
-use Rattle.fare_run.specs.declared.exit.Exit.TheVariants as ended
-use Rattle.fare_run.specs.Answer.{Answer, ExitAndText}
+use Rattle.fare_commands.specs.declared.exit.Exit.{Exit}
+use Rattle.fare_commands.specs.declared.exit.Exit.TheVariants as ended
+use Rattle.fare_commands.specs.Answer.{Answer, ExitAndText}
+use Rattle.fare_commands.specs.CheckOutcome.{OwnExit}
 use Rattle.fare_run.specs.JsonFault.{fault_of, told_fault}
 use Rattle.fare_run.specs.Limits.{limit_of}
 
@@ -46,12 +47,6 @@ abbrev pub TellsTariff : Option Command → Type 0
 TellsTariff (Some (command.Price workers asked json)) = json ≡ true
 TellsTariff (Some command.Check) = ⊤
 TellsTariff other = ⊥
-
--- an end that has a text of its own: `Done`, and `BadTariff` where a text tells it
-abbrev pub OwnExit : Type 0 → Exit → Type 0
-OwnExit tells ended.Done = ⊤
-OwnExit tells (ended.BadTariff fault) = tells
-OwnExit tells other = ⊥
 
 -- an end of a command that has a text of its own
 abbrev pub HasOwnText : Option Command → Exit → Type 0

@@ -1,24 +1,18 @@
 -- How a run ends, whatever happens to its reads, its writes and the calls of its store.
-use Rattle.std.specs.Prelude.{◌≡◌, ◌≢◌, ◌⊎◌, ℕ, List, Option, Some, None, Ok, false, length, nat_lt, ⊤}
+use Rattle.std.specs.Prelude.{◌≡◌, ◌≢◌, ◌⊎◌, ℕ, List, Option, Some, None, ⊤}
 use Rattle.std.specs.Io.KnownBytes.{Appends}
-use Rattle.fare_outside.specs.Keeper.{BodiesStay, BodyAppended}
+use Rattle.fare_outside.specs.Keeper.{BodiesStay}
 use Rattle.fare_outside.specs.Sink.{AppendsPrefix}
 use Rattle.fare_words.specs.declared.command.Command.{Command}
 use Rattle.fare_words.specs.declared.command.Command.TheVariants as command
-use Rattle.fare_trip.specs.Itinerary.{Itinerary}
-use Rattle.fare_trip.specs.ItineraryText.{read_trip}
-use Rattle.fare_tariff.specs.Tariff.{Tariff}
-use Rattle.fare_csv.specs.TariffText.{edition_of}
-use Rattle.fare_csv.specs.CanonicalText.{canonical_text}
-use Rattle.fare_book.specs.Editions.{editions_of}
-use Rattle.fare_book.specs.Publish.{IsNewTo, IsReadable}
-use Rattle.fare_run.specs.declared.exit.Exit.{Exit}
-use Rattle.fare_run.specs.declared.exit.Exit.TheVariants as ended
-use Rattle.fare_run.specs.Answer.{Answer, ExitAndText}
+use Rattle.fare_commands.specs.declared.exit.Exit.{Exit}
+use Rattle.fare_commands.specs.declared.exit.Exit.TheVariants as ended
+use Rattle.fare_commands.specs.Answer.{Answer, ExitAndText}
+use Rattle.fare_commands.specs.Limits.{compare_limit, publish_limit, quote_limit}
+use Rattle.fare_commands.specs.Publication.{MayPublish, PublishesNothing}
+use Rattle.fare_commands.specs.Readable.{HoldsBatch, HoldsItinerary, HoldsTariff}
+use Rattle.fare_commands.specs.StoreOutcome.{Bodies, MayMigrate}
 use Rattle.fare_run.specs.Refusal.{no_memory, outcome_by, refusal}
-use Rattle.fare_run.specs.Limits.{compare_limit, publish_limit, quote_limit}
-use Rattle.fare_run.specs.PairOutcome.{IsBatch}
-use Rattle.fare_run.specs.StoreOutcome.{Bodies, MayMigrate}
 
 -- a call failed, of the source, the store or the door, which is what a run ended in
 abbrev pub HasFailed : Type 0 → Type 0 → Type 0 → Exit → Type 0
@@ -50,14 +44,6 @@ ServesNobodyAt ended.WriteFault = ⊥
 ServesNobodyAt ended.DoorFault = ⊥
 ServesNobodyAt other = ⊤
 
--- an end on which nothing is published: every one but `Done`, `WriteFault`, `KeeperFault` and `DoorFault`
-abbrev pub PublishesNothing : Exit → Type 0
-PublishesNothing ended.Done = ⊥
-PublishesNothing ended.WriteFault = ⊥
-PublishesNothing ended.KeeperFault = ⊥
-PublishesNothing ended.DoorFault = ⊥
-PublishesNothing other = ⊤
-
 -- a migration isn't cut off by want of memory, which may be between two bodies
 abbrev pub IsUncut : Option Command → Exit → Type 0
 IsUncut (Some (command.Migrate store)) exit = exit ≢ ended.Memory
@@ -66,36 +52,6 @@ IsUncut other exit = ⊤
 -- an end of a command on which the bodies stay: nothing is published, and no migration is cut off
 abbrev pub LeavesBodiesAt : Option Command → Exit → Type 0
 LeavesBodiesAt asked exit = PublishesNothing exit × IsUncut asked exit
-
--- the bodies stand for editions, the source for an edition that is new to these, and its canonical text was put behind
--- the bodies
-pub record AddsEdition (source : List ℕ) (old new : Bodies) : Type 0 where
-  pub edition : Tariff
-  pub editions : List Tariff
-  pub readable : edition_of source ≡ Ok edition
-  pub stored : editions_of old ≡ Ok editions
-  pub is_new : IsNewTo editions edition
-  pub appended : BodyAppended (canonical_text edition) old new
-
--- the bodies are as before, or have the canonical text of the source's edition at the end, which is new to them
-abbrev pub MayPublish : List ℕ → Bodies → Bodies → Type 0
-MayPublish source old new = BodiesStay old new ⊎ AddsEdition source old new
-
--- a source that is read up to a limit holds no more, and a tariff text without a fault
-abbrev pub HoldsTariff : ℕ → List ℕ → Type 0
-HoldsTariff limit source = (nat_lt limit (length source) ≡ false) × IsReadable source
-
--- a text stands for a trip
-abbrev pub IsItinerary : List ℕ → Type 0
-IsItinerary text = (trip : Itinerary) × (read_trip text ≡ Ok trip)
-
--- a source that is read up to a limit holds no more, and an itinerary without a fault
-abbrev pub HoldsItinerary : ℕ → List ℕ → Type 0
-HoldsItinerary limit source = (nat_lt limit (length source) ≡ false) × IsItinerary source
-
--- a source that is read up to a limit holds no more, and is a JSON array
-abbrev pub HoldsBatch : ℕ → List ℕ → Type 0
-HoldsBatch limit source = (nat_lt limit (length source) ≡ false) × IsBatch source
 
 -- the source of a command that also uses a store is within its limit and without a fault: a failure of the store comes
 -- behind these

@@ -7,11 +7,11 @@ use Rattle.fare_outside.specs.Keeper.{BodiesStay, WhereTold}
 use Rattle.fare_outside.specs.Sink.{AppendsPrefix}
 use Rattle.fare_book.specs.Book.{BookState}
 use Rattle.fare_serve.specs.Desk.{CounterServesAll, CounterServesSome, World, world_of}
-use Rattle.fare_run.specs.declared.exit.Exit.{Exit}
-use Rattle.fare_run.specs.declared.exit.Exit.TheVariants as ended
-use Rattle.fare_run.specs.Answer.{Answer, ExitAndText}
-use Rattle.fare_run.specs.StoreOutcome.{Told}
-use Rattle.fare_run.specs.StoreSteps.{AreStored, IsEndOfOpening}
+use Rattle.fare_commands.specs.declared.exit.Exit.{Exit}
+use Rattle.fare_commands.specs.declared.exit.Exit.TheVariants as ended
+use Rattle.fare_commands.specs.Answer.{Answer, ExitAndText}
+use Rattle.fare_commands.specs.StoreOutcome.{Told}
+use Rattle.fare_commands.specs.StoreSteps.{AreStored, IsEndOfOpening}
 
 -- the door is as it was, and so are the bodies
 pub record ServesNobody (old new : World) : Type 0 where

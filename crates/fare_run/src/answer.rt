@@ -5,43 +5,32 @@ ghost use Rattle.fare_outside.specs.Cause.{Rose};
 ghost use Rattle.fare_outside.specs.Keeper.{BodiesStay, WhereTold};
 ghost use Rattle.fare_serve.specs.Desk.{world_of};
 ghost use Rattle.fare_serve.specs.Service.{door_state};
+ghost use Rattle.fare_commands.specs.Opened.{Names};
+ghost use Rattle.fare_commands.specs.Steps.{Answers, IsKeeping, IsReading};
 ghost use Rattle.fare_run.specs.Ends.{IsRefusalOf};
 ghost use Rattle.fare_run.specs.Limits.{limit_of};
-ghost use Rattle.fare_run.specs.Opened.{Names, store_of};
+ghost use Rattle.fare_run.specs.Opened.{store_of};
 ghost use Rattle.fare_run.specs.Outcome.{AnswersCommand};
 ghost use Rattle.fare_run.specs.Refusal.{HasOwnText};
 ghost use Rattle.fare_run.specs.Uses.{HasText, IsWithin, LeavesDoor, LeavesSource, LeavesStore, UsesDoor};
 ghost use Rattle.fare_run.specs.Run.{LeavesBodies, LeavesBodiesAt, ReadsWell, ServesNobodyAt};
 ghost use Rattle.fare_run.specs.Serve.{ServesCommand};
-ghost use Rattle.fare_run.specs.Steps.{Answers, IsKeeping, IsReading};
 
-use crate::check::check;
-use crate::compare::{Comparison, compare};
-use crate::diff::diff;
-use crate::drill::drill;
-use crate::exit::Exit;
-use crate::export::export;
-use crate::list::list;
-use crate::migrate::migrate;
-use crate::outcome::Outcome;
-use crate::price::price;
-use crate::publish::publish;
 use crate::serve::serve;
-use crate::stored_quote::stored_quote;
 use fare_changes::Watch;
+use fare_commands::{
+    Comparison, Context, Exit, Outcome, Question, check, compare, diff, drill, export, list,
+    migrate, price, publish, stored_quote,
+};
 use fare_outside::{Door, Keeper, Source};
 use fare_serve::Service;
-use fare_split::{SplitQuoter, Turnstile};
 use fare_words::Command;
-use std::alloc::Global;
 use std::thread::Threads;
 
 /// What a command comes to, or what refuses it: `Usage` where words give none.
 #[tactic(auto, unfolding(fare_words::specs::WithinLimits::IsWithinLimits))]
 pub fn answer<R: Threads + Sync, S: Source, P: Keeper, D: Door, W: Watch>(
-    rt: &R,
-    alloc: Global,
-    quoter: &SplitQuoter<'_, Turnstile>,
+    context: &Context<'_, R>,
     asked: &Option<Command<'_>>,
     src: &mut S,
     store: &mut P,
@@ -63,8 +52,7 @@ pub fn answer<R: Threads + Sync, S: Source, P: Keeper, D: Door, W: Watch>(
         (S.left src.old) (S.left src.new) (S.faults src.old) (S.faults src.new) }
 
     ensures store { LeavesStore asked.now → store.new ≡ store.old }
-    ensures bodies { WhereTold (P.bodies store.old) (P.bodies store.new)
-        (LeavesBodies asked.now (S.left src.old)) }
+    ensures bodies { WhereTold (P.bodies store.old) (P.bodies store.new) (LeavesBodies asked.now (S.left src.old)) }
     ensures refused { IfErr result (λ exit. LeavesBodiesAt asked.now exit →
         WhereTold (P.bodies store.old) (P.bodies store.new) BodiesStay) }
     ensures name { IfSome (store_of asked.now) (λ name.
@@ -90,25 +78,28 @@ pub fn answer<R: Threads + Sync, S: Source, P: Keeper, D: Door, W: Watch>(
         return Err(Exit::Usage);
     };
     match command {
-        Command::Price { asked, json, .. } => price(rt, alloc, quoter, src, *asked, *json),
-        Command::Publish { store: name } => publish(rt, alloc, src, store, name.as_str()),
-        Command::List { store: name, json } => list(rt, alloc, store, name.as_str(), *json),
+        Command::Price { asked, json, .. } => price(context, src, Question::new(*asked, *json)),
+        Command::Publish { store: name } => publish(context, src, store, name.as_str()),
+        Command::List { store: name, json } => list(context, store, name.as_str(), *json),
         Command::Export {
             store: name,
             edition,
-        } => export(rt, alloc, store, name.as_str(), *edition),
+        } => export(context, store, name.as_str(), *edition),
         Command::Quote {
             store: name,
             asked,
             json,
             ..
-        } => stored_quote(rt, alloc, quoter, src, store, name.as_str(), *asked, *json),
+        } => {
+            let question = Question::new(*asked, *json);
+            stored_quote(context, src, store, name.as_str(), question)
+        }
         Command::Drill {
             seed,
             sectors,
             extra,
             ..
-        } => drill(rt, alloc, quoter, *seed, *sectors, *extra),
+        } => drill(context, *seed, *sectors, *extra),
         Command::Serve {
             store: name,
             port,
@@ -116,16 +107,16 @@ pub fn answer<R: Threads + Sync, S: Source, P: Keeper, D: Door, W: Watch>(
             round,
             ..
         } => {
-            let service = service_of(*port, *count, *round, quoter.workers);
-            serve(rt, alloc, store, door, name.as_str(), service, quoter.gate)
+            let service = service_of(*port, *count, *round, context.quoter.workers);
+            serve(context, store, door, name.as_str(), service)
         }
-        Command::Migrate { store: name } => migrate(rt, alloc, store, name.as_str()),
-        Command::Check => check(rt, alloc, src),
+        Command::Migrate { store: name } => migrate(context, store, name.as_str()),
+        Command::Check => check(context, src),
         Command::Diff {
             store: name,
             from,
             to,
-        } => diff(rt, alloc, store, name.as_str(), *from, *to),
+        } => diff(context, store, name.as_str(), *from, *to),
         Command::Compare {
             store: name,
             from,
@@ -136,9 +127,8 @@ pub fn answer<R: Threads + Sync, S: Source, P: Keeper, D: Door, W: Watch>(
                 name: name.as_str(),
                 from: *from,
                 to: *to,
-                threads: quoter.workers as usize,
             };
-            compare(rt, alloc, src, store, comparison, watch)
+            compare(context, src, store, comparison, watch)
         }
     }
 }

@@ -5,9 +5,8 @@ ghost use Rattle.fare_run.specs.JsonFault.{fault_of, told_fault};
 ghost use Rattle.fare_run.specs.Limits.{limit_of};
 ghost use Rattle.fare_run.specs.Refusal.{IsRefused, wants_json};
 
-use crate::exit::Exit;
 use crate::limits::limit_of;
-use crate::outcome::Outcome;
+use fare_commands::{Exit, Outcome};
 use fare_json::fault_json;
 use fare_outside::NoMemory;
 use fare_sentences::Fault;

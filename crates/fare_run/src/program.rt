@@ -15,11 +15,10 @@ ghost use Rattle.fare_run.specs.Run.{ComesTo, EndsIn, HasFailed, LeavesBodies, L
 ghost use Rattle.fare_run.specs.Run.{ServesNobodyAt, Writes};
 ghost use Rattle.fare_run.specs.Serve.{EndsServing};
 
-use crate::exit::Exit;
-use crate::outcome::Outcome;
 use crate::told::outcome;
 use crate::workers::workers_of;
 use fare_changes::Watch;
+use fare_commands::{Context, Exit, Outcome};
 use fare_outside::{Door, Keeper, NoMemory, Sink, Source, write_all};
 use fare_split::{SplitQuoter, Turnstile};
 use fare_words::read_words;
@@ -38,8 +37,8 @@ use std::thread::Threads;
 /// `migrate`, which spells some first ones anew and changes no edition; a run that ends in want of memory has stored
 /// nothing else.
 ///
-/// A command that names a store opens that one and no other, and `serve` listens at the port of its words. A source that
-/// is refused, or isn't read, opens no store.
+/// A command that names a store opens that one and no other, and `serve` listens at the port of its words. A source
+/// that is refused, or isn't read, opens no store.
 ///
 /// `serve` lets connections in by the door, which may hold none, and answers them in rounds over the book of the store.
 /// It is the only command that touches the door, and lets nobody in where it ends in anything but `Done`, `WriteFault`
@@ -119,7 +118,12 @@ pub fn run<R: Threads + Sync, S: Source, K: Sink, P: Keeper, D: Door, W: Watch>(
         Err(NoMemory) => return Exit::Memory,
     };
     let quoter = SplitQuoter::new(workers_of(&asked), gate);
-    let outcome = outcome(rt, alloc, &quoter, &asked, src, store, door, watch);
+    let context = Context {
+        rt,
+        alloc,
+        quoter: &quoter,
+    };
+    let outcome = outcome(&context, &asked, src, store, door, watch);
     written(out, outcome)
 }
 

@@ -1,36 +1,30 @@
 //! The command `serve`.
 
-ghost use Rattle.std.specs.Prelude.{◌≡◌, ◌≤◌, [], IfErr, IfOk, IsErrOf};
+ghost use Rattle.std.specs.Prelude.{◌≡◌, ◌≤◌, [], IfErr, IsErrOf};
 ghost use Rattle.fare_outside.specs.Cause.{Rose};
 ghost use Rattle.fare_split.specs.declared.pieces.TheConstants.{MOST_WORKERS};
 ghost use Rattle.fare_serve.specs.Desk.{world_of};
 ghost use Rattle.fare_serve.specs.Service.{door_state};
-ghost use Rattle.fare_run.specs.Answer.{IsDone};
+ghost use Rattle.fare_commands.specs.Answer.{IsDoneOr};
+ghost use Rattle.fare_commands.specs.Opened.{Names};
+ghost use Rattle.fare_commands.specs.Steps.{IsKeeping};
 ghost use Rattle.fare_run.specs.Ends.{IsRefusalOfServe};
-ghost use Rattle.fare_run.specs.Opened.{Names};
 ghost use Rattle.fare_run.specs.Run.{ServesNobodyAt};
 ghost use Rattle.fare_run.specs.Serve.{ServesStore};
-ghost use Rattle.fare_run.specs.Steps.{IsKeeping};
 
-use crate::exit::Exit;
-use crate::outcome::Outcome;
-use crate::store::book_of;
+use fare_commands::{Context, Exit, Outcome, book_of};
 use fare_outside::{Door, Keeper};
-use fare_serve::{Service, serve as serve_book};
-use fare_split::Turnstile;
-use std::alloc::Global;
+use fare_serve::{ServeFault, Service, serve as serve_book};
 use std::thread::Threads;
 
 /// Serves connections over the book of a store, and answers how many were served and cut off. The store is opened
 /// before the door is asked to listen.
 pub fn serve<R: Threads + Sync, P: Keeper, D: Door>(
-    rt: &R,
-    alloc: Global,
+    context: &Context<'_, R>,
     store: &mut P,
     door: &mut D,
     name: &str,
     service: Service,
-    gate: &Turnstile,
 ) -> Result<Outcome, Exit>
     requires some { 1 ≤ service.round }
     requires few { service.round ≤ 8 }
@@ -45,8 +39,7 @@ pub fn serve<R: Threads + Sync, P: Keeper, D: Door>(
         (D.faults door.new) (D.cuts door.new))
         (P.bodies store.new) (P.faults store.new))
         result }
-    ensures done { IfOk result IsDone }
-    ensures ends { IfErr result IsRefusalOfServe }
+    ensures ends { IsDoneOr IsRefusalOfServe result }
     ensures nobody { IfErr result (λ exit. ServesNobodyAt exit → door.new ≡ door.old) }
     ensures cause { IsErrOf result Exit.DoorFault → Rose (D.faults door.old) (D.faults door.new) }
     ensures faults { D.faults door.old ≤ D.faults door.new }
@@ -54,7 +47,11 @@ pub fn serve<R: Threads + Sync, P: Keeper, D: Door>(
     ensures name { Names name.now (P.opened_as store.old) (P.opened_as store.new) result }
     ensures keeping { IsKeeping result (P.faults store.old) (P.faults store.new) }
 {
-    let book = book_of(rt, alloc, store, name)?;
-    let text = serve_book(rt, alloc, book, store, door, service, gate)?;
-    Ok(Outcome::done(text))
+    let book = book_of(context, store, name)?;
+    let gate = context.quoter.gate;
+    match serve_book(context.rt, context.alloc, book, store, door, service, gate) {
+        Ok(text) => Ok(Outcome::done(text)),
+        Err(ServeFault::Memory) => Err(Exit::Memory),
+        Err(ServeFault::Door) => Err(Exit::DoorFault),
+    }
 }

@@ -6,9 +6,10 @@ ghost use Rattle.fare_outside.specs.Keeper.{BodiesStay, WhereTold};
 ghost use Rattle.fare_outside.specs.Source.{TakesJust, TakesUpTo};
 ghost use Rattle.fare_serve.specs.Desk.{world_of};
 ghost use Rattle.fare_serve.specs.Service.{door_state};
+ghost use Rattle.fare_commands.specs.Opened.{IsNamed};
 ghost use Rattle.fare_run.specs.Ends.{IsEndBefore};
 ghost use Rattle.fare_run.specs.Limits.{limit_of};
-ghost use Rattle.fare_run.specs.Opened.{IsNamed, store_of};
+ghost use Rattle.fare_run.specs.Opened.{store_of};
 ghost use Rattle.fare_run.specs.Outcome.{AnswersCommand};
 ghost use Rattle.fare_run.specs.Refusal.{IsSilent, IsTold};
 ghost use Rattle.fare_run.specs.Uses.{IsWithin, LeavesDoor, LeavesSource, LeavesStore, UsesDoor};
@@ -16,21 +17,17 @@ ghost use Rattle.fare_run.specs.Run.{ComesTo, HasFailed, LeavesBodies, LeavesBod
 ghost use Rattle.fare_run.specs.Serve.{ComesServing};
 
 use crate::answer::answer;
-use crate::exit::Exit;
 use crate::json_fault::refused;
-use crate::outcome::Outcome;
 use fare_changes::Watch;
+use fare_commands::{Context, Exit, Outcome};
 use fare_outside::{Door, Keeper, Source};
-use fare_split::{SplitQuoter, Turnstile};
 use fare_words::Command;
 use std::alloc::Global;
 use std::thread::Threads;
 
 /// What a command comes to, over its source, its store and its door.
 pub fn outcome<R: Threads + Sync, S: Source, P: Keeper, D: Door, W: Watch>(
-    rt: &R,
-    alloc: Global,
-    quoter: &SplitQuoter<'_, Turnstile>,
+    context: &Context<'_, R>,
     asked: &Option<Command<'_>>,
     src: &mut S,
     store: &mut P,
@@ -80,8 +77,8 @@ pub fn outcome<R: Threads + Sync, S: Source, P: Keeper, D: Door, W: Watch>(
     ensures door_count { D.faults door.old ≤ D.faults door.new }
     ensures cut_count { D.cuts door.old ≤ D.cuts door.new }
 {
-    let answer = answer(rt, alloc, quoter, asked, src, store, door, watch);
-    told(alloc, asked, answer)
+    let answer = answer(context, asked, src, store, door, watch);
+    told(context.alloc, asked, answer)
 }
 
 /// What a command comes to by its answer.

@@ -1,5 +1,6 @@
-//! The fares desk: quotes air itineraries by mileage fare construction. `main` calls `fare_run::run`, the whole program,
-//! over the real source, sink, file of editions and door; `progress` shows on a terminal how much of a batch is done.
+//! The fares desk: quotes air itineraries by mileage fare construction. `main` calls `fare_run::run`, the whole
+//! program, over the real source, sink, file of editions and door; `progress` shows on a terminal how much of a batch
+//! is done.
 #![tactic(auto)]
 
 mod progress;

@@ -30,8 +30,8 @@ pub struct Refusal {
     pub fault: &'static str,
 }
 
-/// A command with a store, over a source in pieces: the status of the run, and what it writes or, on another status than
-/// 0, its line on standard error.
+/// A command with a store, over a source in pieces: the status of the run, and what it writes or, on another status
+/// than 0, its line on standard error.
 #[derive(Clone, Copy)]
 pub struct Step {
     pub words: &'static [&'static str],
@@ -40,8 +40,8 @@ pub struct Step {
     pub text: &'static str,
 }
 
-/// A command over a source in pieces and a store of these bodies in pieces, which it leaves: the status of the run, what
-/// it writes, and its line on standard error.
+/// A command over a source in pieces and a store of these bodies in pieces, which it leaves: the status of the run,
+/// what it writes, and its line on standard error.
 #[derive(Clone, Copy)]
 pub struct Told {
     pub words: &'static [&'static str],
@@ -52,8 +52,8 @@ pub struct Told {
     pub line: &'static str,
 }
 
-/// A command with a store whose calls, or those of the source or the sink, fail: the calls by their numbers, and whether
-/// a failed append keeps its body; the status, what is written, and how many bodies there are in the end.
+/// A command with a store whose calls, or those of the source or the sink, fail: the calls by their numbers, and
+/// whether a failed append keeps its body; the status, what is written, and how many bodies there are in the end.
 #[derive(Clone, Copy)]
 pub struct Failure {
     pub words: &'static [&'static str],

@@ -145,8 +145,8 @@ fn the_first_hundred_faults_are_told(rt: HostRuntime) -> Result<(), Fail> {
     let mut sink = PlainSink::new(alloc, 16_384)?;
     let exit = ended(&rt, alloc, &["check"], &mut source, &mut sink)?;
     assert!(rt; exit.status() == 3);
-    let first =
-        "TARIFF 4 SamePoint  TPM,LON,LON,0  its two cities are equal\nTARIFF 5 Duplicate 4  TPM,LON,LON,0  its key is that of record 4\n";
+    let first = "TARIFF 4 SamePoint  TPM,LON,LON,0  its two cities are equal\n\
+         TARIFF 5 Duplicate 4  TPM,LON,LON,0  its key is that of record 4\n";
     assert!(rt; sink.bytes().starts_with(first.as_bytes()));
     assert!(rt; sink.bytes().ends_with(b"\nMORE 40\n".as_slice()));
     Ok(())

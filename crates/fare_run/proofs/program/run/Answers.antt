@@ -12,7 +12,8 @@ returns-in-Err-clause-unread g c left = (no_memory, inr (inr refl), inl (refl, a
 
 pub returns-clause-answer : goal.returns-clause-answer
 returns-clause-answer g c =
-    ends_in _ _ _ _ _ _ c.outcome-outcome.result _ _ _ c.in-Ok.ensures.taken c.outcome-outcome.ensures.comes c.written.ensures.writes
+    ends_in _ _ _ _ _ _ c.outcome-outcome.result _ _ _ c.in-Ok.ensures.taken c.outcome-outcome.ensures.comes
+    c.written.ensures.writes
 
 pub returns-clause-name : goal.returns-clause-name
 returns-clause-name g c =

@@ -22,7 +22,11 @@ pub static BEST: [Step; 4] = [
     Step {
         words: &["price", "--best=2"],
         source: &[
-            "{\"sale\":\"2025-03-11\",\"from\":\"TYO\",\"sectors\":[{\"to\":\"LYS\",\"carrier\":\"7Z\",\"day\":\"2025-03-12\",\"cabin\":\"Y\",\"over\":\"\"},{\"to\":\"LON\",\"carrier\":\"Q1\",\"day\":\"2025-03-19\",\"cabin\":\"Y\",\"stop\":true},{\"to\":\"LYS\",\"carrier\":\"7Z\",\"day\":\"2025-04-02\",\"cabin\":\"Y\",\"over\":\"PA\"},{\"to\":\"TYO\",\"carrier\":\"Q2\",\"day\":\"2025-04-09\",\"cabin\":\"Y\",\"over\":\"\",\"stop\":true}]}\n",
+            "{\"sale\":\"2025-03-11\",\"from\":\"TYO\",\"sectors\":[{\"to\":\"LYS\",\"carrier\":\"7Z\",\
+             \"day\":\"2025-03-12\",\"cabin\":\"Y\",\"over\":\"\"},{\"to\":\"LON\",\"carrier\":\"Q1\",\
+             \"day\":\"2025-03-19\",\"cabin\":\"Y\",\"stop\":true},{\"to\":\"LYS\",\"carrier\":\"7Z\",\
+             \"day\":\"2025-04-02\",\"cabin\":\"Y\",\"over\":\"PA\"},{\"to\":\"TYO\",\"carrier\":\"Q2\",\
+             \"day\":\"2025-04-09\",\"cabin\":\"Y\",\"over\":\"\",\"stop\":true}]}\n",
             "HEAD,1,36,2025-01-01\n\
              FARE,TYO,LON,EH,YY,Y,HR,,400.00\n\
              FARE,LYS,TYO,EH,YY,Y,OW,,250.00\n\
@@ -58,7 +62,8 @@ pub static BEST: [Step; 4] = [
         status: 0,
         text: "EDITION 36 2025-01-01\n\
                BEST 1 781.34\n\
-               TYO 7Z LYS 204.36 YYYHR/1 Q1 LON 186.31 YYYHR/2 7Z LYS 186.31 YYYHR/2 Q2 TYO 204.36 YYYHR/1 NUC781.34END ROE110.000000\n\
+               TYO 7Z LYS 204.36 YYYHR/1 Q1 LON 186.31 YYYHR/2 7Z LYS 186.31 YYYHR/2 Q2 TYO 204.36 YYYHR/1 \
+               NUC781.34END ROE110.000000\n\
                BEST 2 800.00\n\
                TYO 7Z LYS Q1 LON M400.00 YYYHR/1 7Z LYS Q2 TYO M400.00 YYYHR/1 NUC800.00END ROE110.000000\n",
     },

@@ -23,10 +23,14 @@ pub static CHECKS: [Told; 4] = [
         status: 3,
         text: "TARIFF 2 BadRecord 0  CUR,GB,GBP,0.750000,0,1  the number of fields is 6, and for CUR it is 7\n\
                TARIFF 4 BadRecord 4  CITY,ROM,IT,4  field 4 (area) has to be 1, 2 or 3\n\
-               TARIFF 5 UnknownRecord  fare,LON,ROM,EH,YY,Y,OW,,400.00  field 1 is none of CUR, CITY, RULE, FARE, MPM, TPM, EMA and END\n\
+               TARIFF 5 UnknownRecord  fare,LON,ROM,EH,YY,Y,OW,,\
+               400.00  field 1 is none of CUR, CITY, RULE, FARE, MPM, TPM, EMA and END\n\
                TARIFF 6 BadRecord 6  FARE,LON,ROM,EH,YY,W,OW,,400.00  field 6 (class) has to be F, C or Y\n\
-               TARIFF 7 BadRecord 9  FARE,LON,ROM,EH,YY,Y,OW,,400  field 9 (amount) has to be an amount from 0.00 to 9999999.99 with two decimals\n\
-               TARIFF 8 BadRecord 10  RULE,FLEX,5,5,0,3,365,Y,*,A  B  field 10 (ends) has to be *, or empty, or 1 to 64 names with one space between, a name being a rule's id or -\n\
+               TARIFF 7 BadRecord 9  FARE,LON,ROM,EH,YY,Y,OW,,\
+               400  field 9 (amount) has to be an amount from 0.00 to 9999999.99 with two decimals\n\
+               TARIFF 8 BadRecord 10  RULE,FLEX,5,5,0,3,365,Y,*,\
+               A  B  field 10 (ends) has to be *, or empty, or 1 to 64 names with one space between, a name being a \
+               rule's id or -\n\
                TARIFF 9 NoEnd  the text has no END record\n",
         line: "TARIFF 2 BadRecord 0\n",
     },
@@ -64,7 +68,8 @@ pub static CHECKS: [Told; 4] = [
         ],
         bodies: &[],
         status: 3,
-        text: "TARIFF 8 BadRecord 9  FARE,LON,ROM,EH,YY,Y,OW,,400  field 9 (amount) has to be an amount from 0.00 to 9999999.99 with two decimals\n",
+        text: "TARIFF 8 BadRecord 9  FARE,LON,ROM,EH,YY,Y,OW,,\
+               400  field 9 (amount) has to be an amount from 0.00 to 9999999.99 with two decimals\n",
         line: "TARIFF 8 BadRecord 9\n",
     },
     Told {
@@ -79,7 +84,10 @@ pub static CHECKS: [Told; 4] = [
 
 /// An edition in which a fare and a mileage are others, a city and its fare are new, and a mileage has moved.
 const LATER: &str =
-    "HEAD,1,2,2025-02-01\nCUR,GB,GBP,0.750000,0,1,U\nCUR,FR,EUR,0.900000,2,1,N\nCUR,IT,EUR,0.900000,2,1,N\nCITY,LON,GB,2\nCITY,PAR,FR,2\nCITY,ROM,IT,2\nFARE,LON,ROM,EH,YY,Y,OW,,400.00\nTPM,LON,PAR,310\nMPM,LON,ROM,EH,1000\nFARE,LON,PAR,EH,YY,Y,OW,,150.00\nFARE,PAR,ROM,EH,YY,Y,OW,,240.00\nCITY,MIL,IT,2\nFARE,LON,MIL,EH,YY,Y,OW,,380.00\nTPM,PAR,ROM,700\nEND\n";
+    "HEAD,1,2,2025-02-01\nCUR,GB,GBP,0.750000,0,1,U\nCUR,FR,EUR,0.900000,2,1,N\nCUR,IT,EUR,0.900000,2,1,N\n\
+     CITY,LON,GB,2\nCITY,PAR,FR,2\nCITY,ROM,IT,2\nFARE,LON,ROM,EH,YY,Y,OW,,400.00\nTPM,LON,PAR,310\n\
+     MPM,LON,ROM,EH,1000\nFARE,LON,PAR,EH,YY,Y,OW,,150.00\nFARE,PAR,ROM,EH,YY,Y,OW,,240.00\nCITY,MIL,IT,2\n\
+     FARE,LON,MIL,EH,YY,Y,OW,,380.00\nTPM,PAR,ROM,700\nEND\n";
 
 const TWO: &[&[&str]] = &[&[PLACES, THROUGH, MILES, TIED_FARES, END], &[LATER]];
 
@@ -157,7 +165,8 @@ pub static COMPARISONS: [Told; 4] = [
                ITEM 4 - - -\n\
                ITEM 5 FAULT TRIP Missing sale 0\n\
                ITEM 6 FAULT UNKNOWN PLACE XXX\n\
-               COMPARE 1 2 items 6 same 0 dearer 0 cheaper 2 opened 1 closed 0 none 1 faults 2 old 800.00 new 780.00 change -20.00\n",
+               COMPARE 1 2 items 6 same 0 dearer 0 cheaper 2 opened 1 closed 0 none 1 faults 2 old 800.00 new 780.00 \
+               change -20.00\n",
         line: "",
     },
     Told {
@@ -165,7 +174,8 @@ pub static COMPARISONS: [Told; 4] = [
         source: &["[]"],
         bodies: TWO,
         status: 0,
-        text: "COMPARE 1 2 items 0 same 0 dearer 0 cheaper 0 opened 0 closed 0 none 0 faults 0 old 0.00 new 0.00 change 0.00\n",
+        text: "COMPARE 1 2 items 0 same 0 dearer 0 cheaper 0 opened 0 closed 0 none 0 faults 0 old 0.00 new 0.00 \
+               change 0.00\n",
         line: "",
     },
     Told {

@@ -12,7 +12,18 @@ pub static ANSWERS: [Told; 5] = [
         source: &[WORLD, WORLD_FARES, END],
         bodies: &[],
         status: 0,
-        text: "{\"edition\":{\"effective\":\"2025-01-01\",\"number\":7},\"quotation\":{\"line\":\"LON Q1 X/FRA Q1 TYO M1200.00 YYYHRFLEX/1 Q2 LAX Q2 NYC Q2 LON 5M1575.00 YYYHRFLEX/1 P/1 25.00 NUC2800.00END ROE0.750000\",\"local\":{\"amount\":\"2100\",\"currency\":\"GBP\"},\"parts\":[{\"amount\":\"1200.00\",\"back\":false,\"fare\":{\"carrier\":\"YY\",\"class\":\"Y\",\"kind\":\"HR\",\"record\":12,\"rule\":\"FLEX\"},\"filed\":\"1200.00\",\"from\":\"LON\",\"hip\":null,\"miles\":{\"ema\":0,\"mpm\":7400,\"net\":6300,\"surcharge\":0,\"tpm\":6300},\"sectors\":[1,2],\"to\":\"TYO\",\"unit\":1},{\"amount\":\"1575.00\",\"back\":true,\"fare\":{\"carrier\":\"YY\",\"class\":\"Y\",\"kind\":\"HR\",\"record\":13,\"rule\":\"FLEX\"},\"filed\":\"1500.00\",\"from\":\"TYO\",\"hip\":null,\"miles\":{\"ema\":0,\"mpm\":11000,\"net\":11370,\"surcharge\":5,\"tpm\":11370},\"sectors\":[3,4,5],\"to\":\"LON\",\"unit\":1}],\"roe\":\"0.750000\",\"total\":\"2800.00\",\"units\":[{\"kind\":\"CT\",\"minimum\":{\"amount\":\"2800.00\",\"check\":\"CT\"},\"number\":1,\"price\":\"2800.00\",\"sum\":\"2775.00\"}]}}\n",
+        text: "{\"edition\":{\"effective\":\"2025-01-01\",\"number\":7},\
+               \"quotation\":{\"line\":\"LON Q1 X/FRA Q1 TYO M1200.00 YYYHRFLEX/1 Q2 LAX Q2 NYC Q2 LON 5M1575.00 \
+               YYYHRFLEX/1 P/1 25.00 NUC2800.00END ROE0.750000\",\"local\":{\"amount\":\"2100\",\"currency\":\"GBP\"},\
+               \"parts\":[{\"amount\":\"1200.00\",\"back\":false,\"fare\":{\"carrier\":\"YY\",\"class\":\"Y\",\
+               \"kind\":\"HR\",\"record\":12,\"rule\":\"FLEX\"},\"filed\":\"1200.00\",\"from\":\"LON\",\"hip\":null,\
+               \"miles\":{\"ema\":0,\"mpm\":7400,\"net\":6300,\"surcharge\":0,\"tpm\":6300},\"sectors\":[1,2],\
+               \"to\":\"TYO\",\"unit\":1},{\"amount\":\"1575.00\",\"back\":true,\"fare\":{\"carrier\":\"YY\",\
+               \"class\":\"Y\",\"kind\":\"HR\",\"record\":13,\"rule\":\"FLEX\"},\"filed\":\"1500.00\",\"from\":\"TYO\",\
+               \"hip\":null,\"miles\":{\"ema\":0,\"mpm\":11000,\"net\":11370,\"surcharge\":5,\"tpm\":11370},\
+               \"sectors\":[3,4,5],\"to\":\"LON\",\"unit\":1}],\"roe\":\"0.750000\",\"total\":\"2800.00\",\
+               \"units\":[{\"kind\":\"CT\",\"minimum\":{\"amount\":\"2800.00\",\"check\":\"CT\"},\"number\":1,\
+               \"price\":\"2800.00\",\"sum\":\"2775.00\"}]}}\n",
         line: "",
     },
     Told {
@@ -32,7 +43,10 @@ pub static ANSWERS: [Told; 5] = [
         source: &[PASSING, PLACES, THROUGH, MILES, TIED_FARES, END],
         bodies: &[],
         status: 0,
-        text: "{\"best\":[{\"line\":\"LON Q1 X/PAR Q1 ROM M400.00 YYYOW/1 NUC400.00END ROE0.750000\",\"total\":\"400.00\"},{\"line\":\"LON Q1 X/PAR 150.00 YYYOW/1 Q1 ROM 250.00 YYYOW/2 NUC400.00END ROE0.750000\",\"total\":\"400.00\"}],\"edition\":{\"effective\":\"2025-01-01\",\"number\":1}}\n",
+        text: "{\"best\":[{\"line\":\"LON Q1 X/PAR Q1 ROM M400.00 YYYOW/1 NUC400.00END ROE0.750000\",\
+               \"total\":\"400.00\"},\
+               {\"line\":\"LON Q1 X/PAR 150.00 YYYOW/1 Q1 ROM 250.00 YYYOW/2 NUC400.00END ROE0.750000\",\
+               \"total\":\"400.00\"}],\"edition\":{\"effective\":\"2025-01-01\",\"number\":1}}\n",
         line: "",
     },
     Told {
@@ -41,14 +55,16 @@ pub static ANSWERS: [Told; 5] = [
         bodies: &[
             &[WORLD_FARES, END],
             &[
-                "HEAD,1,8,2025-01-01\nCUR,GB,GBP,0.750000,0,1,U\nCUR,FR,EUR,0.900000,2,1,N\nCUR,IT,EUR,0.900000,2,1,N\nCITY,LON,GB,2\nCITY,PAR,FR,2\nCITY,ROM,IT,2\n",
+                "HEAD,1,8,2025-01-01\nCUR,GB,GBP,0.750000,0,1,U\nCUR,FR,EUR,0.900000,2,1,N\nCUR,IT,EUR,0.900000,2,1,N\n\
+                 CITY,LON,GB,2\nCITY,PAR,FR,2\nCITY,ROM,IT,2\n",
                 THROUGH,
                 MILES,
                 END,
             ],
         ],
         status: 0,
-        text: "{\"editions\":[{\"effective\":\"2025-01-01\",\"number\":7,\"records\":23},{\"effective\":\"2025-01-01\",\"number\":8,\"records\":10}]}\n",
+        text: "{\"editions\":[{\"effective\":\"2025-01-01\",\"number\":7,\"records\":23},{\"effective\":\"2025-01-01\",\
+               \"number\":8,\"records\":10}]}\n",
         line: "",
     },
     Told {
@@ -74,7 +90,9 @@ pub static FAULTS: [Told; 5] = [
         ],
         bodies: &[],
         status: 3,
-        text: "{\"fault\":{\"text\":\"TARIFF 8 BadRecord 9\",\"words\":\"record 8: field 9 (amount) has to be an amount from 0.00 to 9999999.99 with two decimals\"}}\n",
+        text: "{\"fault\":{\"text\":\"TARIFF 8 BadRecord 9\",\
+               \"words\":\"record 8: field 9 (amount) has to be an amount from 0.00 to 9999999.99 with two decimals\"}}\
+               \n",
         line: "TARIFF 8 BadRecord 9\n",
     },
     Told {
@@ -89,7 +107,8 @@ pub static FAULTS: [Told; 5] = [
         words: &["price", "--json", "--why"],
         source: &[
             STOPPING,
-            "HEAD,1,1,2025-01-01\nCUR,GB,GBP,0.750000,0,1,U\nCUR,IT,EUR,0.900000,2,1,N\nCITY,LON,GB,2\nCITY,ROM,IT,2\nEND\n",
+            "HEAD,1,1,2025-01-01\nCUR,GB,GBP,0.750000,0,1,U\nCUR,IT,EUR,0.900000,2,1,N\nCITY,LON,GB,2\nCITY,ROM,IT,2\n\
+             END\n",
         ],
         bodies: &[],
         status: 7,
@@ -135,7 +154,11 @@ pub static REASONS: [Told; 3] = [
         source: &[STOPPING],
         bodies: &[&[PLACES, RULED_FARES, END]],
         status: 0,
-        text: "{\"edition\":{\"effective\":\"2025-01-01\",\"number\":1},\"total\":\"300.00\",\"without\":[{\"broken\":{\"place\":2,\"rule\":20,\"words\":\"the fare of part 2 isn't combinable end on end with an earlier one\"},\"kind\":\"ENDS\",\"line\":\"LON Q1 PAR 150.00 YYYOWRA/1 Q1 ROM 100.00 YYYOWRB/2 NUC250.00END ROE0.750000\",\"saves\":\"50.00\",\"total\":\"250.00\"}]}\n",
+        text: "{\"edition\":{\"effective\":\"2025-01-01\",\"number\":1},\"total\":\"300.00\",\
+               \"without\":[{\"broken\":{\"place\":2,\"rule\":20,\
+               \"words\":\"the fare of part 2 isn't combinable end on end with an earlier one\"},\"kind\":\"ENDS\",\
+               \"line\":\"LON Q1 PAR 150.00 YYYOWRA/1 Q1 ROM 100.00 YYYOWRB/2 NUC250.00END ROE0.750000\",\
+               \"saves\":\"50.00\",\"total\":\"250.00\"}]}\n",
         line: "",
     },
     Told {
@@ -159,27 +182,39 @@ pub struct Barred {
 pub static KINDS: [Barred; 7] = [
     Barred {
         rule: "RULE,FLEX,5,5,60,3,365,Y,*,*\n",
-        reason: "WITHOUT ADVANCE 2800.00 SAVES -\nLON Q1 X/FRA Q1 TYO M1200.00 YYYHRFLEX/1 Q2 LAX Q2 NYC Q2 LON 5M1575.00 YYYHRFLEX/1 P/1 25.00 NUC2800.00END ROE0.750000\nBROKEN 15 1\n",
+        reason: "WITHOUT ADVANCE 2800.00 SAVES -\n\
+                 LON Q1 X/FRA Q1 TYO M1200.00 YYYHRFLEX/1 Q2 LAX Q2 NYC Q2 LON 5M1575.00 YYYHRFLEX/1 P/1 25.00 \
+                 NUC2800.00END ROE0.750000\nBROKEN 15 1\n",
     },
     Barred {
         rule: "RULE,FLEX,5,5,0,30,365,Y,*,*\n",
-        reason: "WITHOUT STAY 2800.00 SAVES -\nLON Q1 X/FRA Q1 TYO M1200.00 YYYHRFLEX/1 Q2 LAX Q2 NYC Q2 LON 5M1575.00 YYYHRFLEX/1 P/1 25.00 NUC2800.00END ROE0.750000\nBROKEN 18 1\n",
+        reason: "WITHOUT STAY 2800.00 SAVES -\n\
+                 LON Q1 X/FRA Q1 TYO M1200.00 YYYHRFLEX/1 Q2 LAX Q2 NYC Q2 LON 5M1575.00 YYYHRFLEX/1 P/1 25.00 \
+                 NUC2800.00END ROE0.750000\nBROKEN 18 1\n",
     },
     Barred {
         rule: "RULE,FLEX,1,5,0,3,365,Y,*,*\n",
-        reason: "WITHOUT STOPOVERS 2800.00 SAVES -\nLON Q1 X/FRA Q1 TYO M1200.00 YYYHRFLEX/1 Q2 LAX Q2 NYC Q2 LON 5M1575.00 YYYHRFLEX/1 P/1 25.00 NUC2800.00END ROE0.750000\nBROKEN 13 2\n",
+        reason: "WITHOUT STOPOVERS 2800.00 SAVES -\n\
+                 LON Q1 X/FRA Q1 TYO M1200.00 YYYHRFLEX/1 Q2 LAX Q2 NYC Q2 LON 5M1575.00 YYYHRFLEX/1 P/1 25.00 \
+                 NUC2800.00END ROE0.750000\nBROKEN 13 2\n",
     },
     Barred {
         rule: "RULE,FLEX,5,0,0,3,365,Y,*,*\n",
-        reason: "WITHOUT TRANSFERS 2800.00 SAVES -\nLON Q1 X/FRA Q1 TYO M1200.00 YYYHRFLEX/1 Q2 LAX Q2 NYC Q2 LON 5M1575.00 YYYHRFLEX/1 P/1 25.00 NUC2800.00END ROE0.750000\nBROKEN 14 1\n",
+        reason: "WITHOUT TRANSFERS 2800.00 SAVES -\n\
+                 LON Q1 X/FRA Q1 TYO M1200.00 YYYHRFLEX/1 Q2 LAX Q2 NYC Q2 LON 5M1575.00 YYYHRFLEX/1 P/1 25.00 \
+                 NUC2800.00END ROE0.750000\nBROKEN 14 1\n",
     },
     Barred {
         rule: "RULE,FLEX,5,5,0,3,365,N,*,*\n",
-        reason: "WITHOUT SURCHARGE 2800.00 SAVES -\nLON Q1 X/FRA Q1 TYO M1200.00 YYYHRFLEX/1 Q2 LAX Q2 NYC Q2 LON 5M1575.00 YYYHRFLEX/1 P/1 25.00 NUC2800.00END ROE0.750000\nBROKEN 17 2\n",
+        reason: "WITHOUT SURCHARGE 2800.00 SAVES -\n\
+                 LON Q1 X/FRA Q1 TYO M1200.00 YYYHRFLEX/1 Q2 LAX Q2 NYC Q2 LON 5M1575.00 YYYHRFLEX/1 P/1 25.00 \
+                 NUC2800.00END ROE0.750000\nBROKEN 17 2\n",
     },
     Barred {
         rule: "RULE,FLEX,5,5,0,3,365,Y,-,*\n",
-        reason: "WITHOUT UNIT 2800.00 SAVES -\nLON Q1 X/FRA Q1 TYO M1200.00 YYYHRFLEX/1 Q2 LAX Q2 NYC Q2 LON 5M1575.00 YYYHRFLEX/1 P/1 25.00 NUC2800.00END ROE0.750000\nBROKEN 19 1\n",
+        reason: "WITHOUT UNIT 2800.00 SAVES -\n\
+                 LON Q1 X/FRA Q1 TYO M1200.00 YYYHRFLEX/1 Q2 LAX Q2 NYC Q2 LON 5M1575.00 YYYHRFLEX/1 P/1 25.00 \
+                 NUC2800.00END ROE0.750000\nBROKEN 19 1\n",
     },
     Barred {
         rule: "RULE,FLEX,5,5,60,30,365,Y,*,*\n",

@@ -57,7 +57,8 @@ pub static UNITS: [Quotation; 7] = [
     Quotation {
         source: &[SIDE_TRIP, PLACES, HALVES, END],
         text: "EDITION 1 2025-01-01\n\
-               LON Q1 PAR 100.00 YYYHR/1 Q1 ROM 80.00 YYYHR/2 Q1 PAR 80.00 YYYHR/2 Q1 LON 100.00 YYYHR/1 NUC360.00END ROE0.750000\n\
+               LON Q1 PAR 100.00 YYYHR/1 Q1 ROM 80.00 YYYHR/2 Q1 PAR 80.00 YYYHR/2 Q1 LON 100.00 YYYHR/1 NUC360.00END \
+               ROE0.750000\n\
                PART 1 LON-PAR UNIT 1 OUT\n\
                FARE 8 YYYHR 100.00\n\
                MILES DIRECT\n\
@@ -109,7 +110,8 @@ pub static UNITS: [Quotation; 7] = [
     Quotation {
         source: &[WORLD, WORLD_FARES, END],
         text: "EDITION 7 2025-01-01\n\
-               LON Q1 X/FRA Q1 TYO M1200.00 YYYHRFLEX/1 Q2 LAX Q2 NYC Q2 LON 5M1575.00 YYYHRFLEX/1 P/1 25.00 NUC2800.00END ROE0.750000\n\
+               LON Q1 X/FRA Q1 TYO M1200.00 YYYHRFLEX/1 Q2 LAX Q2 NYC Q2 LON 5M1575.00 YYYHRFLEX/1 P/1 25.00 \
+               NUC2800.00END ROE0.750000\n\
                PART 1 LON-TYO UNIT 1 OUT\n\
                FARE 12 YYYHRFLEX 1200.00\n\
                MILES TPM 6300 EMA 0 NET 6300 MPM 7400 M\n\

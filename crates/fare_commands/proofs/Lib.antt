@@ -1,0 +1,2 @@
+pub mod MigrationLemmas
+pub mod PublicationLemmas

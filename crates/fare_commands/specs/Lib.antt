@@ -1,0 +1,16 @@
+pub mod Exit
+pub mod FaultText
+pub mod Answer
+pub mod Opened
+pub mod Limits
+pub mod Input
+pub mod StoreOutcome
+pub mod CheckOutcome
+pub mod PairOutcome
+pub mod DrillOutcome
+pub mod PriceOutcome
+pub mod Publication
+pub mod Readable
+pub mod Ends
+pub mod Steps
+pub mod StoreSteps
