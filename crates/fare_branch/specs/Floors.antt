@@ -24,6 +24,12 @@ abbrev pub IsFloorAnswer : Tariff → Itinerary → List Part → Option ℕ →
 IsFloorAnswer tariff trip first None = HasNoCompletion tariff trip first
 IsFloorAnswer tariff trip first (Some floor) = IsFloor tariff trip first floor
 
+-- an answer is no less than another: it is nothing, or a number that is no less
+abbrev pub IsNoLess : Option ℕ → Option ℕ → Type 0
+IsNoLess least None = Unit {0}
+IsNoLess None (Some floor) = ⊥
+IsNoLess (Some least) (Some floor) = least ≤ floor
+
 -- first parts were made for the trip of a table: they go on within it
 abbrev pub IsMadeWith : Pricing → List Part → Type 0
 IsMadeWith table first = IsFront table.trip first

@@ -4,7 +4,7 @@ ghost use Rattle.std.specs.Prelude.{◌≡◌, ◌+◌, length, option_map};
 ghost use Rattle.fare_rules.specs.Construction.{end_of};
 ghost use Rattle.fare_rules.specs.UnitPrice.{price};
 ghost use Rattle.fare_bounds.specs.Covers.{AreRests, rest_at};
-ghost use Rattle.fare_branch.specs.Floors.{IsMadeWith, IsFloorAnswer, HasNoOpenUnit};
+ghost use Rattle.fare_branch.specs.Floors.{IsMadeWith, IsFloorAnswer, IsNoLess, HasNoOpenUnit};
 
 use crate::costs::units_floor;
 use crate::partial::Partial;
@@ -17,10 +17,10 @@ pub fn floor_of(table: &Table, rest: &Rest, partial: &Partial) -> Option<u64>
     requires made { IsMadeWith table.now partial.now }
     ensures floor { IsFloorAnswer table.now.edition table.now.trip partial.now result }
 
-    // Where no unit is open it is the price of the units and the least rest behind them.
+    // Where no unit is open it is no less than the price of the units and the least rest behind them.
     ensures shut { HasNoOpenUnit table.now.edition table.now.trip partial.now
-        → result ≡ option_map (λ least. price table.now.edition table.now.trip partial.now + least)
-        (rest_at rest.now (end_of partial.now (length partial.now))) }
+        → IsNoLess (option_map (λ least. price table.now.edition table.now.trip partial.now + least)
+        (rest_at rest.now (end_of partial.now (length partial.now)))) result }
 {
     let trip = table.trip();
     trip.law();

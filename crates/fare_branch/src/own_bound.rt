@@ -66,7 +66,14 @@ impl Bound for OwnBound {
 
     ghost never_below = { λ bound. bound.above };
 
-    fn seen(&mut self) -> u64 {
+    fn seen(&mut self) -> u64
+        ensures fixed { ⟦<OwnBound as Bound>⟧.fixed self.new ≡ ⟦<OwnBound as Bound>⟧.fixed self.old }
+        ensures floor { ⟦<OwnBound as Bound>⟧.fixed self.new ≤ result }
+        ensures least { ⟦<OwnBound as Bound>⟧.least self.new ≡ result }
+
+        // It answers the least price that it was told.
+        ensures answer { result ≡ ⟦<OwnBound as Bound>⟧.least self.old }
+    {
         self.least
     }
 

@@ -1,4 +1,4 @@
-use Rattle.std.proofs.Common.{◌≡◌, ℕ, ◌+◌, false, List, Option, Some, None, length, ap, sym, subst, ◌∙◌}
+use Rattle.std.proofs.Common.{◌≡◌, ℕ, ◌+◌, arith, false, List, Option, Some, None, length, ap, sym, subst, ◌∙◌}
 use Rattle.std.specs.Prelude.{option_map}
 use Rattle.fare_trip.specs.Itinerary.{Itinerary, sector}
 use Rattle.fare_rules.specs.declared.part.Part.{Part}
@@ -6,7 +6,7 @@ use Rattle.fare_rules.specs.Construction.{end_of}
 use Rattle.fare_rules.specs.UnitPrice.{price}
 use Rattle.fare_bounds.specs.Covers.{IsCover, IsLeast, rest_at}
 use Rattle.fare_branch.specs.Costs.{units_floor}
-use Rattle.fare_branch.specs.Floors.{IsFloorAnswer}
+use Rattle.fare_branch.specs.Floors.{IsFloorAnswer, IsNoLess}
 use Rattle.fare_branch.proofs.FloorLemmas.{sum_is_floor}
 use Rattle.fare_branch.proofs.ShutLemmas.{floor_is_below, shut_floor}
 use Rattle.fare_branch.proofs.floors.floor_of.Goals as goal
@@ -21,7 +21,7 @@ returns-in-None c =
       floor = sum_is_floor c.args.table.now.edition c.args.table.now.trip c.args.partial.now (units_floor c.args.table.now.edition c.args.table.now.trip c.args.partial.now) None flown
           (floor_is_below c.args.table.now.edition c.args.table.now.trip c.args.partial.now)
           (subst Q same (c.requires.rest (end_of c.args.partial.now (length c.args.partial.now))));
-      shut = λ shut. sym (ap (option_map (λ least. price c.args.table.now.edition c.args.table.now.trip c.args.partial.now + least)) same);
+      shut = λ shut. tt;
     }
 
 pub returns-in-Some : goal.returns-in-Some
@@ -39,6 +39,9 @@ returns-in-Some c =
           (floor_is_below c.args.table.now.edition c.args.table.now.trip c.args.partial.now)
           (subst Q same (c.requires.rest (end_of c.args.partial.now (length c.args.partial.now)))));
       shut = λ shut.
+          let floor : Option ℕ = Some (c.units_floor-spent.result + c.in-Some.least) in
+          let is : floor ≡ option_map (λ least. price c.args.table.now.edition c.args.table.now.trip c.args.partial.now + least) (rest_at c.args.rest.now (end_of c.args.partial.now (length c.args.partial.now))) =
           ap (λ spent. Some (spent + c.in-Some.least)) (value ∙ shut_floor c.args.table.now.edition c.args.table.now.trip c.args.partial.now shut)
-          ∙ sym (ap (option_map (λ least. price c.args.table.now.edition c.args.table.now.trip c.args.partial.now + least)) same);
+          ∙ sym (ap (option_map (λ least. price c.args.table.now.edition c.args.table.now.trip c.args.partial.now + least)) same) in
+          subst (λ x. IsNoLess x floor) is (omega arith);
     }
