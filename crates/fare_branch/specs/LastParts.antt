@@ -60,10 +60,6 @@ pub record AreOverLasts (table : Pricing) (front : List Part) (unit : ℕ) (must
   pub lasts : AreLasts table front unit (end_of front (length front)) homes row
   pub whole : must ≡ false → (i cost : ℕ) → IsUpTo cost (rest_at behind i) → IsUpTo cost (rest_at row i)
 
--- what is under one number is under another
-abbrev pub IsKeptBy : Option ℕ → Option ℕ → Type 0
-IsKeptBy before after = (most : ℕ) → IsUpTo most before → IsUpTo most after
-
 -- what is known of a unit of first parts that goes on: the point where it begins, that another part may follow, and
 -- that its number is one of a part
 pub record IsGoing (table : Pricing) (front : List Part) (unit start : ℕ) : Type 0 where

@@ -3,25 +3,23 @@
 //! and which stays their rules allow.
 
 ghost use Rattle.std.specs.Prelude.{◌≡◌, ℕ, ◌<◌, ◌≤◌, ◌++◌, ◌∷◌, [], length, Contains};
-ghost use Rattle.fare_codes.specs.Day.{day_number};
 ghost use Rattle.fare_trip.specs.Itinerary.{count};
 ghost use Rattle.fare_component.specs.declared.table.entry.Entry.{Entry};
 ghost use Rattle.fare_component.specs.Table.{IsInBounds, entries_of};
 ghost use Rattle.fare_rules.specs.Construction.{end_of, first_of, own, start_of};
-ghost use Rattle.fare_rules.specs.Span.{first_day};
 ghost use Rattle.fare_rules.specs.UnitRules.{forbids_stay};
 ghost use Rattle.fare_bounds.specs.Covers.{rest_at};
-ghost use Rattle.fare_homing.specs.Homing.{IsUpTo, back_cost};
+ghost use Rattle.fare_homing.specs.Homing.{IsKeptBy, IsUpTo, back_cost};
 ghost use Rattle.fare_branch.specs.Floors.{IsMadeWith};
-ghost use Rattle.fare_branch.specs.LastParts.{AreLasts, AreOverLasts, IsGoing, IsKeptBy, IsUnderLast, IsUnderLasts};
+ghost use Rattle.fare_branch.specs.LastParts.{AreLasts, AreOverLasts, IsGoing, IsUnderLast, IsUnderLasts};
 ghost use Rattle.fare_branch.specs.LastParts.{forbids_any, may_be_last};
 
 use crate::partial::{Partial, with_last};
 use fare_bounds::lesser;
 use fare_component::{Entry, Table};
+use fare_homing::day_behind;
 use fare_rules::{MOST_POINTS, Part};
 use fare_tariff::Edition;
-use fare_trip::Trip;
 use fare_units::{MOST_PARTS, is_uncombined, part_at};
 
 /// A unit of first parts that goes on.
@@ -41,16 +39,6 @@ struct LastSpan {
     home: usize,
     /// What is behind its end at least.
     behind: u64,
-}
-
-/// The day of the sector behind a point, as a number.
-fn day_behind(trip: &Trip, a: usize) -> u32
-    requires { a < count trip.now }
-    ensures { result ≡ day_number (first_day trip.now a) }
-{
-    let sectors = trip.count();
-    prove!(a < sectors);
-    trip.sector(a + 1).day.number()
 }
 
 /// Whether the rule of a part's fare does not allow a stay.

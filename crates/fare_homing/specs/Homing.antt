@@ -12,6 +12,10 @@ use Rattle.fare_bounds.specs.Covers.{hundredths_of}
 abbrev pub IsUpTo : ℕ → Option ℕ → Type 0
 IsUpTo most found = (least : ℕ) × (found ≡ Some least) × (least ≤ most)
 
+-- what is under one number is under another
+abbrev pub IsKeptBy : Option ℕ → Option ℕ → Type 0
+IsKeptBy before after = (most : ℕ) → IsUpTo most before → IsUpTo most after
+
 -- two cities are the same, or lie in one country
 abbrev pub are_near : Tariff → City → City → Bool
 are_near tariff a b = bytes_eq a b || lie_together tariff a b
@@ -32,8 +36,8 @@ first_cost entry = half_cost entry (option_map hundredths_of entry.out)
 abbrev pub back_cost : Entry → Option ℕ
 back_cost entry = half_cost entry (option_map hundredths_of entry.back)
 
--- a part between two points heads home in a unit that closes at another: it comes into the country of the city where the
--- unit closes from outside it
+-- a part between two points heads home in a unit that closes at another: it comes into the country of the city where
+-- the unit closes from outside it
 abbrev pub heads_to : Tariff → Itinerary → ℕ → ℕ → ℕ → Bool
 heads_to tariff trip a b home =
     lie_together tariff (point trip b) (point trip home) && not (lie_together tariff (point trip a) (point trip home))

@@ -61,7 +61,3 @@ abbrev pub IsUnderPairsOf : Pricing → ℕ → ℕ → ℕ → ℕ → Entry �
 IsUnderPairsOf table start home floor end first least =
     (amount : ℕ) → first_cost first ≡ Some amount
     → IsUnderPairsFrom table start home floor first.fare amount end least
-
--- what is under one number is under another
-abbrev pub IsKeptBy : Option ℕ → Option ℕ → Type 0
-IsKeptBy before after = (most : ℕ) → IsUpTo most before → IsUpTo most after

@@ -68,7 +68,8 @@ fn reach_between(trip: &Trip, homing: &Homing, start: &Start, i: usize, home: us
     requires within { home ≤ count trip.now }
     ensures { (b x y : ℕ) → i < b → b < home → is_same_city trip.now home b ≡ false
         → IsUpTo x (step_to start.now.countries.now start.now.point (rest_at start.now.legs.now.first)
-        (rest_at start.now.legs.now.last) home b) → IsUpTo y (closing_from homing.now b b home) → IsUpTo (x + y) result }
+        (rest_at start.now.legs.now.last) home b) → IsUpTo y (closing_from homing.now b b home)
+        → IsUpTo (x + y) result }
 {
     let sectors = trip.count();
     prove!(home <= sectors);

@@ -27,4 +27,5 @@ mod whole;
 pub use homing::{Homing, Standing, cell, closing_from, homing_of, jaw_from, number_at};
 pub use lonely::{MOST_LONELY, is_rule_of, rule_at};
 pub use nearness::are_near;
+pub use pairs::day_behind;
 pub use reaching::added;

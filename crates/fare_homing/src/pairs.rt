@@ -8,9 +8,9 @@ ghost use Rattle.fare_rules.specs.Span.{first_day};
 ghost use Rattle.fare_rules.specs.UnitRules.{allows_stay_of};
 ghost use Rattle.fare_component.specs.declared.table.entry.Entry.{Entry};
 ghost use Rattle.fare_component.specs.Table.{entries_of};
-ghost use Rattle.fare_homing.specs.Pairs.{HasPair, IsKeptBy, IsUnderPair, IsUnderPairsAt, IsUnderPairsFrom};
+ghost use Rattle.fare_homing.specs.Pairs.{HasPair, IsUnderPair, IsUnderPairsAt, IsUnderPairsFrom};
 ghost use Rattle.fare_homing.specs.Pairs.{IsUnderPairsOf, days_between, may_pair};
-ghost use Rattle.fare_homing.specs.Homing.{IsUpTo};
+ghost use Rattle.fare_homing.specs.Homing.{IsKeptBy, IsUpTo};
 
 use crate::legs::half_cost;
 use fare_component::{Entry, Table};
@@ -34,8 +34,8 @@ struct FirstPart {
     end: usize,
 }
 
-/// The day of the sector behind a point, as a number.
-fn day_behind(trip: &Trip, a: usize) -> u32
+/// The day of the sector behind a point, in days since 1970-01-01.
+pub fn day_behind(trip: &Trip, a: usize) -> u32
     requires { a < count trip.now }
     ensures { result ≡ day_number (first_day trip.now a) }
 {

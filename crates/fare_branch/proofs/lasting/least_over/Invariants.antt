@@ -2,7 +2,8 @@
 use Rattle.std.proofs.Common.{take}
 use Rattle.std.specs.Prelude.{Contains}
 use Rattle.fare_component.specs.declared.table.entry.Entry.{Entry}
-use Rattle.fare_branch.specs.LastParts.{IsKeptBy, IsUnderLast}
+use Rattle.fare_homing.specs.Homing.{IsKeptBy}
+use Rattle.fare_branch.specs.LastParts.{IsUnderLast}
 use Rattle.fare_branch.proofs.lasting.least_over.Given as goal
 
 abbrev pub invariant-loop-entry : goal.invariant-loop-entry
