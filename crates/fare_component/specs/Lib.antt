@@ -8,4 +8,5 @@ pub mod References
 pub mod Shared
 pub mod Spans
 pub mod Table
+pub mod Tried
 pub mod Usable

@@ -1,9 +1,10 @@
 -- What a table computes once for a span, for all fares that are tried there.
-use Rattle.std.specs.Prelude.{◌≡◌, ℕ, ◌≤◌, Bool, true, false, not, ◌&&◌, Option, Some, None, length, nat_le, bytes_eq}
+use Rattle.std.specs.Prelude.{◌≡◌, ℕ, ◌<◌, ◌≤◌, Bool, true, false, not, ◌&&◌, Option, Some, None, length, nat_le}
+use Rattle.std.specs.Prelude.{bytes_eq}
 use Rattle.std.specs.List.{list_all}
 use Rattle.fare_codes.specs.declared.cabin.Cabin.{Cabin}
 use Rattle.fare_codes.specs.declared.carrier.Carrier.{Carrier}
-use Rattle.fare_trip.specs.Itinerary.{Itinerary}
+use Rattle.fare_trip.specs.Itinerary.{Itinerary, count}
 use Rattle.fare_tariff.specs.Tariff.{Tariff}
 use Rattle.fare_rules.specs.declared.limits.TheConstants.{MOST_SURCHARGE}
 use Rattle.fare_rules.specs.Indicator.{indicator}
@@ -26,14 +27,16 @@ abbrev pub IsOneCarrier : Itinerary → ℕ → ℕ → Option Carrier → Type 
 IsOneCarrier trip a b one =
     (carrier : Carrier) → list_all (is_carried_by trip carrier) (sectors a b) ≡ is_carrier one carrier
 
--- a span from a point to another can be a component, its mileage lets fares be used, and it has this indicator,
--- surcharge, number of stopovers and of transfers, greatest rank of a cabin and carrier
-pub record IsSpan (tariff : Tariff) (trip : Itinerary) (a b : ℕ) (span : Span) : Type 0 where
-  pub plain : (not (holds_surface trip a b) && not (repeats_city trip a b)) ≡ true
-  pub indicator : span.ind ≡ indicator tariff trip a b
-  pub measured : span_surcharge tariff trip a b ≡ Some span.step
+-- a span of a trip can be a component, its mileage lets fares be used, and it has this indicator, surcharge, number of
+-- stopovers and of transfers, greatest rank of a cabin and carrier
+pub record IsSpan (tariff : Tariff) (trip : Itinerary) (span : Span) : Type 0 where
+  pub rises : span.a < span.b
+  pub within : span.b ≤ count trip
+  pub plain : (not (holds_surface trip span.a span.b) && not (repeats_city trip span.a span.b)) ≡ true
+  pub indicator : span.ind ≡ indicator tariff trip span.a span.b
+  pub measured : span_surcharge tariff trip span.a span.b ≡ Some span.step
   pub step : span.step ≤ MOST_SURCHARGE
-  pub stops : span.stops ≡ length (stopovers trip a b)
-  pub transfers : span.transfers ≡ length (transfers trip a b)
-  pub rank : IsGreatestRank trip a b span.rank
-  pub carrier : IsOneCarrier trip a b span.carrier
+  pub stops : span.stops ≡ length (stopovers trip span.a span.b)
+  pub transfers : span.transfers ≡ length (transfers trip span.a span.b)
+  pub rank : IsGreatestRank trip span.a span.b span.rank
+  pub carrier : IsOneCarrier trip span.a span.b span.carrier

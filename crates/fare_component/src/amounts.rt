@@ -6,6 +6,7 @@ ghost use Rattle.fare_rules.specs.Base.{base};
 ghost use Rattle.fare_rules.specs.ComponentAmount.{is_allowed, amount_from, fare_amount, component_amount};
 ghost use Rattle.fare_component.specs.Usable.{IsAmount};
 
+use crate::component::Component;
 use crate::conditions::{is_allowed, span_surcharge};
 use crate::usable::is_usable;
 use fare_codes::{FARE_LIMIT, Nuc, surcharged};
@@ -15,12 +16,12 @@ use fare_tariff::{Edition, FareRec};
 use fare_trip::Trip;
 
 /// The base of a fare for a span: its amount, or that of a higher intermediate point.
-fn base(edition: &Edition, trip: &Trip, a: usize, b: usize, fare: &FareRec, back: bool) -> Nuc
-    requires rises { a < b }
-    requires within { b ≤ count trip.now }
-    ensures value { result ≡ base edition.now trip.now a b fare.now back }
+fn base(edition: &Edition, trip: &Trip, component: Component, fare: &FareRec) -> Nuc
+    requires { component.b ≤ count trip.now }
+    ensures value { result ≡ base edition.now trip.now component.a component.b fare.now component.back }
     ensures bound { result < FARE_LIMIT }
 {
+    let Component { a, b, back } = component;
     match higher(edition, trip, a, b, fare, back) {
         None => fare.amount,
         Some((_, _, amount)) => amount,
@@ -46,21 +47,18 @@ pub(crate) fn amount_from(base: Nuc, step: u32) -> Amount
 fn allowed_amount(
     edition: &Edition,
     trip: &Trip,
-    a: usize,
-    b: usize,
+    component: Component,
     fare: &FareRec,
-    back: bool,
     step: u32,
 ) -> Option<Amount>
-    requires rises { a < b }
-    requires within { b ≤ count trip.now }
+    requires within { component.b ≤ count trip.now }
     requires step { step ≤ MOST_SURCHARGE }
-    ensures value { result ≡ (if is_allowed edition.now fare.now (Some step)
-        then Some (amount_from (base edition.now trip.now a b fare.now back) step) else None) }
+    ensures value { result ≡ (if is_allowed edition.now fare.now (Some step) then Some (amount_from
+        (base edition.now trip.now component.a component.b fare.now component.back) step) else None) }
     ensures bound { IfSome result IsAmount }
 {
     if is_allowed(edition, fare, Some(step)) {
-        let base_amount = base(edition, trip, a, b, fare, back);
+        let base_amount = base(edition, trip, component, fare);
         Some(amount_from(base_amount, step))
     } else {
         None
@@ -72,22 +70,19 @@ fn allowed_amount(
 fn fare_amount(
     edition: &Edition,
     trip: &Trip,
-    a: usize,
-    b: usize,
+    component: Component,
     fare: &FareRec,
-    back: bool,
 ) -> Option<Amount>
-    requires rises { a < b }
-    requires within { b ≤ count trip.now }
-    ensures value { result ≡ fare_amount edition.now trip.now a b back fare.now }
+    requires { component.b ≤ count trip.now }
+    ensures value { result ≡ fare_amount edition.now trip.now component.a component.b component.back fare.now }
     ensures bound { IfSome result IsAmount }
 {
-    if !is_usable(edition, trip, a, b, fare, back) {
+    if !is_usable(edition, trip, component, fare) {
         return None;
     }
-    match span_surcharge(edition, trip, a, b) {
+    match span_surcharge(edition, trip, component.a, component.b) {
         None => None,
-        Some(step) => allowed_amount(edition, trip, a, b, fare, back, step),
+        Some(step) => allowed_amount(edition, trip, component, fare, step),
     }
 }
 
@@ -109,6 +104,6 @@ pub fn applicable(
 {
     match edition.fare_at(number) {
         None => None,
-        Some(fare) => fare_amount(edition, trip, a, b, fare, back),
+        Some(fare) => fare_amount(edition, trip, Component { a, b, back }, fare),
     }
 }

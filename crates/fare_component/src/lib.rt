@@ -3,12 +3,14 @@
 //!
 //! - `conditions`: what a fare and its rule must be for a span, test by test;
 //! - `usable`: all of them but the mileage;
+//! - `component`: a span that a fare is priced for, out or back;
 //! - `amounts`: what the fare costs;
 //! - `table`: what each fare costs for each span, computed once;
 //! - `laws`: what follows of the entries of a table, with nothing to run.
 #![tactic(auto)]
 
 mod amounts;
+mod component;
 pub mod conditions;
 mod laws;
 mod table;

@@ -1,6 +1,7 @@
 //! The table of a trip in an edition: what each fare costs for each span, computed once.
 //!
 //! - `indicators`: the indicators of all spans and the mileages of all sectors;
+//! - `priced`: the trip in its edition, with these;
 //! - `references`, `forms`: the references of fares between the points, each looked up once;
 //! - `columns`: the greatest of them to a point, kept for the components from earlier points;
 //! - `reaches`: the greatest of all, kept for longer components from the same point;
@@ -15,8 +16,6 @@ ghost use Rattle.std.specs.Option.{option_copied};
 ghost use Rattle.fare_trip.specs.Itinerary.{count};
 ghost use Rattle.fare_rules.specs.Numbers.{numbers};
 ghost use Rattle.fare_rules.specs.ComponentAmount.{component_amount};
-ghost use Rattle.fare_mileage.specs.Miles.{AreInRange, AreMiles};
-ghost use Rattle.fare_component.specs.Shared.{AreIndicators};
 ghost use Rattle.fare_component.specs.Table.{IsInBounds, entries_of, entry_at, row_of, single_price};
 ghost use Rattle.fare_component.specs.Usable.{IsAmount};
 
@@ -29,6 +28,7 @@ mod entries;
 mod entry;
 mod forms;
 mod indicators;
+mod priced;
 mod reaches;
 mod references;
 mod row;
@@ -42,7 +42,8 @@ use fare_rules::Amount;
 use fare_tariff::Edition;
 use fare_trip::Trip;
 use forms::Forms;
-use indicators::{Indicators, all_indicators};
+use indicators::all_indicators;
+pub(crate) use priced::Priced;
 use row::Row;
 pub(crate) use span::Span;
 use std::alloc::Global;
@@ -78,8 +79,12 @@ impl<'a> Table<'a> {
     ) -> Result<Table<'a>, NoMemory>
         ensures { IfOk result (λ table. table ≡ record { edition = edition.now; trip = trip.now }) }
     {
-        let indicators = all_indicators(edition, trip);
-        let rows = rows_of(alloc, edition, trip, &indicators)?;
+        let priced = Priced {
+            edition,
+            trip,
+            indicators: &all_indicators(edition, trip),
+        };
+        let rows = rows_of(alloc, &priced)?;
         Ok(Table {
             edition,
             trip,
@@ -163,24 +168,17 @@ impl<'a> Table<'a> {
 
 /// The rows of all points but the last, of which the last is made first: what it learns of the later sectors serves the
 /// rows of the points before.
-fn rows_of(
-    alloc: Global,
-    edition: &Edition,
-    trip: &Trip,
-    indicators: &Indicators,
-) -> Result<Vec<Row>, NoMemory>
-    requires indicators { AreIndicators edition.now trip.now indicators.now.rows }
-    requires miles { AreMiles edition.now trip.now 0 (count trip.now) indicators.now.miles }
-    requires in_range { AreInRange indicators.now.miles }
-    ensures { IfOk result (λ rows. rows.items ≡ map (row_of edition.now trip.now) (numbers 0 (count trip.now))) }
+fn rows_of(alloc: Global, priced: &Priced) -> Result<Vec<Row>, NoMemory>
+    ensures { IfOk result (λ rows.
+        rows.items ≡ map (row_of priced.now.edition.now priced.now.trip.now) (numbers 0 (count priced.now.trip.now))) }
 {
-    let count = trip.count();
+    let count = priced.trip.count();
     let mut forms = Forms::new(alloc);
     let mut rows = Vec::new(alloc);
     for done in 0..count {
         let a = count - 1 - done;
-        forms.begin(trip, a);
-        rows.push(Row::of(alloc, edition, trip, indicators, &mut forms, a)?)?;
+        forms.begin(priced.trip, a);
+        rows.push(Row::of(alloc, priced, &mut forms, a)?)?;
     }
     rows.reverse();
     Ok(rows)

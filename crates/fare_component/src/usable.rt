@@ -7,6 +7,7 @@ ghost use Rattle.fare_rules.specs.ComponentAmount.{repeats_city};
 ghost use Rattle.fare_component.specs.Spans.{IsSpan};
 ghost use Rattle.fare_component.specs.Usable.{is_for_span, is_usable};
 
+use crate::component::Component;
 use crate::conditions::{
     advance_holds, covers_cabins, covers_carriers, has_carrier, has_indicator, has_rank,
     holds_surface, in_season, may_be_priced, repeats_city, runs_between, stops_hold,
@@ -27,18 +28,11 @@ pub(crate) fn is_plain(trip: &Trip, a: usize, b: usize) -> bool
 /// Whether a fare is for a span: the span can be a component, and the fare runs between its ends, has its indicator and
 /// covers its cabins, its carriers and its day.
 #[tactic(auto, unfolding(crate::specs::Usable::is_for_span))]
-fn is_for_span(
-    edition: &Edition,
-    trip: &Trip,
-    a: usize,
-    b: usize,
-    fare: &FareRec,
-    back: bool,
-) -> bool
-    requires rises { a < b }
-    requires within { b ≤ count trip.now }
-    ensures { result ≡ is_for_span edition.now trip.now a b back fare.now }
+fn is_for_span(edition: &Edition, trip: &Trip, component: Component, fare: &FareRec) -> bool
+    requires { component.b ≤ count trip.now }
+    ensures { result ≡ is_for_span edition.now trip.now component.a component.b component.back fare.now }
 {
+    let Component { a, b, back } = component;
     is_plain(trip, a, b)
         && runs_between(trip, a, b, back, fare)
         && may_be_priced(fare, back)
@@ -53,16 +47,14 @@ fn is_for_span(
 pub(crate) fn is_usable(
     edition: &Edition,
     trip: &Trip,
-    a: usize,
-    b: usize,
+    component: Component,
     fare: &FareRec,
-    back: bool,
 ) -> bool
-    requires rises { a < b }
-    requires within { b ≤ count trip.now }
-    ensures { result ≡ is_usable edition.now trip.now a b back fare.now }
+    requires { component.b ≤ count trip.now }
+    ensures { result ≡ is_usable edition.now trip.now component.a component.b component.back fare.now }
 {
-    is_for_span(edition, trip, a, b, fare, back)
+    let (a, b) = (component.a, component.b);
+    is_for_span(edition, trip, component, fare)
         && stops_hold(edition, trip, a, b, fare)
         && transfers_hold(edition, trip, a, b, fare)
         && advance_holds(edition, trip, fare)
@@ -74,17 +66,14 @@ pub(crate) fn suits_span(
     edition: &Edition,
     trip: &Trip,
     span: &Span,
-    a: usize,
-    b: usize,
     fare: &FareRec,
     back: bool,
 ) -> bool
-    requires rises { a < b }
-    requires within { b ≤ count trip.now }
-    requires span { IsSpan edition.now trip.now a b span.now }
-    ensures { result ≡ is_for_span edition.now trip.now a b back fare.now }
+    requires { IsSpan edition.now trip.now span.now }
+    ensures { result ≡ is_for_span edition.now trip.now span.now.a span.now.b back fare.now }
 {
     let _edition = edition;
+    let (a, b) = (span.a, span.b);
     may_be_priced(fare, back)
         && runs_between(trip, a, b, back, fare)
         && fare.ind.is(span.ind)

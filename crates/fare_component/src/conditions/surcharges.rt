@@ -5,13 +5,13 @@ ghost use Rattle.fare_trip.specs.Itinerary.{count};
 ghost use Rattle.fare_rules.specs.Indicator.{indicator};
 ghost use Rattle.fare_rules.specs.ComponentAmount.{span_surcharge, mileage_holds, excess_holds};
 ghost use Rattle.fare_rules.specs.Mileage.{surcharge_of};
-ghost use Rattle.fare_mileage.specs.Miles.{AreInRange, AreMiles};
 
 use crate::conditions::terms::is_allowed;
+use crate::table::Priced;
 use fare_codes::Indicator;
 use fare_mileage::{Mileage, mileage, mileage_by};
 use fare_points::indicator;
-use fare_rules::{MOST_POINTS, MOST_SURCHARGE};
+use fare_rules::MOST_SURCHARGE;
 use fare_tariff::{Edition, FareRec};
 use fare_trip::Trip;
 
@@ -26,26 +26,18 @@ fn surcharge_of(mileage: Mileage) -> Option<u32>
     }
 }
 
-/// The surcharge that the mileage of a span asks for, in hundredths of the base, where it lets a fare be used, the
-/// span's indicator is this and the miles of its sectors are these.
+/// The surcharge that the mileage of a span asks for, in hundredths of the base, where it lets a fare be used and the
+/// span's indicator is this; by the mileages of the sectors that were looked up once.
 #[tactic(auto, unfolding(fare_rules::specs::ComponentAmount::span_surcharge))]
-pub(crate) fn surcharge_by(
-    edition: &Edition,
-    trip: &Trip,
-    miles: &[Option<u32>; MOST_POINTS],
-    a: usize,
-    b: usize,
-    ind: Indicator,
-) -> Option<u32>
+pub(crate) fn surcharge_by(priced: &Priced, a: usize, b: usize, ind: Indicator) -> Option<u32>
     requires rises { a < b }
-    requires within { b ≤ count trip.now }
-    requires miles { AreMiles edition.now trip.now a b miles.now }
-    requires in_range { AreInRange miles.now }
-    requires indicator { ind ≡ indicator edition.now trip.now a b }
-    ensures value { result ≡ span_surcharge edition.now trip.now a b }
+    requires within { b ≤ count priced.now.trip.now }
+    requires indicator { ind ≡ indicator priced.now.edition.now priced.now.trip.now a b }
+    ensures value { result ≡ span_surcharge priced.now.edition.now priced.now.trip.now a b }
     ensures bound { IfSome result (λ step. step ≤ MOST_SURCHARGE) }
 {
-    surcharge_of(mileage_by(edition, trip, miles, a, b, ind))
+    let miles = &priced.indicators.miles;
+    surcharge_of(mileage_by(priced.edition, priced.trip, miles, a, b, ind))
 }
 
 /// The surcharge that the mileage of a span asks for, in hundredths of the base, where it lets a fare be used.

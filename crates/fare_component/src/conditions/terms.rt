@@ -93,20 +93,18 @@ pub(crate) fn is_allowed(edition: &Edition, fare: &FareRec, surcharge: Option<u3
 pub(crate) fn terms_allow(
     edition: &Edition,
     trip: &Trip,
-    a: usize,
-    b: usize,
     fare: &FareRec,
     asked: &Option<Terms>,
     span: &Span,
 ) -> bool
-    requires span { IsSpan edition.now trip.now a b span.now }
+    requires span { IsSpan edition.now trip.now span.now }
     requires asked { asked.now ≡ terms_of_fare edition.now fare.now }
-    ensures { result ≡ (stops_hold edition.now trip.now a b fare.now && transfers_hold edition.now trip.now a b fare.now
+    ensures { result ≡ (stops_hold edition.now trip.now span.now.a span.now.b fare.now
+        && transfers_hold edition.now trip.now span.now.a span.now.b fare.now
         && advance_holds edition.now trip.now fare.now && is_allowed edition.now fare.now (Some span.now.step)) }
 {
     let _edition = edition;
     let _fare = fare;
-    let _ends = (a, b);
     match asked {
         None => false,
         Some(asked) => {

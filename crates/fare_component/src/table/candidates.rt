@@ -1,8 +1,7 @@
 ghost use Rattle.std.specs.Prelude.{◌≡◌, ◌+◌, ◌<◌, Some};
 ghost use Rattle.fare_component.specs.Candidates.{StandAt, first_of, lesser, passed};
 
-use crate::table::cursor::{Cursor, cursor_past, first_cursor};
-use fare_codes::{City, Indicator};
+use crate::table::cursor::{Cursor, Market, cursor_past, first_cursor};
 use fare_tariff::Edition;
 
 /// The fares between two cities for an indicator that are still to come, in either direction and in record order.
@@ -24,13 +23,13 @@ fn lesser(a: Option<u32>, b: Option<u32>) -> Option<u32>
 }
 
 /// All fares between two cities for an indicator.
-pub(crate) fn all_candidates(edition: &Edition, from: City, to: City, ind: Indicator) -> Candidates
-    ensures stand { StandAt edition.now from to ind 2 result }
+pub(crate) fn all_candidates(edition: &Edition, market: &Market) -> Candidates
+    ensures stand { StandAt edition.now market.now.from market.now.to market.now.ind 2 result }
     ensures none_passed { passed result ≡ 0 }
 {
     Candidates {
-        out: first_cursor(edition, from, to, ind),
-        back: first_cursor(edition, to, from, ind),
+        out: first_cursor(edition, market),
+        back: first_cursor(edition, &market.back()),
     }
 }
 
@@ -45,19 +44,17 @@ pub(crate) fn first_candidate(candidates: Candidates) -> Option<u32>
 #[tactic(auto, using(crate::proofs::CandidateLemmas::is_shown))]
 pub(crate) fn candidates_past(
     edition: &Edition,
-    from: City,
-    to: City,
-    ind: Indicator,
+    market: &Market,
     candidates: Candidates,
     number: u32,
 ) -> Candidates
     requires first { first_of candidates ≡ Some number }
-    requires stand { StandAt edition.now from to ind number candidates }
-    ensures stand { StandAt edition.now from to ind (number + 1) result }
+    requires stand { StandAt edition.now market.now.from market.now.to market.now.ind number candidates }
+    ensures stand { StandAt edition.now market.now.from market.now.to market.now.ind (number + 1) result }
     ensures more { passed candidates < passed result }
 {
     Candidates {
-        out: cursor_past(edition, from, to, ind, candidates.out, number),
-        back: cursor_past(edition, to, from, ind, candidates.back, number),
+        out: cursor_past(edition, market, candidates.out, number),
+        back: cursor_past(edition, &market.back(), candidates.back, number),
     }
 }

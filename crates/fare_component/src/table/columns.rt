@@ -5,15 +5,12 @@ ghost use Rattle.fare_trip.specs.Itinerary.{Itinerary, count};
 ghost use Rattle.fare_tariff.specs.Tariff.{Tariff};
 ghost use Rattle.fare_rules.specs.Span.{is_stopover};
 ghost use Rattle.fare_component.specs.declared.table.references.Form.{Form};
-ghost use Rattle.fare_component.specs.Shared.{AreIndicators};
 ghost use Rattle.fare_component.specs.References.{AreReferences, IsColumn, greatest_to, reference_of};
 
 use crate::table::entry::at_least;
-use crate::table::indicators::Indicators;
+use crate::table::priced::Priced;
 use crate::table::references::{Column, References};
 use fare_codes::{FARE_LIMIT, Nuc};
-use fare_tariff::Edition;
-use fare_trip::Trip;
 
 /// The column to a point that serves those from another on: the one that is kept, where it begins there or later, else
 /// an empty one.
@@ -34,44 +31,35 @@ fn serving(kept: Option<Column>, first: usize, j: usize) -> Column
 
 impl References {
     /// From here on the column to a point is this one.
-    fn keep(&mut self, edition: &Edition, trip: &Trip, j: usize, column: Column)
-        requires right { AreReferences edition.now trip.now self.old }
-        requires within { j ≤ count trip.now }
-        requires column { IsColumn edition.now trip.now self.old.form j column }
+    fn keep(&mut self, priced: &Priced, j: usize, column: Column)
+        requires right { AreReferences priced.now.edition.now priced.now.trip.now self.old }
+        requires within { j ≤ count priced.now.trip.now }
+        requires column { IsColumn priced.now.edition.now priced.now.trip.now self.old.form j column }
         ensures form { self.new.form ≡ self.old.form }
         ensures reach { self.new.reach ≡ self.old.reach }
-        ensures right { AreReferences edition.now trip.now self.new }
+        ensures right { AreReferences priced.now.edition.now priced.now.trip.now self.new }
     {
-        let _edition = edition;
-        let count = trip.count();
+        let count = priced.trip.count();
         prove!(j <= count);
         self.columns[j] = Some(column);
     }
 }
 
 /// The reference between two points of which the first is a stopover, where it is.
-fn reference_from(
-    edition: &Edition,
-    trip: &Trip,
-    indicators: &Indicators,
-    known: &mut References,
-    i: usize,
-    j: usize,
-) -> Option<Nuc>
-    requires indicators { AreIndicators edition.now trip.now indicators.now.rows }
-    requires known { AreReferences edition.now trip.now known.old }
+fn reference_from(priced: &Priced, known: &mut References, i: usize, j: usize) -> Option<Nuc>
+    requires known { AreReferences priced.now.edition.now priced.now.trip.now known.old }
     requires begins { 1 ≤ i }
     requires rises { i < j }
-    requires within { j ≤ count trip.now }
-    ensures value { result
-        ≡ (if is_stopover trip.now i then reference_of edition.now trip.now known.old.form i j else None) }
+    requires within { j ≤ count priced.now.trip.now }
+    ensures value { result ≡ (if is_stopover priced.now.trip.now i
+        then reference_of priced.now.edition.now priced.now.trip.now known.old.form i j else None) }
     ensures bound { IfSome result (λ amount. amount < FARE_LIMIT) }
     ensures form { known.new.form ≡ known.old.form }
     ensures reach { known.new.reach ≡ known.old.reach }
-    ensures known { AreReferences edition.now trip.now known.new }
+    ensures known { AreReferences priced.now.edition.now priced.now.trip.now known.new }
 {
-    if trip.sector(i).stop {
-        known.between(edition, trip, indicators, i, j)
+    if priced.trip.sector(i).stop {
+        known.between(priced, i, j)
     } else {
         None
     }
@@ -81,28 +69,25 @@ fn reference_from(
 /// none.
 #[tactic(auto, using(crate::proofs::ColumnLemmas::stop_taken, crate::proofs::ColumnLemmas::stops_taken), unfolding(crate::specs::References::greatest_to))]
 fn greatest_before(
-    edition: &Edition,
-    trip: &Trip,
-    indicators: &Indicators,
+    priced: &Priced,
     known: &mut References,
     first: usize,
     past: usize,
     j: usize,
 ) -> Nuc
-    requires indicators { AreIndicators edition.now trip.now indicators.now.rows }
-    requires known { AreReferences edition.now trip.now known.old }
+    requires known { AreReferences priced.now.edition.now priced.now.trip.now known.old }
     requires begins { 1 ≤ first }
     requires ends { past ≤ j }
-    requires within { j ≤ count trip.now }
-    ensures value { result ≡ greatest_to edition.now trip.now known.old.form first past j }
+    requires within { j ≤ count priced.now.trip.now }
+    ensures value { result ≡ greatest_to priced.now.edition.now priced.now.trip.now known.old.form first past j }
     ensures bound { result < FARE_LIMIT }
     ensures form { known.new.form ≡ known.old.form }
     ensures reach { known.new.reach ≡ known.old.reach }
-    ensures known { AreReferences edition.now trip.now known.new }
+    ensures known { AreReferences priced.now.edition.now priced.now.trip.now known.new }
 {
     let mut greatest = Nuc::new(0);
     for i in first..past {
-        let found = reference_from(edition, trip, indicators, known, i, j);
+        let found = reference_from(priced, known, i, j);
         greatest = at_least(greatest, found);
     }
     greatest
@@ -110,30 +95,22 @@ fn greatest_before(
 
 /// The greatest reference between the stopovers from a point on and a later point; 0 where there is none. That of the
 /// later stopovers is mostly kept.
-pub(crate) fn greatest_to(
-    edition: &Edition,
-    trip: &Trip,
-    indicators: &Indicators,
-    known: &mut References,
-    first: usize,
-    j: usize,
-) -> Nuc
-    requires indicators { AreIndicators edition.now trip.now indicators.now.rows }
-    requires known { AreReferences edition.now trip.now known.old }
+pub(crate) fn greatest_to(priced: &Priced, known: &mut References, first: usize, j: usize) -> Nuc
+    requires known { AreReferences priced.now.edition.now priced.now.trip.now known.old }
     requires begins { 1 ≤ first }
     requires rises { first ≤ j }
-    requires within { j ≤ count trip.now }
-    ensures value { result ≡ greatest_to edition.now trip.now known.old.form first j j }
+    requires within { j ≤ count priced.now.trip.now }
+    ensures value { result ≡ greatest_to priced.now.edition.now priced.now.trip.now known.old.form first j j }
     ensures bound { result < FARE_LIMIT }
     ensures form { known.new.form ≡ known.old.form }
     ensures reach { known.new.reach ≡ known.old.reach }
-    ensures known { AreReferences edition.now trip.now known.new }
+    ensures known { AreReferences priced.now.edition.now priced.now.trip.now known.new }
 {
-    let count = trip.count();
+    let count = priced.trip.count();
     prove!(j <= count);
     let column = serving(known.columns[j], first, j);
-    let more = greatest_before(edition, trip, indicators, known, first, column.first, j);
+    let more = greatest_before(priced, known, first, column.first, j);
     let high = more.hundredths().max(column.high);
-    known.keep(edition, trip, j, Column { first, high });
+    known.keep(priced, j, Column { first, high });
     Nuc::new(high)
 }

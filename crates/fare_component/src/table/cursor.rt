@@ -4,6 +4,27 @@ ghost use Rattle.fare_component.specs.Candidates.{StandsAt};
 use fare_codes::{City, Indicator};
 use fare_tariff::{Edition, fares_come_in_turn};
 
+/// The fares from a city to another for an indicator.
+#[derive(Clone, Copy)]
+pub(crate) struct Market {
+    pub(crate) from: City,
+    pub(crate) to: City,
+    pub(crate) ind: Indicator,
+}
+
+impl Market {
+    /// That of the other way.
+    pub(crate) fn back(&self) -> Market
+        ensures { result ≡ record { from = self.now.to; to = self.now.from; ind = self.now.ind } }
+    {
+        Market {
+            from: self.to,
+            to: self.from,
+            ind: self.ind,
+        }
+    }
+}
+
 /// A place among the fares from a city to another for an indicator, which come in record order.
 #[derive(Clone, Copy)]
 pub(crate) struct Cursor {
@@ -13,13 +34,13 @@ pub(crate) struct Cursor {
 
 /// The cursor before the first fare.
 #[tactic(auto, using(crate::proofs::CursorLemmas::stands_at_first))]
-pub(crate) fn first_cursor(edition: &Edition, from: City, to: City, ind: Indicator) -> Cursor
-    ensures stands { StandsAt edition.now from to ind 2 result }
+pub(crate) fn first_cursor(edition: &Edition, market: &Market) -> Cursor
+    ensures stands { StandsAt edition.now market.now.from market.now.to market.now.ind 2 result }
     ensures place { result.place ≡ 0 }
 {
     Cursor {
         place: 0,
-        next: edition.nth_fare(from, to, ind, 0),
+        next: edition.nth_fare(market.from, market.to, market.ind, 0),
     }
 }
 
@@ -35,23 +56,16 @@ fn shows(cursor: &Cursor, number: u32) -> bool
 
 /// The cursor that is past a number: past its next fare, where that has the number.
 #[tactic(auto, using(crate::proofs::CursorLemmas::stands_on, crate::proofs::CursorLemmas::stands_behind))]
-pub(crate) fn cursor_past(
-    edition: &Edition,
-    from: City,
-    to: City,
-    ind: Indicator,
-    cursor: Cursor,
-    number: u32,
-) -> Cursor
-    requires { StandsAt edition.now from to ind number cursor }
-    ensures stands { StandsAt edition.now from to ind (number + 1) result }
+pub(crate) fn cursor_past(edition: &Edition, market: &Market, cursor: Cursor, number: u32) -> Cursor
+    requires { StandsAt edition.now market.now.from market.now.to market.now.ind number cursor }
+    ensures stands { StandsAt edition.now market.now.from market.now.to market.now.ind (number + 1) result }
     ensures kept { cursor.place ≤ result.place }
     ensures passed { cursor.next ≡ Some number → result.place ≡ cursor.place + 1 }
 {
     if !shows(&cursor, number) {
         return cursor;
     }
-    let _fares = (from, to, ind);
+    let _market = market;
     fares_come_in_turn(edition);
     Cursor {
         place: cursor.place + 1,

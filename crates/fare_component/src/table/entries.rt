@@ -3,22 +3,19 @@ ghost use Rattle.std.specs.Prelude.{if◌then◌else◌};
 ghost use Rattle.fare_trip.specs.Itinerary.{count};
 ghost use Rattle.fare_rules.specs.Span.{holds_surface};
 ghost use Rattle.fare_rules.specs.ComponentAmount.{repeats_city};
-ghost use Rattle.fare_mileage.specs.Miles.{AreInRange, AreMiles};
 ghost use Rattle.fare_component.specs.References.{AreForms};
-ghost use Rattle.fare_component.specs.Shared.{AreIndicators};
 ghost use Rattle.fare_component.specs.Spans.{IsSpan};
 ghost use Rattle.fare_component.specs.Table.{IsInBounds, entries_of, entry_of, has_amount};
 
 use crate::conditions::surcharge_by;
 use crate::table::candidates::{all_candidates, candidates_past, first_candidate};
+use crate::table::cursor::Market;
 use crate::table::entry::{Entry, entry_of};
 use crate::table::forms::Forms;
-use crate::table::indicators::{Indicators, indicator_of};
+use crate::table::priced::Priced;
 use crate::table::span::{Span, span_of};
 use crate::usable::is_plain;
 use fare_outside::NoMemory;
-use fare_tariff::Edition;
-use fare_trip::Trip;
 use std::alloc::Global;
 use std::marker::Model;
 
@@ -79,27 +76,21 @@ impl Entries {
 
 /// Puts the entry of a record number last, where it has an amount in some direction.
 fn keep_entry(
-    edition: &Edition,
-    trip: &Trip,
-    indicators: &Indicators,
+    priced: &Priced,
     forms: &mut Forms,
-    a: usize,
-    b: usize,
     span: &Span,
     number: u32,
     entries: &mut Entries,
 ) -> Result<(), NoMemory>
-    requires indicators { AreIndicators edition.now trip.now indicators.now.rows }
-    requires forms { AreForms edition.now trip.now a forms.old.items.items }
-    requires rises { a < b }
-    requires within { b ≤ count trip.now }
-    requires span { IsSpan edition.now trip.now a b span.now }
+    requires forms { AreForms priced.now.edition.now priced.now.trip.now span.now.a forms.old.items.items }
+    requires span { IsSpan priced.now.edition.now priced.now.trip.now span.now }
     requires room { length entries.old < MOST_ENTRIES }
-    ensures kept { OnOk result (entries.new ≡ entries.old ++ (if has_amount (entry_of edition.now trip.now a b number)
-        then entry_of edition.now trip.now a b number ∷ [] else [])) }
-    ensures forms { OnOk result (AreForms edition.now trip.now a forms.new.items.items) }
+    ensures kept { OnOk result (entries.new ≡ entries.old
+        ++ (if has_amount (entry_of priced.now.edition.now priced.now.trip.now span.now.a span.now.b number)
+        then entry_of priced.now.edition.now priced.now.trip.now span.now.a span.now.b number ∷ [] else [])) }
+    ensures forms { OnOk result (AreForms priced.now.edition.now priced.now.trip.now span.now.a forms.new.items.items) }
 {
-    match entry_of(edition, trip, indicators, forms, a, b, span, number) {
+    match entry_of(priced, forms, span, number) {
         Err(error) => Err(error),
         Ok(entry) => entries.keep(entry),
     }
@@ -108,38 +99,27 @@ fn keep_entry(
 /// The entries of a span whose mileage asks for a surcharge: each fare between its ends for its indicator is tried.
 fn measured_entries(
     alloc: Global,
-    edition: &Edition,
-    trip: &Trip,
-    indicators: &Indicators,
+    priced: &Priced,
     forms: &mut Forms,
-    a: usize,
-    b: usize,
     span: &Span,
 ) -> Result<Entries, NoMemory>
-    requires indicators { AreIndicators edition.now trip.now indicators.now.rows }
-    requires forms { AreForms edition.now trip.now a forms.old.items.items }
-    requires rises { a < b }
-    requires within { b ≤ count trip.now }
-    requires span { IsSpan edition.now trip.now a b span.now }
-    ensures entries { IfOk result (λ entries. entries ≡ entries_of edition.now trip.now a b) }
-    ensures forms { OnOk result (AreForms edition.now trip.now a forms.new.items.items) }
+    requires forms { AreForms priced.now.edition.now priced.now.trip.now span.now.a forms.old.items.items }
+    requires span { IsSpan priced.now.edition.now priced.now.trip.now span.now }
+    ensures entries { IfOk result (λ entries. entries
+        ≡ entries_of priced.now.edition.now priced.now.trip.now span.now.a span.now.b) }
+    ensures forms { OnOk result (AreForms priced.now.edition.now priced.now.trip.now span.now.a forms.new.items.items) }
 {
-    let (from, to) = (trip.point(a), trip.point(b));
+    let (from, to) = (priced.trip.point(span.a), priced.trip.point(span.b));
+    let market = Market {
+        from,
+        to,
+        ind: span.ind,
+    };
     let mut entries = Entries::new(alloc);
-    let mut candidates = all_candidates(edition, from, to, span.ind);
+    let mut candidates = all_candidates(priced.edition, &market);
     while let Some(number) = first_candidate(candidates) {
-        candidates = candidates_past(edition, from, to, span.ind, candidates, number);
-        keep_entry(
-            edition,
-            trip,
-            indicators,
-            forms,
-            a,
-            b,
-            span,
-            number,
-            &mut entries,
-        )?;
+        candidates = candidates_past(priced.edition, &market, candidates, number);
+        keep_entry(priced, forms, span, number, &mut entries)?;
     }
     Ok(entries)
 }
@@ -148,29 +128,25 @@ fn measured_entries(
 #[tactic(auto, using(crate::proofs::EntryLemmas::no_entries_unmeasured))]
 fn plain_entries(
     alloc: Global,
-    edition: &Edition,
-    trip: &Trip,
-    indicators: &Indicators,
+    priced: &Priced,
     forms: &mut Forms,
     a: usize,
     b: usize,
 ) -> Result<Entries, NoMemory>
-    requires indicators { AreIndicators edition.now trip.now indicators.now.rows }
-    requires miles { AreMiles edition.now trip.now 0 (count trip.now) indicators.now.miles }
-    requires in_range { AreInRange indicators.now.miles }
-    requires forms { AreForms edition.now trip.now a forms.old.items.items }
+    requires forms { AreForms priced.now.edition.now priced.now.trip.now a forms.old.items.items }
     requires rises { a < b }
-    requires within { b ≤ count trip.now }
-    requires plain { (not (holds_surface trip.now a b) && not (repeats_city trip.now a b)) ≡ true }
-    ensures entries { IfOk result (λ entries. entries ≡ entries_of edition.now trip.now a b) }
-    ensures forms { OnOk result (AreForms edition.now trip.now a forms.new.items.items) }
+    requires within { b ≤ count priced.now.trip.now }
+    requires plain { (not (holds_surface priced.now.trip.now a b)
+        && not (repeats_city priced.now.trip.now a b)) ≡ true }
+    ensures entries { IfOk result (λ entries. entries ≡ entries_of priced.now.edition.now priced.now.trip.now a b) }
+    ensures forms { OnOk result (AreForms priced.now.edition.now priced.now.trip.now a forms.new.items.items) }
 {
-    let ind = indicator_of(indicators, edition, trip, a, b);
-    match surcharge_by(edition, trip, &indicators.miles, a, b, ind) {
+    let ind = priced.indicator(a, b);
+    match surcharge_by(priced, a, b, ind) {
         None => Ok(Entries::new(alloc)),
         Some(step) => {
-            let span = span_of(edition, trip, a, b, ind, step);
-            measured_entries(alloc, edition, trip, indicators, forms, a, b, &span)
+            let span = span_of(priced, a, b, ind, step);
+            measured_entries(alloc, priced, forms, &span)
         }
     }
 }
@@ -178,23 +154,18 @@ fn plain_entries(
 /// The entries of two points of a trip: those of the span, and none where they make no span.
 pub(crate) fn entries_of(
     alloc: Global,
-    edition: &Edition,
-    trip: &Trip,
-    indicators: &Indicators,
+    priced: &Priced,
     forms: &mut Forms,
     a: usize,
     b: usize,
 ) -> Result<Entries, NoMemory>
-    requires indicators { AreIndicators edition.now trip.now indicators.now.rows }
-    requires miles { AreMiles edition.now trip.now 0 (count trip.now) indicators.now.miles }
-    requires in_range { AreInRange indicators.now.miles }
-    requires forms { AreForms edition.now trip.now a forms.old.items.items }
-    requires within { b ≤ count trip.now }
-    ensures entries { IfOk result (λ entries. entries ≡ entries_of edition.now trip.now a b) }
-    ensures forms { OnOk result (AreForms edition.now trip.now a forms.new.items.items) }
+    requires forms { AreForms priced.now.edition.now priced.now.trip.now a forms.old.items.items }
+    requires within { b ≤ count priced.now.trip.now }
+    ensures entries { IfOk result (λ entries. entries ≡ entries_of priced.now.edition.now priced.now.trip.now a b) }
+    ensures forms { OnOk result (AreForms priced.now.edition.now priced.now.trip.now a forms.new.items.items) }
 {
-    if a < b && is_plain(trip, a, b) {
-        plain_entries(alloc, edition, trip, indicators, forms, a, b)
+    if a < b && is_plain(priced.trip, a, b) {
+        plain_entries(alloc, priced, forms, a, b)
     } else {
         Ok(Entries::new(alloc))
     }

@@ -1,28 +1,25 @@
 ghost use Rattle.std.specs.Prelude.{◌≡◌, ◌*◌, ◌<◌, ◌≤◌, IfOk, IfSome, OnOk, Some, false, true};
-ghost use Rattle.fare_trip.specs.Itinerary.{count};
-ghost use Rattle.fare_tariff.specs.Lookup.{fare_at};
-ghost use Rattle.fare_rules.specs.ComponentAmount.{fare_amount};
 ghost use Rattle.fare_rules.specs.UnitPrice.{at_least};
-ghost use Rattle.fare_component.specs.References.{AreForms, AreReferencesFrom, IsOfForm};
-ghost use Rattle.fare_component.specs.Shared.{AreIndicators};
+ghost use Rattle.fare_component.specs.References.{AreForms, IsOfForm};
 ghost use Rattle.fare_component.specs.Spans.{IsSpan};
 ghost use Rattle.fare_component.specs.Table.{IsInBounds, amount_of, entry_of, single_price};
-ghost use Rattle.fare_component.specs.Usable.{IsAmount, is_for_span};
+ghost use Rattle.fare_component.specs.Tried.{AreFormsFor, AreReferencesFor, IsCandidate, IsOut, cost_of, suits};
+ghost use Rattle.fare_component.specs.Usable.{IsAmount};
 
 use crate::amounts::amount_from;
+use crate::component::Component;
 use crate::conditions::{is_half_round_trip, terms_allow};
 use crate::table::backhauls::backhaul_by;
-use crate::table::bases::{Component, base_by};
+use crate::table::bases::base_by;
 use crate::table::forms::Forms;
-use crate::table::indicators::Indicators;
+use crate::table::priced::Priced;
 use crate::table::references::References;
 use crate::table::span::Span;
 use crate::usable::suits_span;
 use fare_codes::{FARE_LIMIT, Nuc};
 use fare_outside::NoMemory;
 use fare_rules::Amount;
-use fare_tariff::{Edition, FareRec, fare_of_a_day_is_one};
-use fare_trip::Trip;
+use fare_tariff::{FareRec, fare_of_a_day_is_one};
 
 /// A fare that may be used for a span, with what it costs there.
 #[derive(Clone, Copy, Debug)]
@@ -58,6 +55,14 @@ pub(crate) fn at_least(amount: Nuc, minimum: Option<Nuc>) -> Nuc
     }
 }
 
+/// A fare that is tried for a span whose mileage asks for a surcharge.
+#[derive(Clone, Copy)]
+struct Candidate<'a> {
+    span: &'a Span,
+    number: u32,
+    fare: &'a FareRec,
+}
+
 /// What a fare costs for a span where it is priced out, and as a unit of its own.
 #[derive(Clone, Copy)]
 struct Out {
@@ -65,72 +70,50 @@ struct Out {
     single: Option<Nuc>,
 }
 
-/// From here on the reference of a form for a component that a fare of it is for is known: it is the fare's amount,
-/// since no other fare has its key on the day.
-fn learn(
-    edition: &Edition,
-    trip: &Trip,
-    known: &mut References,
-    component: Component,
-    number: u32,
-    fare: &FareRec,
-)
-    requires known { AreReferencesFrom edition.now trip.now component.a known.old }
-    requires form { IsOfForm fare.now component.back known.old.form }
-    requires rises { component.a < component.b }
-    requires within { component.b ≤ count trip.now }
-    requires suits { is_for_span edition.now trip.now component.a component.b component.back fare.now ≡ true }
-    requires filed { fare_at edition.now number ≡ Some fare.now }
-    requires amount { fare.now.amount < FARE_LIMIT }
+/// From here on the reference of a form for a span that a fare of it is for is known: it is the fare's amount, since no
+/// other fare has its key on the day.
+fn learn(priced: &Priced, known: &mut References, tried: &Candidate, back: bool)
+    requires known { AreReferencesFor priced.now tried.now known.old }
+    requires form { IsOfForm tried.now.fare.now back known.old.form }
+    requires tried { IsCandidate priced.now tried.now }
+    requires suits { suits priced.now tried.now back ≡ true }
     ensures form { known.new.form ≡ known.old.form }
-    ensures known { AreReferencesFrom edition.now trip.now component.a known.new }
+    ensures known { AreReferencesFor priced.now tried.now known.new }
 {
-    let _number = number;
-    fare_of_a_day_is_one(edition);
+    fare_of_a_day_is_one(priced.edition);
+    let fare = tried.fare;
     let amount = fare.amount.hundredths();
-    known.put(edition, trip, component.a, component.b, Some(amount));
+    known.put(priced, tried.span.a, tried.span.b, Some(amount));
 }
 
-/// The amount of a fare for a component that it is for and whose mileage asks for a surcharge, by the references of its
-/// form.
+/// The amount of a fare for a span that it is for, by the references of its form.
 #[tactic(auto, using(crate::proofs::AmountLemmas::refused, crate::proofs::AmountLemmas::granted, crate::proofs::ReferenceLemmas::terms_of_form))]
 fn amount_by(
-    edition: &Edition,
-    trip: &Trip,
-    indicators: &Indicators,
+    priced: &Priced,
     known: &mut References,
-    component: Component,
-    span: &Span,
-    number: u32,
-    fare: &FareRec,
+    tried: &Candidate,
+    back: bool,
 ) -> Option<Amount>
-    requires indicators { AreIndicators edition.now trip.now indicators.now.rows }
-    requires known { AreReferencesFrom edition.now trip.now component.a known.old }
-    requires form { IsOfForm fare.now component.back known.old.form }
-    requires rises { component.a < component.b }
-    requires within { component.b ≤ count trip.now }
-    requires suits { is_for_span edition.now trip.now component.a component.b component.back fare.now ≡ true }
-    requires span { IsSpan edition.now trip.now component.a component.b span.now }
-    requires filed { fare_at edition.now number ≡ Some fare.now }
-    requires amount { fare.now.amount < FARE_LIMIT }
-    ensures value { result ≡ fare_amount edition.now trip.now component.a component.b component.back fare.now }
+    requires known { AreReferencesFor priced.now tried.now known.old }
+    requires form { IsOfForm tried.now.fare.now back known.old.form }
+    requires tried { IsCandidate priced.now tried.now }
+    requires suits { suits priced.now tried.now back ≡ true }
+    ensures value { result ≡ cost_of priced.now tried.now back }
     ensures bound { IfSome result IsAmount }
     ensures form { known.new.form ≡ known.old.form }
-    ensures known { AreReferencesFrom edition.now trip.now component.a known.new }
+    ensures known { AreReferencesFor priced.now tried.now known.new }
 {
-    learn(edition, trip, known, component, number, fare);
-    if !terms_allow(
-        edition,
-        trip,
-        component.a,
-        component.b,
-        fare,
-        &known.asked,
-        span,
-    ) {
+    learn(priced, known, tried, back);
+    let (span, fare) = (tried.span, tried.fare);
+    if !terms_allow(priced.edition, priced.trip, fare, &known.asked, span) {
         return None;
     }
-    let base = base_by(edition, trip, indicators, known, component, fare);
+    let component = Component {
+        a: span.a,
+        b: span.b,
+        back,
+    };
+    let base = base_by(priced, known, component, fare);
     Some(amount_from(base, span.step))
 }
 
@@ -138,173 +121,101 @@ fn amount_by(
 /// trip.
 #[tactic(auto, using(crate::proofs::AmountLemmas::at_least_bound), unfolding(fare_rules::specs::UnitPrice::one_way_price, fare_rules::specs::ComponentAmount::component_amount))]
 fn single_price(
-    edition: &Edition,
-    trip: &Trip,
-    indicators: &Indicators,
+    priced: &Priced,
     known: &mut References,
-    a: usize,
-    b: usize,
-    number: u32,
-    fare: &FareRec,
+    tried: &Candidate,
     out: &Option<Amount>,
 ) -> Option<Nuc>
-    requires indicators { AreIndicators edition.now trip.now indicators.now.rows }
-    requires known { AreReferencesFrom edition.now trip.now a known.old }
-    requires form { IsOfForm fare.now false known.old.form }
-    requires rises { a < b }
-    requires within { b ≤ count trip.now }
-    requires filed { fare_at edition.now number ≡ Some fare.now }
-    requires amount { fare.now.amount < FARE_LIMIT }
-    requires out { out.now ≡ fare_amount edition.now trip.now a b false fare.now }
+    requires known { AreReferencesFor priced.now tried.now known.old }
+    requires form { IsOfForm tried.now.fare.now false known.old.form }
+    requires tried { IsCandidate priced.now tried.now }
+    requires out { out.now ≡ cost_of priced.now tried.now false }
     requires bound { IfSome out.now IsAmount }
-    ensures value { result ≡ single_price edition.now trip.now a b number }
+    ensures value { result ≡ single_price priced.now.edition.now priced.now.trip.now
+        tried.now.span.now.a tried.now.span.now.b tried.now.number }
     ensures bound { IfSome result (λ amount. amount < 2 * FARE_LIMIT) }
-    ensures known { AreReferencesFrom edition.now trip.now a known.new }
+    ensures known { AreReferencesFor priced.now tried.now known.new }
 {
+    let (span, fare) = (tried.span, tried.fare);
     if is_half_round_trip(fare) {
         return None;
     }
     match out {
         None => None,
         Some(found) => {
-            let minimum = backhaul_by(edition, trip, indicators, known, a, b, fare);
+            let minimum = backhaul_by(priced, known, span.a, span.b, fare);
             Some(at_least(found.amount, minimum))
         }
     }
 }
 
 /// What a fare that is for a span costs there where it is priced out.
-fn out_by(
-    edition: &Edition,
-    trip: &Trip,
-    indicators: &Indicators,
-    forms: &mut Forms,
-    a: usize,
-    b: usize,
-    span: &Span,
-    number: u32,
-    fare: &FareRec,
-) -> Result<Out, NoMemory>
-    requires indicators { AreIndicators edition.now trip.now indicators.now.rows }
-    requires forms { AreForms edition.now trip.now a forms.old.items.items }
-    requires rises { a < b }
-    requires within { b ≤ count trip.now }
-    requires suits { is_for_span edition.now trip.now a b false fare.now ≡ true }
-    requires span { IsSpan edition.now trip.now a b span.now }
-    requires filed { fare_at edition.now number ≡ Some fare.now }
-    requires amount { fare.now.amount < FARE_LIMIT }
-    ensures amount { IfOk result (λ out. out.amount ≡ fare_amount edition.now trip.now a b false fare.now) }
-    ensures single { IfOk result (λ out. out.single ≡ single_price edition.now trip.now a b number) }
-    ensures in_bounds { IfOk result (λ out. IfSome out.amount IsAmount) }
-    ensures below { IfOk result (λ out. IfSome out.single (λ amount. amount < 2 * FARE_LIMIT)) }
-    ensures forms { OnOk result (AreForms edition.now trip.now a forms.new.items.items) }
+fn out_by(priced: &Priced, forms: &mut Forms, tried: &Candidate) -> Result<Out, NoMemory>
+    requires forms { AreFormsFor priced.now tried.now forms.old.items.items }
+    requires tried { IsCandidate priced.now tried.now }
+    requires suits { suits priced.now tried.now false ≡ true }
+    ensures out { IfOk result (IsOut priced.now tried.now) }
+    ensures forms { OnOk result (AreFormsFor priced.now tried.now forms.new.items.items) }
 {
-    let there = Component { a, b, back: false };
-    let place = forms.place_of(edition, trip, a, fare, false)?;
+    let place = forms.place_of(priced, tried.span.a, tried.fare, false)?;
     let known = &mut forms.items[place];
-    let amount = amount_by(edition, trip, indicators, known, there, span, number, fare);
-    let single = single_price(
-        edition, trip, indicators, known, a, b, number, fare, &amount,
-    );
+    let amount = amount_by(priced, known, tried, false);
+    let single = single_price(priced, known, tried, &amount);
     Ok(Out { amount, single })
 }
 
 /// What a fare costs for a span where it is priced out; nothing where it isn't for the span.
 #[tactic(auto, using(crate::proofs::AmountLemmas::unsuitable, crate::proofs::AmountLemmas::no_single_there))]
-fn out_of(
-    edition: &Edition,
-    trip: &Trip,
-    indicators: &Indicators,
-    forms: &mut Forms,
-    a: usize,
-    b: usize,
-    span: &Span,
-    number: u32,
-    fare: &FareRec,
-) -> Result<Out, NoMemory>
-    requires indicators { AreIndicators edition.now trip.now indicators.now.rows }
-    requires forms { AreForms edition.now trip.now a forms.old.items.items }
-    requires rises { a < b }
-    requires within { b ≤ count trip.now }
-    requires span { IsSpan edition.now trip.now a b span.now }
-    requires filed { fare_at edition.now number ≡ Some fare.now }
-    requires amount { fare.now.amount < FARE_LIMIT }
-    ensures amount { IfOk result (λ out. out.amount ≡ fare_amount edition.now trip.now a b false fare.now) }
-    ensures single { IfOk result (λ out. out.single ≡ single_price edition.now trip.now a b number) }
-    ensures in_bounds { IfOk result (λ out. IfSome out.amount IsAmount) }
-    ensures below { IfOk result (λ out. IfSome out.single (λ amount. amount < 2 * FARE_LIMIT)) }
-    ensures forms { OnOk result (AreForms edition.now trip.now a forms.new.items.items) }
+fn out_of(priced: &Priced, forms: &mut Forms, tried: &Candidate) -> Result<Out, NoMemory>
+    requires forms { AreFormsFor priced.now tried.now forms.old.items.items }
+    requires tried { IsCandidate priced.now tried.now }
+    ensures out { IfOk result (IsOut priced.now tried.now) }
+    ensures forms { OnOk result (AreFormsFor priced.now tried.now forms.new.items.items) }
 {
-    if !suits_span(edition, trip, span, a, b, fare, false) {
+    if !suits_span(priced.edition, priced.trip, tried.span, tried.fare, false) {
         return Ok(Out {
             amount: None,
             single: None,
         });
     }
-    out_by(edition, trip, indicators, forms, a, b, span, number, fare)
+    out_by(priced, forms, tried)
 }
 
 /// The amount of a fare for a span where it is priced back; nothing where it isn't for the span.
 #[tactic(auto, using(crate::proofs::AmountLemmas::unsuitable))]
 fn back_of(
-    edition: &Edition,
-    trip: &Trip,
-    indicators: &Indicators,
+    priced: &Priced,
     forms: &mut Forms,
-    a: usize,
-    b: usize,
-    span: &Span,
-    number: u32,
-    fare: &FareRec,
+    tried: &Candidate,
 ) -> Result<Option<Amount>, NoMemory>
-    requires indicators { AreIndicators edition.now trip.now indicators.now.rows }
-    requires forms { AreForms edition.now trip.now a forms.old.items.items }
-    requires rises { a < b }
-    requires within { b ≤ count trip.now }
-    requires span { IsSpan edition.now trip.now a b span.now }
-    requires filed { fare_at edition.now number ≡ Some fare.now }
-    requires amount { fare.now.amount < FARE_LIMIT }
-    ensures value { IfOk result (λ found. found ≡ fare_amount edition.now trip.now a b true fare.now) }
+    requires forms { AreFormsFor priced.now tried.now forms.old.items.items }
+    requires tried { IsCandidate priced.now tried.now }
+    ensures value { IfOk result (λ found. found ≡ cost_of priced.now tried.now true) }
     ensures bound { IfOk result (λ found. IfSome found IsAmount) }
-    ensures forms { OnOk result (AreForms edition.now trip.now a forms.new.items.items) }
+    ensures forms { OnOk result (AreFormsFor priced.now tried.now forms.new.items.items) }
 {
-    if !suits_span(edition, trip, span, a, b, fare, true) {
+    if !suits_span(priced.edition, priced.trip, tried.span, tried.fare, true) {
         return Ok(None);
     }
-    let home = Component { a, b, back: true };
-    let place = forms.place_of(edition, trip, a, fare, true)?;
+    let place = forms.place_of(priced, tried.span.a, tried.fare, true)?;
     let known = &mut forms.items[place];
-    Ok(amount_by(edition, trip, indicators, known, home, span, number, fare))
+    Ok(amount_by(priced, known, tried, true))
 }
 
-/// What the fare of a record number costs for a span whose mileage asks for a surcharge.
+/// What the fare of a record number costs for a span.
 #[tactic(auto, unfolding(fare_rules::specs::ComponentAmount::component_amount))]
-fn entry_of_fare(
-    edition: &Edition,
-    trip: &Trip,
-    indicators: &Indicators,
-    forms: &mut Forms,
-    a: usize,
-    b: usize,
-    span: &Span,
-    number: u32,
-    fare: &FareRec,
-) -> Result<Entry, NoMemory>
-    requires indicators { AreIndicators edition.now trip.now indicators.now.rows }
-    requires forms { AreForms edition.now trip.now a forms.old.items.items }
-    requires rises { a < b }
-    requires within { b ≤ count trip.now }
-    requires span { IsSpan edition.now trip.now a b span.now }
-    requires filed { fare_at edition.now number ≡ Some fare.now }
-    requires amount { fare.now.amount < FARE_LIMIT }
-    ensures value { IfOk result (λ entry. entry ≡ entry_of edition.now trip.now a b number) }
+fn entry_of_fare(priced: &Priced, forms: &mut Forms, tried: &Candidate) -> Result<Entry, NoMemory>
+    requires forms { AreFormsFor priced.now tried.now forms.old.items.items }
+    requires tried { IsCandidate priced.now tried.now }
+    ensures value { IfOk result (λ entry. entry ≡ entry_of priced.now.edition.now priced.now.trip.now
+        tried.now.span.now.a tried.now.span.now.b tried.now.number) }
     ensures bounds { IfOk result IsInBounds }
-    ensures forms { OnOk result (AreForms edition.now trip.now a forms.new.items.items) }
+    ensures forms { OnOk result (AreFormsFor priced.now tried.now forms.new.items.items) }
 {
-    let out = out_of(edition, trip, indicators, forms, a, b, span, number, fare)?;
-    let back = back_of(edition, trip, indicators, forms, a, b, span, number, fare)?;
+    let out = out_of(priced, forms, tried)?;
+    let back = back_of(priced, forms, tried)?;
     Ok(Entry {
-        fare: number,
+        fare: tried.number,
         out: out.amount,
         back,
         single: out.single,
@@ -314,31 +225,25 @@ fn entry_of_fare(
 /// What a record number costs for a span whose mileage asks for a surcharge: nothing where it files no fare.
 #[tactic(auto, unfolding(fare_rules::specs::ComponentAmount::component_amount))]
 pub(crate) fn entry_of(
-    edition: &Edition,
-    trip: &Trip,
-    indicators: &Indicators,
+    priced: &Priced,
     forms: &mut Forms,
-    a: usize,
-    b: usize,
     span: &Span,
     number: u32,
 ) -> Result<Entry, NoMemory>
-    requires indicators { AreIndicators edition.now trip.now indicators.now.rows }
-    requires forms { AreForms edition.now trip.now a forms.old.items.items }
-    requires rises { a < b }
-    requires within { b ≤ count trip.now }
-    requires span { IsSpan edition.now trip.now a b span.now }
-    ensures value { IfOk result (λ entry. entry ≡ entry_of edition.now trip.now a b number) }
+    requires forms { AreForms priced.now.edition.now priced.now.trip.now span.now.a forms.old.items.items }
+    requires span { IsSpan priced.now.edition.now priced.now.trip.now span.now }
+    ensures value { IfOk result (λ entry. entry
+        ≡ entry_of priced.now.edition.now priced.now.trip.now span.now.a span.now.b number) }
     ensures bounds { IfOk result IsInBounds }
-    ensures forms { OnOk result (AreForms edition.now trip.now a forms.new.items.items) }
+    ensures forms { OnOk result (AreForms priced.now.edition.now priced.now.trip.now span.now.a forms.new.items.items) }
 {
-    match edition.fare_at(number) {
+    match priced.edition.fare_at(number) {
         None => Ok(Entry {
             fare: number,
             out: None,
             back: None,
             single: None,
         }),
-        Some(fare) => { entry_of_fare(edition, trip, indicators, forms, a, b, span, number, fare) }
+        Some(fare) => entry_of_fare(priced, forms, &Candidate { span, number, fare }),
     }
 }

@@ -6,9 +6,10 @@ ghost use Rattle.fare_tariff.specs.Tariff.{Tariff};
 ghost use Rattle.fare_component.specs.declared.table.references.References.{References};
 ghost use Rattle.fare_component.specs.References.{AreForms, IsOfForm};
 
+use crate::table::priced::Priced;
 use crate::table::references::{References, is_of_form};
 use fare_outside::NoMemory;
-use fare_tariff::{Edition, FareRec};
+use fare_tariff::FareRec;
 use fare_trip::Trip;
 use std::alloc::Global;
 
@@ -80,47 +81,46 @@ impl Forms {
     #[inline(never)]
     fn add(
         &mut self,
-        edition: &Edition,
-        trip: &Trip,
+        priced: &Priced,
         a: usize,
         fare: &FareRec,
         back: bool,
     ) -> Result<usize, NoMemory>
-        requires within { a < count trip.now }
-        requires forms { AreForms edition.now trip.now a self.old.items.items }
+        requires within { a < count priced.now.trip.now }
+        requires forms { AreForms priced.now.edition.now priced.now.trip.now a self.old.items.items }
         ensures within { IfOk result (λ place. place < length self.new.items.items) }
         ensures form { (d : References)
             → IfOk result (λ place. IsOfForm fare.now back (slice_index_or self.new.items.items place d).form) }
-        ensures forms { OnOk result (AreForms edition.now trip.now a self.new.items.items) }
+        ensures forms { OnOk result (AreForms priced.now.edition.now priced.now.trip.now a self.new.items.items) }
     {
-        let count = trip.count();
+        let count = priced.trip.count();
         prove!(a < count);
-        let on = trip.sector(a + 1).day;
+        let on = priced.trip.sector(a + 1).day;
         self.items.truncate(MOST_FORMS - 1);
         let place = self.items.len();
-        self.items.push(References::new(edition, fare, back, on))?;
+        self.items
+            .push(References::new(priced.edition, fare, back, on))?;
         Ok(place)
     }
 
     /// The place of the form of a fare in a direction, which comes last where it is new.
     pub(crate) fn place_of(
         &mut self,
-        edition: &Edition,
-        trip: &Trip,
+        priced: &Priced,
         a: usize,
         fare: &FareRec,
         back: bool,
     ) -> Result<usize, NoMemory>
-        requires within { a < count trip.now }
-        requires forms { AreForms edition.now trip.now a self.old.items.items }
+        requires within { a < count priced.now.trip.now }
+        requires forms { AreForms priced.now.edition.now priced.now.trip.now a self.old.items.items }
         ensures within { IfOk result (λ place. place < length self.new.items.items) }
         ensures form { (d : References)
             → IfOk result (λ place. IsOfForm fare.now back (slice_index_or self.new.items.items place d).form) }
-        ensures forms { OnOk result (AreForms edition.now trip.now a self.new.items.items) }
+        ensures forms { OnOk result (AreForms priced.now.edition.now priced.now.trip.now a self.new.items.items) }
     {
         let place = match self.find(fare, back) {
             Some(place) => place,
-            None => self.add(edition, trip, a, fare, back)?,
+            None => self.add(priced, a, fare, back)?,
         };
         self.next = place + 1;
         Ok(place)

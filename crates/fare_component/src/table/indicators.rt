@@ -1,6 +1,4 @@
-ghost use Rattle.std.specs.Prelude.{◌≡◌, ◌<◌, ◌≤◌};
 ghost use Rattle.fare_trip.specs.Itinerary.{count};
-ghost use Rattle.fare_rules.specs.Indicator.{indicator};
 ghost use Rattle.fare_mileage.specs.Miles.{AreInRange, AreMiles};
 ghost use Rattle.fare_component.specs.Shared.{AreIndicators};
 
@@ -32,22 +30,4 @@ pub(crate) fn all_indicators(edition: &Edition, trip: &Trip) -> Indicators
     }
     let miles = miles_between(edition, trip, 0, count);
     Indicators { rows, miles }
-}
-
-/// The indicator of a span.
-pub(crate) fn indicator_of(
-    indicators: &Indicators,
-    edition: &Edition,
-    trip: &Trip,
-    i: usize,
-    j: usize,
-) -> Indicator
-    requires indicators { AreIndicators edition.now trip.now indicators.now.rows }
-    requires rises { i < j }
-    requires within { j ≤ count trip.now }
-    ensures { result ≡ indicator edition.now trip.now i j }
-{
-    let count = trip.count();
-    prove!(j <= count);
-    indicators.rows[i][j]
 }

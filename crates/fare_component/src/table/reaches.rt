@@ -4,36 +4,26 @@
 ghost use Rattle.std.specs.Prelude.{◌≡◌, ◌+◌, ◌<◌, ◌≤◌, IfSome};
 ghost use Rattle.fare_trip.specs.Itinerary.{count};
 ghost use Rattle.fare_rules.specs.UnitPrice.{at_least};
-ghost use Rattle.fare_component.specs.Shared.{AreIndicators};
 ghost use Rattle.fare_component.specs.References.{AreReferences, greatest_inner, to_stop};
 
 use crate::table::columns::greatest_to;
-use crate::table::indicators::Indicators;
+use crate::table::priced::Priced;
 use crate::table::references::{Reach, References};
 use fare_codes::{FARE_LIMIT, Nuc};
-use fare_tariff::Edition;
-use fare_trip::Trip;
 
 /// The reference from the start of a component to a point, where that is a stopover.
-fn reference_to_stopover(
-    edition: &Edition,
-    trip: &Trip,
-    indicators: &Indicators,
-    a: usize,
-    known: &mut References,
-    j: usize,
-) -> Option<Nuc>
-    requires indicators { AreIndicators edition.now trip.now indicators.now.rows }
-    requires known { AreReferences edition.now trip.now known.old }
+fn reference_to_stopover(priced: &Priced, known: &mut References, a: usize, j: usize) -> Option<Nuc>
+    requires known { AreReferences priced.now.edition.now priced.now.trip.now known.old }
     requires rises { a < j }
-    requires within { j ≤ count trip.now }
-    ensures value { result ≡ to_stop edition.now trip.now known.old.form a j }
+    requires within { j ≤ count priced.now.trip.now }
+    ensures value { result ≡ to_stop priced.now.edition.now priced.now.trip.now known.old.form a j }
     ensures bound { IfSome result (λ amount. amount < FARE_LIMIT) }
     ensures form { known.new.form ≡ known.old.form }
-    ensures known { AreReferences edition.now trip.now known.new }
+    ensures reach { known.new.reach ≡ known.old.reach }
+    ensures known { AreReferences priced.now.edition.now priced.now.trip.now known.new }
 {
-    if trip.sector(j).stop {
-        known.between(edition, trip, indicators, a, j)
+    if priced.trip.sector(j).stop {
+        known.between(priced, a, j)
     } else {
         None
     }
@@ -49,89 +39,67 @@ fn or_more(high: u64, found: &Option<Nuc>) -> u64
     }
 }
 
-/// The greatest reference, in hundredths, of the pairs that each component from a point to one behind another compares,
-/// where it is known for those that end before that other point, and so is the reference to it.
+/// The greatest reference, in hundredths, of the pairs that each component compares from the same point to one behind
+/// the point that was come to, where the reference to that one is known.
 #[tactic(auto, using(crate::proofs::ReachLemmas::further, crate::proofs::ReachLemmas::no_further))]
-fn high_to(
-    edition: &Edition,
-    trip: &Trip,
-    indicators: &Indicators,
-    a: usize,
-    known: &mut References,
-    j: usize,
-    high: u64,
-    first: &Option<Nuc>,
-) -> u64
-    requires indicators { AreIndicators edition.now trip.now indicators.now.rows }
-    requires known { AreReferences edition.now trip.now known.old }
-    requires rises { a < j }
-    requires within { j ≤ count trip.now }
-    requires high { high ≡ greatest_inner edition.now trip.now known.old.form a j }
-    requires low { high < FARE_LIMIT }
-    requires first { first.now ≡ to_stop edition.now trip.now known.old.form a j }
+fn high_behind(priced: &Priced, known: &mut References, first: &Option<Nuc>) -> u64
+    requires known { AreReferences priced.now.edition.now priced.now.trip.now known.old }
+    requires within { known.old.reach.past ≤ count priced.now.trip.now }
+    requires first { first.now
+        ≡ to_stop priced.now.edition.now priced.now.trip.now known.old.form known.old.reach.from known.old.reach.past }
     requires first_low { IfSome first.now (λ amount. amount < FARE_LIMIT) }
-    ensures value { result ≡ greatest_inner edition.now trip.now known.old.form a (j + 1) }
+    ensures value { result ≡ greatest_inner priced.now.edition.now priced.now.trip.now
+        known.old.form known.old.reach.from (known.old.reach.past + 1) }
     ensures bound { result < FARE_LIMIT }
     ensures form { known.new.form ≡ known.old.form }
-    ensures known { AreReferences edition.now trip.now known.new }
+    ensures known { AreReferences priced.now.edition.now priced.now.trip.now known.new }
 {
-    if trip.sector(j).stop {
-        let later = greatest_to(edition, trip, indicators, known, a + 1, j);
-        high.max(or_more(later.hundredths(), first))
+    let reach = known.reach;
+    if priced.trip.sector(reach.past).stop {
+        let later = greatest_to(priced, known, reach.from + 1, reach.past);
+        reach.high.max(or_more(later.hundredths(), first))
     } else {
-        high
+        reach.high
     }
 }
 
 /// Goes one point further.
 #[tactic(auto, using(crate::proofs::ReachLemmas::first_further))]
-fn go_on(edition: &Edition, trip: &Trip, indicators: &Indicators, known: &mut References)
-    requires indicators { AreIndicators edition.now trip.now indicators.now.rows }
-    requires known { AreReferences edition.now trip.now known.old }
-    requires within { known.old.reach.past ≤ count trip.now }
+fn go_on(priced: &Priced, known: &mut References)
+    requires known { AreReferences priced.now.edition.now priced.now.trip.now known.old }
+    requires within { known.old.reach.past ≤ count priced.now.trip.now }
     ensures from { known.new.reach.from ≡ known.old.reach.from }
     ensures past { known.new.reach.past ≡ known.old.reach.past + 1 }
     ensures form { known.new.form ≡ known.old.form }
-    ensures known { AreReferences edition.now trip.now known.new }
+    ensures known { AreReferences priced.now.edition.now priced.now.trip.now known.new }
 {
-    let count = trip.count();
-    let from = known.reach.from;
-    let past = known.reach.past;
-    prove!(past <= count);
-    let high = known.reach.high;
-    let first = known.reach.first;
-    let found = reference_to_stopover(edition, trip, indicators, from, known, past);
-    let high = high_to(edition, trip, indicators, from, known, past, high, &found);
+    let count = priced.trip.count();
+    let reach = known.reach;
+    prove!(reach.past <= count);
+    let found = reference_to_stopover(priced, known, reach.from, reach.past);
+    let high = high_behind(priced, known, &found);
     known.reach = Reach {
-        from,
-        past: past + 1,
+        from: reach.from,
+        past: reach.past + 1,
         high,
-        first: or_more(first, &found),
+        first: or_more(reach.first, &found),
     };
 }
 
 /// Goes as far as a component reaches.
-pub(crate) fn go_to(
-    edition: &Edition,
-    trip: &Trip,
-    indicators: &Indicators,
-    known: &mut References,
-    a: usize,
-    b: usize,
-)
-    requires indicators { AreIndicators edition.now trip.now indicators.now.rows }
-    requires known { AreReferences edition.now trip.now known.old }
+pub(crate) fn go_to(priced: &Priced, known: &mut References, a: usize, b: usize)
+    requires known { AreReferences priced.now.edition.now priced.now.trip.now known.old }
     requires rises { a < b }
-    requires within { b ≤ count trip.now }
+    requires within { b ≤ count priced.now.trip.now }
     ensures from { known.new.reach.from ≡ a }
     ensures past { known.new.reach.past ≡ b }
     ensures form { known.new.form ≡ known.old.form }
-    ensures known { AreReferences edition.now trip.now known.new }
+    ensures known { AreReferences priced.now.edition.now priced.now.trip.now known.new }
 {
-    let count = trip.count();
+    let count = priced.trip.count();
     prove!(b <= count);
     known.begin(a, b);
     for past in known.reach.past..b {
-        go_on(edition, trip, indicators, known);
+        go_on(priced, known);
     }
 }

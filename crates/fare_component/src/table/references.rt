@@ -6,16 +6,14 @@ ghost use Rattle.fare_tariff.specs.Tariff.{Tariff};
 ghost use Rattle.fare_rules.specs.Base.{reference_between};
 ghost use Rattle.fare_rules.specs.Terms.{terms_of_fare};
 ghost use Rattle.fare_component.specs.declared.table.references.Form.{Form};
-ghost use Rattle.fare_component.specs.Shared.{AreIndicators};
 ghost use Rattle.fare_component.specs.References.{AreReferences, IsOfForm, IsReach, IsReference, kept_at, reference_of};
 
 use crate::conditions::terms_of_fare;
-use crate::table::indicators::{Indicators, indicator_of};
+use crate::table::priced::Priced;
 use fare_codes::{Day, FARE_LIMIT, Nuc, RuleId};
 use fare_points::reference;
 use fare_rules::MOST_POINTS;
 use fare_tariff::{Edition, FareRec, Terms};
-use fare_trip::Trip;
 
 /// How many pairs of points a trip can have.
 const MOST_PAIRS: usize = MOST_POINTS * MOST_POINTS;
@@ -81,26 +79,19 @@ pub(crate) fn is_of_form(form: &Form, fare: &FareRec, back: bool) -> bool
 }
 
 /// The reference of a form between two points.
-fn reference_between(
-    edition: &Edition,
-    trip: &Trip,
-    indicators: &Indicators,
-    form: &Form,
-    i: usize,
-    j: usize,
-) -> Option<Nuc>
-    requires indicators { AreIndicators edition.now trip.now indicators.now.rows }
+fn reference_between(priced: &Priced, form: &Form, i: usize, j: usize) -> Option<Nuc>
     requires rises { i < j }
-    requires within { j ≤ count trip.now }
-    ensures value { result ≡ reference_between edition.now trip.now form.now.fare form.now.back form.now.on i j }
+    requires within { j ≤ count priced.now.trip.now }
+    ensures value { result
+        ≡ reference_between priced.now.edition.now priced.now.trip.now form.now.fare form.now.back form.now.on i j }
     ensures bound { IfSome result (λ amount. amount < FARE_LIMIT) }
 {
-    let ind = indicator_of(indicators, edition, trip, i, j);
-    let (earlier, later) = (trip.point(i), trip.point(j));
+    let ind = priced.indicator(i, j);
+    let (earlier, later) = (priced.trip.point(i), priced.trip.point(j));
     if form.back {
-        reference(edition, later, earlier, ind, &form.fare, form.on)
+        reference(priced.edition, later, earlier, ind, &form.fare, form.on)
     } else {
-        reference(edition, earlier, later, ind, &form.fare, form.on)
+        reference(priced.edition, earlier, later, ind, &form.fare, form.on)
     }
 }
 
@@ -183,73 +174,49 @@ impl References {
     /// The hundredths of the reference between two points, looked up.
     #[cold]
     #[inline(never)]
-    fn looked_up(
-        &self,
-        edition: &Edition,
-        trip: &Trip,
-        indicators: &Indicators,
-        i: usize,
-        j: usize,
-    ) -> Option<u64>
-        requires indicators { AreIndicators edition.now trip.now indicators.now.rows }
+    fn looked_up(&self, priced: &Priced, i: usize, j: usize) -> Option<u64>
         requires rises { i < j }
-        requires within { j ≤ count trip.now }
-        ensures value { result ≡ reference_of edition.now trip.now self.now.form i j }
+        requires within { j ≤ count priced.now.trip.now }
+        ensures value { result ≡ reference_of priced.now.edition.now priced.now.trip.now self.now.form i j }
         ensures bound { IfSome result (λ amount. amount < FARE_LIMIT) }
     {
-        hundredths_of(reference_between(edition, trip, indicators, &self.form, i, j))
+        hundredths_of(reference_between(priced, &self.form, i, j))
     }
 
     /// From here on the reference between two points, in hundredths, is known.
-    pub(crate) fn put(
-        &mut self,
-        edition: &Edition,
-        trip: &Trip,
-        i: usize,
-        j: usize,
-        found: Option<u64>,
-    )
-        requires right { AreReferences edition.now trip.now self.old }
+    pub(crate) fn put(&mut self, priced: &Priced, i: usize, j: usize, found: Option<u64>)
+        requires right { AreReferences priced.now.edition.now priced.now.trip.now self.old }
         requires rises { i < j }
-        requires within { j ≤ count trip.now }
-        requires found { IsReference edition.now trip.now self.old.form i j found }
+        requires within { j ≤ count priced.now.trip.now }
+        requires found { IsReference priced.now.edition.now priced.now.trip.now self.old.form i j found }
         ensures form { self.new.form ≡ self.old.form }
         ensures reach { self.new.reach ≡ self.old.reach }
-        ensures right { AreReferences edition.now trip.now self.new }
+        ensures right { AreReferences priced.now.edition.now priced.now.trip.now self.new }
     {
-        let _edition = edition;
-        let count = trip.count();
+        let count = priced.trip.count();
         prove!(j <= count);
         self.found[i * MOST_POINTS + j] = Some(found);
     }
 
     /// The reference between two points, which is looked up where it isn't known.
     #[inline(always)]
-    pub(crate) fn between(
-        &mut self,
-        edition: &Edition,
-        trip: &Trip,
-        indicators: &Indicators,
-        i: usize,
-        j: usize,
-    ) -> Option<Nuc>
-        requires indicators { AreIndicators edition.now trip.now indicators.now.rows }
-        requires right { AreReferences edition.now trip.now self.old }
+    pub(crate) fn between(&mut self, priced: &Priced, i: usize, j: usize) -> Option<Nuc>
+        requires right { AreReferences priced.now.edition.now priced.now.trip.now self.old }
         requires rises { i < j }
-        requires within { j ≤ count trip.now }
-        ensures value { result ≡ reference_of edition.now trip.now self.old.form i j }
+        requires within { j ≤ count priced.now.trip.now }
+        ensures value { result ≡ reference_of priced.now.edition.now priced.now.trip.now self.old.form i j }
         ensures bound { IfSome result (λ amount. amount < FARE_LIMIT) }
         ensures form { self.new.form ≡ self.old.form }
         ensures reach { self.new.reach ≡ self.old.reach }
-        ensures right { AreReferences edition.now trip.now self.new }
+        ensures right { AreReferences priced.now.edition.now priced.now.trip.now self.new }
     {
-        let count = trip.count();
+        let count = priced.trip.count();
         prove!(j <= count);
         if let Some(found) = self.found[i * MOST_POINTS + j] {
             return amount_of(found);
         }
-        let found = self.looked_up(edition, trip, indicators, i, j);
-        self.put(edition, trip, i, j, found);
+        let found = self.looked_up(priced, i, j);
+        self.put(priced, i, j, found);
         amount_of(found)
     }
 }

@@ -1,17 +1,12 @@
 ghost use Rattle.std.specs.Prelude.{◌≡◌, ◌≤◌, [], length, slice_index_or, All, IfOk, OnOk};
-ghost use Rattle.fare_trip.specs.Itinerary.{count};
-ghost use Rattle.fare_mileage.specs.Miles.{AreInRange, AreMiles};
 ghost use Rattle.fare_component.specs.References.{AreForms};
-ghost use Rattle.fare_component.specs.Shared.{AreIndicators};
 ghost use Rattle.fare_component.specs.Table.{IsInBounds, row_of};
 
 use crate::table::entries::{Entries, MOST_ENTRIES, entries_of};
 use crate::table::entry::Entry;
 use crate::table::forms::Forms;
-use crate::table::indicators::Indicators;
+use crate::table::priced::Priced;
 use fare_outside::NoMemory;
-use fare_tariff::Edition;
-use fare_trip::Trip;
 use std::alloc::Global;
 use std::marker::Model;
 
@@ -35,22 +30,17 @@ impl Row {
     #[tactic(auto, using(crate::proofs::TableLemmas::made_push))]
     pub(crate) fn of(
         alloc: Global,
-        edition: &Edition,
-        trip: &Trip,
-        indicators: &Indicators,
+        priced: &Priced,
         forms: &mut Forms,
         a: usize,
     ) -> Result<Row, NoMemory>
-        requires indicators { AreIndicators edition.now trip.now indicators.now.rows }
-        requires miles { AreMiles edition.now trip.now 0 (count trip.now) indicators.now.miles }
-        requires in_range { AreInRange indicators.now.miles }
-        requires forms { AreForms edition.now trip.now a forms.old.items.items }
-        ensures row { IfOk result (λ row. row ≡ row_of edition.now trip.now a) }
-        ensures forms { OnOk result (AreForms edition.now trip.now a forms.new.items.items) }
+        requires { AreForms priced.now.edition.now priced.now.trip.now a forms.old.items.items }
+        ensures row { IfOk result (λ row. row ≡ row_of priced.now.edition.now priced.now.trip.now a) }
+        ensures forms { OnOk result (AreForms priced.now.edition.now priced.now.trip.now a forms.new.items.items) }
     {
         let mut spans = Vec::new(alloc);
-        for b in 0..trip.count() + 1 {
-            spans.push(entries_of(alloc, edition, trip, indicators, forms, a, b)?)?;
+        for b in 0..priced.trip.count() + 1 {
+            spans.push(entries_of(alloc, priced, forms, a, b)?)?;
         }
         Ok(Row { spans })
     }

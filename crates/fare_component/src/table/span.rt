@@ -8,15 +8,16 @@ ghost use Rattle.fare_rules.specs.ComponentAmount.{repeats_city, span_surcharge}
 ghost use Rattle.fare_component.specs.Spans.{IsSpan};
 
 use crate::conditions::{greatest_rank, one_carrier, stopovers, transfers};
+use crate::table::priced::Priced;
 use fare_codes::{Carrier, Indicator};
 use fare_rules::MOST_SURCHARGE;
-use fare_tariff::Edition;
-use fare_trip::Trip;
 
-/// What a span asks of a fare: its indicator, the surcharge of its mileage, its stopovers and transfers, the greatest
-/// rank of its cabins, and the carrier of all its sectors, where they have one.
+/// What a span, from a point to another, asks of a fare: its indicator, the surcharge of its mileage, its stopovers and
+/// transfers, the greatest rank of its cabins, and the carrier of all its sectors, where they have one.
 #[derive(Clone, Copy)]
 pub(crate) struct Span {
+    pub(crate) a: usize,
+    pub(crate) b: usize,
     pub(crate) ind: Indicator,
     pub(crate) step: u32,
     pub(crate) stops: u32,
@@ -26,24 +27,22 @@ pub(crate) struct Span {
 }
 
 /// What a span with an indicator and a surcharge asks of a fare.
-pub(crate) fn span_of(
-    edition: &Edition,
-    trip: &Trip,
-    a: usize,
-    b: usize,
-    ind: Indicator,
-    step: u32,
-) -> Span
+pub(crate) fn span_of(priced: &Priced, a: usize, b: usize, ind: Indicator, step: u32) -> Span
     requires rises { a < b }
-    requires within { b ≤ count trip.now }
-    requires plain { (not (holds_surface trip.now a b) && not (repeats_city trip.now a b)) ≡ true }
-    requires indicator { ind ≡ indicator edition.now trip.now a b }
-    requires measured { span_surcharge edition.now trip.now a b ≡ Some step }
+    requires within { b ≤ count priced.now.trip.now }
+    requires plain { (not (holds_surface priced.now.trip.now a b)
+        && not (repeats_city priced.now.trip.now a b)) ≡ true }
+    requires indicator { ind ≡ indicator priced.now.edition.now priced.now.trip.now a b }
+    requires measured { span_surcharge priced.now.edition.now priced.now.trip.now a b ≡ Some step }
     requires step { step ≤ MOST_SURCHARGE }
-    ensures { IsSpan edition.now trip.now a b result }
+    ensures start { result.a ≡ a }
+    ensures end { result.b ≡ b }
+    ensures span { IsSpan priced.now.edition.now priced.now.trip.now result }
 {
-    let _edition = edition;
+    let trip = priced.trip;
     Span {
+        a,
+        b,
         ind,
         step,
         stops: stopovers(trip, a, b),

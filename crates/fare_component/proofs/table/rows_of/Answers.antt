@@ -5,21 +5,21 @@ use Rattle.fare_component.proofs.table.rows_of.Goals as goal
 
 pub loop-done-init : goal.loop-done-init
 loop-done-init c =
-    let tariff = c.args.edition.now in
-    let trip = c.args.trip.now in
+    let tariff = c.args.priced.now.edition.now in
+    let trip = c.args.priced.now.trip.now in
     record {
       whole = c.new-rows.ensures.items ∙ made_none (row_of tariff trip) c.count-count.result;
       forms = c.new-forms.ensures tariff trip (c.count-count.result - 0);
     }
 
-pub of-requires-clause-forms : goal.of-requires-clause-forms
-of-requires-clause-forms c =
-    c.begin.ensures c.args.edition.now (c.count-count.result - c.loop-done.done) c.loop-done.invariant.forms
+pub of-requires : goal.of-requires
+of-requires c =
+    c.begin.ensures c.args.priced.now.edition.now (c.count-count.result - c.loop-done.done) c.loop-done.invariant.forms
 
 pub loop-done-preserved : goal.loop-done-preserved
 loop-done-preserved c =
-    let tariff = c.args.edition.now in
-    let trip = c.args.trip.now in
+    let tariff = c.args.priced.now.edition.now in
+    let trip = c.args.priced.now.trip.now in
     let count = c.count-count.result in
     let done = c.loop-done.done in
     let left : (count - 1 - done) + 1 + done ≡ count = omega arith in

@@ -7,6 +7,6 @@ use Rattle.fare_component.proofs.table.rows_of.Given as goal
 
 abbrev pub invariant-loop-done : goal.invariant-loop-done
 invariant-loop-done l = record {
-  whole : l.rows.items ≡ reverse (map (row_of l.edition l.trip) (numbers (l.count - l.done) l.count));
-  forms : AreForms l.edition l.trip (l.count - l.done) l.forms.items.items;
+  whole : l.rows.items ≡ reverse (map (row_of l.priced.edition.now l.priced.trip.now) (numbers (l.count - l.done) l.count));
+  forms : AreForms l.priced.edition.now l.priced.trip.now (l.count - l.done) l.forms.items.items;
 }

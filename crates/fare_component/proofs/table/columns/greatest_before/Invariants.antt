@@ -9,10 +9,10 @@ use Rattle.fare_component.proofs.table.columns.greatest_before.Given as goal
 
 abbrev pub invariant-loop-i : goal.invariant-loop-i
 invariant-loop-i l = record {
-  whole : greatest_amount l.greatest (filter_map (stop_to l.edition l.trip l.fn.known.form l.j) (numbers l.i l.past))
-      ≡ greatest_amount 0 (filter_map (stop_to l.edition l.trip l.fn.known.form l.j) (numbers l.first l.past));
+  whole : greatest_amount l.greatest (filter_map (stop_to l.priced.edition.now l.priced.trip.now l.fn.known.form l.j) (numbers l.i l.past))
+      ≡ greatest_amount 0 (filter_map (stop_to l.priced.edition.now l.priced.trip.now l.fn.known.form l.j) (numbers l.first l.past));
   bound : l.greatest < FARE_LIMIT;
   form : l.known.form ≡ l.fn.known.form;
   reach : l.known.reach ≡ l.fn.known.reach;
-  known : AreReferences l.edition l.trip l.known;
+  known : AreReferences l.priced.edition.now l.priced.trip.now l.known;
 }

@@ -5,8 +5,8 @@ use Rattle.fare_component.proofs.table.columns.greatest_to.Goals as goal
 
 pub keep-requires-clause-column : goal.keep-requires-clause-column
 keep-requires-clause-column c =
-    let tariff = c.args.edition.now in
-    let trip = c.args.trip.now in
+    let tariff = c.args.priced.now.edition.now in
+    let trip = c.args.priced.now.trip.now in
     let form = c.args.known.now.form in
     let column = c.serving-column.ensures.right tariff trip form (c.requires.known.columns c.args.j c.requires.within) in
     let high : c.max-high.result ≡ max c.greatest_before-more.result c.serving-column.result.high = omega arith in
@@ -16,8 +16,8 @@ keep-requires-clause-column c =
 
 pub new-requires : goal.new-requires
 new-requires c =
-    let tariff = c.args.edition.now in
-    let trip = c.args.trip.now in
+    let tariff = c.args.priced.now.edition.now in
+    let trip = c.args.priced.now.trip.now in
     let form = c.args.known.now.form in
     let column = c.serving-column.ensures.right tariff trip form (c.requires.known.columns c.args.j c.requires.within) in
     let high : c.max-high.result ≡ max c.greatest_before-more.result c.serving-column.result.high = omega arith in
@@ -27,8 +27,8 @@ new-requires c =
 
 pub returns-clause-value : goal.returns-clause-value
 returns-clause-value c =
-    let tariff = c.args.edition.now in
-    let trip = c.args.trip.now in
+    let tariff = c.args.priced.now.edition.now in
+    let trip = c.args.priced.now.trip.now in
     let form = c.args.known.now.form in
     let column = c.serving-column.ensures.right tariff trip form (c.requires.known.columns c.args.j c.requires.within) in
     let high : c.max-high.result ≡ max c.greatest_before-more.result c.serving-column.result.high = omega arith in
@@ -38,8 +38,8 @@ returns-clause-value c =
 
 pub returns-clause-bound : goal.returns-clause-bound
 returns-clause-bound c =
-    let tariff = c.args.edition.now in
-    let trip = c.args.trip.now in
+    let tariff = c.args.priced.now.edition.now in
+    let trip = c.args.priced.now.trip.now in
     let form = c.args.known.now.form in
     let column = c.serving-column.ensures.right tariff trip form (c.requires.known.columns c.args.j c.requires.within) in
     let high : c.max-high.result ≡ max c.greatest_before-more.result c.serving-column.result.high = omega arith in

@@ -13,8 +13,8 @@ returns-clause-stands c =
     let place = c.args.cursor.place in
     let turn = c.fares_come_in_turn.ensures in
     let shown : c.args.cursor.next ≡ Some c.args.number = search rules in
-    let next : c.next_fare.result ≡ nth_fare tariff c.args.from c.args.to c.args.ind (place + 1) =
-    c.next_fare.ensures ∙ turn.next c.args.from c.args.to c.args.ind place c.args.number (sym c.requires.next ∙ shown) in
-    stands_behind tariff c.args.from c.args.to c.args.ind c.args.number c.args.cursor (record { place = place + 1; next = c.next_fare.result })
+    let next : c.next_fare.result ≡ nth_fare tariff c.args.market.now.from c.args.market.now.to c.args.market.now.ind (place + 1) =
+    c.next_fare.ensures ∙ turn.next c.args.market.now.from c.args.market.now.to c.args.market.now.ind place c.args.number (sym c.requires.next ∙ shown) in
+    stands_behind tariff c.args.market.now.from c.args.market.now.to c.args.market.now.ind c.args.number c.args.cursor (record { place = place + 1; next = c.next_fare.result })
     c.requires shown refl next
-    (of_some c.next_fare.result (place + 1 < MOST_FARES_BETWEEN) (λ n found. turn.few c.args.from c.args.to c.args.ind (place + 1) n (sym next ∙ found)))
+    (of_some c.next_fare.result (place + 1 < MOST_FARES_BETWEEN) (λ n found. turn.few c.args.market.now.from c.args.market.now.to c.args.market.now.ind (place + 1) n (sym next ∙ found)))

@@ -6,8 +6,8 @@ use Rattle.fare_component.proofs.table.entries.entries_of.Goals.{else-a-b-via-th
 
 pub returns-else-a-b-clause-entries : goal.returns-else-a-b-clause-entries
 returns-else-a-b-clause-entries c =
-    let tariff = c.args.edition.now in
-    let trip = c.args.trip.now in
+    let tariff = c.args.priced.now.edition.now in
+    let trip = c.args.priced.now.trip.now in
     elim c.else-a-b.branch [
       | else-a-b-via-then-a-b+else-is_plain w ↦
           c.new.ensures ∙ sym (no_entries_there tariff trip c.args.a c.args.b (sym w.is_plain.ensures ∙ w.if-is_plain.false))

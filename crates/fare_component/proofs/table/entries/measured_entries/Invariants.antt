@@ -7,8 +7,8 @@ use Rattle.fare_component.proofs.table.entries.measured_entries.Given as goal
 
 abbrev pub invariant-loop-number : goal.invariant-loop-number
 invariant-loop-number l = record {
-  walked : IsWalked l.edition l.trip l.a l.b l.candidates l.entries;
-  forms : AreForms l.edition l.trip l.a l.forms.items.items;
+  walked : IsWalked l.priced.edition.now l.priced.trip.now l.span.a l.span.b l.candidates l.entries;
+  forms : AreForms l.priced.edition.now l.priced.trip.now l.span.a l.forms.items.items;
 }
 
 abbrev pub decreases-loop-number : goal.decreases-loop-number

@@ -8,5 +8,5 @@ invariant-loop-past l = record {
   from : l.known.reach.from ≡ l.a;
   past : l.known.reach.past ≡ l.past;
   form : l.known.form ≡ l.fn.known.form;
-  known : AreReferences l.edition l.trip l.known;
+  known : AreReferences l.priced.edition.now l.priced.trip.now l.known;
 }

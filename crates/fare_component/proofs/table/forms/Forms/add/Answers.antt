@@ -7,8 +7,8 @@ use Rattle.std.proofs.Common.{ap, ◌∙◌}
 
 pub returns-clause-forms : goal.returns-clause-forms
 returns-clause-forms c =
-    let tariff = c.args.edition.now in
-    let trip = c.args.trip.now in
+    let tariff = c.args.priced.now.edition.now in
+    let trip = c.args.priced.now.trip.now in
     rw (c.in_ok-push.ensures.items, c.truncate.ensures.items)
     (All-push (AreReferencesFrom tariff trip c.args.a) _ c.new.result
     (All-take (AreReferencesFrom tariff trip c.args.a) 63 c.args.self.now.items.items c.requires.forms)

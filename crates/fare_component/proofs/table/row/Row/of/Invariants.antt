@@ -7,6 +7,6 @@ use Rattle.fare_component.proofs.table.row.Row.of.Given as goal
 
 abbrev pub invariant-loop-b : goal.invariant-loop-b
 invariant-loop-b l = record {
-  whole : l.spans.items ≡ map (entries_of l.edition l.trip l.a) (numbers 0 l.b);
-  forms : AreForms l.edition l.trip l.a l.forms.items.items;
+  whole : l.spans.items ≡ map (entries_of l.priced.edition.now l.priced.trip.now l.a) (numbers 0 l.b);
+  forms : AreForms l.priced.edition.now l.priced.trip.now l.a l.forms.items.items;
 }
