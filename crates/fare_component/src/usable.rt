@@ -1,6 +1,6 @@
 //! Whether a fare may be used for a span, whatever its mileage.
 
-ghost use Rattle.std.specs.Prelude.{◌≡◌, ◌<◌, ◌≤◌, ◌&&◌, not};
+ghost use Rattle.std.specs.Prelude.{◌≡◌, ◌≤◌, ◌&&◌, not};
 ghost use Rattle.fare_trip.specs.Itinerary.{count};
 ghost use Rattle.fare_rules.specs.Span.{holds_surface};
 ghost use Rattle.fare_rules.specs.ComponentAmount.{repeats_city};

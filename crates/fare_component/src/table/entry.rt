@@ -1,4 +1,4 @@
-ghost use Rattle.std.specs.Prelude.{◌≡◌, ◌*◌, ◌<◌, ◌≤◌, IfOk, IfSome, OnOk, Some, false, true};
+ghost use Rattle.std.specs.Prelude.{◌≡◌, ◌*◌, ◌<◌, IfOk, IfSome, OnOk, Some, false, true};
 ghost use Rattle.fare_rules.specs.UnitPrice.{at_least};
 ghost use Rattle.fare_component.specs.References.{AreForms, IsOfForm};
 ghost use Rattle.fare_component.specs.Spans.{IsSpan};
