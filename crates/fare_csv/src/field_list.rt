@@ -1,6 +1,6 @@
 //! The fields of a row, where they stand in a text.
 
-ghost use Rattle.std.specs.Prelude.{◌≡◌, [], ◌∷◌, ◌++◌, OnOk, length, slice_index_or};
+ghost use Rattle.std.specs.Prelude.{◌≡◌, [], ◌∷◌, ◌++◌, IfOk, OnOk, length, slice_index_or};
 ghost use Rattle.fare_csv.specs.Fields.{counted};
 
 use crate::text_fault::TextFault;
@@ -31,6 +31,15 @@ impl<'a> FieldList<'a> {
         }
     }
 
+    /// No fields, with room for so many.
+    pub(crate) fn with_capacity(alloc: Global, room: usize) -> Result<FieldList<'a>, AllocError>
+        ensures { IfOk result (λ fields. fields ≡ []) }
+    {
+        Ok(FieldList {
+            slices: Vec::with_capacity(alloc, room)?,
+        })
+    }
+
     /// Takes all fields away; their room is kept.
     pub(crate) fn clear(&mut self)
         ensures { self.new ≡ [] }
@@ -42,6 +51,10 @@ impl<'a> FieldList<'a> {
     pub(crate) fn push(&mut self, field: &'a [u8]) -> Result<(), AllocError>
         ensures { OnOk result (self.new ≡ self.old ++ (field.now ∷ [])) }
     {
+        if self.slices.len() < self.slices.capacity() {
+            self.slices.push_reserved(field);
+            return Ok(());
+        }
         self.slices.push(field)?;
         Ok(())
     }

@@ -51,7 +51,7 @@ impl Row {
     pub(crate) fn fields(&self, alloc: Global) -> Result<FieldList<'_>, AllocError>
         ensures { IfOk result (λ fields. fields ≡ self.now) }
     {
-        let mut fields = FieldList::new(alloc);
+        let mut fields = FieldList::with_capacity(alloc, self.len())?;
         for index in 0..self.len() {
             fields.push(self.field(index))?;
         }
