@@ -13,6 +13,7 @@ pub mod Unquoted
 pub mod Renumbered
 pub mod PiecesCut
 pub mod PiecesRead
+pub mod LinesTaken
 pub mod NamesReadBack
 pub mod RecordsReadBack
 pub mod EditionReadBack

@@ -55,7 +55,7 @@ is_blank-plain flexible first [] some plain = rw (field_text-plain flexible firs
 is_blank-plain flexible first (next ∷ others) some plain = refl
 
 -- what makes a row plain
-row-parts : (first : List ℕ) (others : Fields) → is_plain_row (first ∷ others) ≡ true
+pub row-parts : (first : List ℕ) (others : Fields) → is_plain_row (first ∷ others) ≡ true
     → ((length first == 0) ≡ false) × (is_plain_field first ≡ true) × (list_all is_plain_field others ≡ true)
 unfolding is_plain_row
 row-parts first others plain =
@@ -72,7 +72,7 @@ row_text-plain flexible (first ∷ others) plain =
     rw (is_blank-plain flexible first others some head, body-plain flexible first others head tail) refl
 
 -- a plain row is read back from its line
-next_record-plain : (row : Fields) (rest : List ℕ) → is_plain_row row ≡ true
+pub next_record-plain : (row : Fields) (rest : List ℕ) → is_plain_row row ≡ true
     → next_record default_config st.StartRecord [] [] (line_of row ++ rest) ≡ Some (row, st.StartRecord, rest)
 unfolding is_plain_row
 next_record-plain [] rest plain = absurd (false≢true plain)

@@ -1,6 +1,6 @@
 -- The rows of a text of whole lines and of what stands behind it.
-use Rattle.std.proofs.Common.{◌≡◌, ◌-◌, ℕ, suc, List, [], ◌∷◌, ◌++◌, length, Bool, true, false, Option, Some, None, refl, ap, ◌∙◌, arith}
-use Rattle.std.specs.Prelude.{◌==◌, ◌&&◌, not, ⊤}
+use Rattle.std.proofs.Common.{◌≡◌, ◌-◌, ℕ, suc, List, [], ◌∷◌, ◌++◌, length, Bool, true, false, Option, Some, None, refl, sym, ap, ◌∙◌, arith}
+use Rattle.std.specs.Prelude.{◌==◌, ◌&&◌, ⊤}
 use Rattle.std.specs.List.{list_all}
 use Rattle.csv.specs.Machine.{Read, in_field, next_record, start_field, step}
 use Rattle.csv.specs.Reading.{default_config, strip_bom}
@@ -181,6 +181,10 @@ rows_of-in (byte ∷ text) unmarked =
     rows_of-from (byte ∷ text)
     ∙ ap (rows_from st.StartRecord) (strip_bom-other byte text (not-true _ unmarked))
     ∙ rows_from-in st.StartRecord (byte ∷ text)
+
+-- the rows of such a text are those that are read from its start
+pub rows_of_unmarked : (text : List ℕ) → is_unmarked text ≡ true → rows_from st.StartRecord text ≡ rows_of text
+rows_of_unmarked text unmarked = sym (rows_of-in text unmarked ∙ sym (rows_from-in st.StartRecord text))
 
 -- what stands behind whole lines decides the start only where there is no line
 pub unmarked-behind : (text rest : List ℕ) → is_whole text ≡ true → is_unmarked rest ≡ true → is_unmarked (text ++ rest) ≡ true

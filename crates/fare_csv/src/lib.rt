@@ -3,6 +3,7 @@
 //! `RecordText`, `NameList`), the whole (`TariffText`), and the one spelling of an edition (`CanonicalText`, `Lines`).
 //!
 //! - `rows`, `lines`: a text row by row, and line by line;
+//! - `field_list`, `plain_line`: the fields of a row, taken where they stand;
 //! - `head`, `record_kind`, `read_plain`, `read_rule`, `read_fare`, `name_list`, `numbers`: records from their fields;
 //! - `read_text`: the whole text row by row;
 //! - `pieces`, `read_pieces`: a text in pieces of whole lines, which are read on all processors;
@@ -15,12 +16,14 @@
 mod canonical;
 mod edition;
 mod fault_text;
+mod field_list;
 mod head;
 mod laws;
 mod lines;
 mod name_list;
 mod numbers;
 mod pieces;
+mod plain_line;
 mod read_fare;
 mod read_pieces;
 mod read_plain;

@@ -4,9 +4,8 @@ ghost use Rattle.std.specs.Prelude.{◌≡◌, ◌<◌, ◌^◌, IfSome};
 ghost use Rattle.fare_csv.specs.RecordText.{fare_key_of, fare_of, fare_one_of, fare_two_of, fare_with, read_amount};
 ghost use Rattle.fare_csv.specs.RecordText.{read_fare_rule};
 
+use crate::field_list::FieldList;
 use crate::head::Version;
-use crate::read_plain::counted;
-use crate::rows::Row;
 use crate::text_fault::TextFault;
 use fare_codes::{
     Cabin, Carrier, City, FARE_LIMIT, Indicator, Kind, MonthDay, Nuc, RuleId, Season,
@@ -40,7 +39,7 @@ fn read_fare_rule(bytes: &[u8]) -> Option<Option<RuleId>>
 
 /// What both versions of a FARE begin with.
 #[tactic(auto, unfolding(crate::specs::RecordText::fare_key_of))]
-fn read_key(row: &Row, number: u32) -> Result<FareKey, TextFault>
+fn read_key(row: &FieldList, number: u32) -> Result<FareKey, TextFault>
     ensures { result ≡ fare_key_of number row.now }
 {
     let from = City::read(row.field(1)).ok_or(TextFault::BadRecord(number, 2))?;
@@ -81,10 +80,10 @@ fn fare_with(key: FareKey, season: Season, amount: Nuc) -> FareRec
 
 /// A version 1 FARE, which is filed for the whole year.
 #[tactic(auto, unfolding(crate::specs::RecordText::fare_one_of))]
-fn read_fare_one(row: &Row, number: u32) -> Result<FareRec, TextFault>
+fn read_fare_one(row: &FieldList, number: u32) -> Result<FareRec, TextFault>
     ensures { result ≡ fare_one_of number row.now }
 {
-    counted(row, number, 9)?;
+    row.counted(number, 9)?;
     let key = read_key(row, number)?;
     let amount = read_amount(row.field(8)).ok_or(TextFault::BadRecord(number, 9))?;
     Ok(fare_with(key, Season::whole_year(), amount))
@@ -92,10 +91,10 @@ fn read_fare_one(row: &Row, number: u32) -> Result<FareRec, TextFault>
 
 /// A version 2 FARE, with the first and the last day of its season.
 #[tactic(auto, unfolding(crate::specs::RecordText::fare_two_of))]
-fn read_fare_two(row: &Row, number: u32) -> Result<FareRec, TextFault>
+fn read_fare_two(row: &FieldList, number: u32) -> Result<FareRec, TextFault>
     ensures { result ≡ fare_two_of number row.now }
 {
-    counted(row, number, 11)?;
+    row.counted(number, 11)?;
     let key = read_key(row, number)?;
     let first = MonthDay::read(row.field(8)).ok_or(TextFault::BadRecord(number, 9))?;
     let last = MonthDay::read(row.field(9)).ok_or(TextFault::BadRecord(number, 10))?;
@@ -105,7 +104,11 @@ fn read_fare_two(row: &Row, number: u32) -> Result<FareRec, TextFault>
 
 /// A FARE record, as the version of the text spells it.
 #[tactic(auto, unfolding(crate::specs::RecordText::fare_of))]
-pub(crate) fn read_fare(row: &Row, version: Version, number: u32) -> Result<FareRec, TextFault>
+pub(crate) fn read_fare(
+    row: &FieldList,
+    version: Version,
+    number: u32,
+) -> Result<FareRec, TextFault>
     ensures { result ≡ fare_of version number row.now }
 {
     match version {

@@ -8,9 +8,11 @@ ghost use Rattle.fare_csv.specs.Joined.{joined};
 ghost use Rattle.fare_csv.specs.Rows.{rows_of};
 ghost use Rattle.fare_csv.specs.TariffText.{records_of};
 
+use crate::field_list::FieldList;
 use crate::head::Version;
 use crate::pieces::{NotInPieces, is_unmarked, is_whole, pieces_of};
-use crate::read_text::{read_record, read_records};
+use crate::plain_line::take_line;
+use crate::read_text::{read_fields, read_record, read_records};
 use crate::rows::{Row, Rows};
 use fare_tariff::Record;
 use rayon::prelude::*;
@@ -37,8 +39,25 @@ fn read_each(
     Ok(records)
 }
 
-/// The records of a piece.
-fn read_piece(alloc: Global, piece: &[u8], version: Version) -> Result<Vec<Record>, NotInPieces>
+/// The records of a piece whose lines are all plain.
+fn read_plain(alloc: Global, piece: &[u8], version: Version) -> Result<Vec<Record>, NotInPieces>
+    ensures { IfOk result (λ records. IsRead version piece.now records.items) }
+{
+    if !is_unmarked(piece) {
+        return Err(NotInPieces);
+    }
+    let mut records = Vec::with_capacity(alloc, piece.len() / BYTES)?;
+    let mut row = FieldList::new(alloc);
+    let mut left = piece;
+    while !left.is_empty() {
+        left = take_line(left, &mut row)?;
+        records.push(read_fields(alloc, &row, version, 2)?)?;
+    }
+    Ok(records)
+}
+
+/// The records of a piece that has other lines too.
+fn read_any(alloc: Global, piece: &[u8], version: Version) -> Result<Vec<Record>, NotInPieces>
     ensures { IfOk result (λ records. IsRead version piece.now records.items) }
 {
     if !is_whole(piece) {
@@ -46,6 +65,16 @@ fn read_piece(alloc: Global, piece: &[u8], version: Version) -> Result<Vec<Recor
     }
     let mut rows = Rows::new(alloc, piece);
     read_each(alloc, &mut rows, version, piece.len() / BYTES)
+}
+
+/// The records of a piece.
+fn read_piece(alloc: Global, piece: &[u8], version: Version) -> Result<Vec<Record>, NotInPieces>
+    ensures { IfOk result (λ records. IsRead version piece.now records.items) }
+{
+    match read_plain(alloc, piece, version) {
+        Ok(records) => Ok(records),
+        Err(_) => read_any(alloc, piece, version),
+    }
 }
 
 /// The records of each piece.

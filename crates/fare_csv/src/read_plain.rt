@@ -4,6 +4,7 @@ ghost use Rattle.std.specs.Prelude.{◌≡◌};
 ghost use Rattle.fare_csv.specs.Fields.{counted};
 ghost use Rattle.fare_csv.specs.RecordText.{allowance_of, city_of, currency_of, mileage_of, pair_of, read_via};
 
+use crate::field_list::FieldList;
 use crate::numbers::{read_roe, read_unit};
 use crate::rows::Row;
 use crate::text_fault::TextFault;
@@ -24,10 +25,10 @@ pub fn counted(row: &Row, number: u32, count: usize) -> Result<(), TextFault>
 
 /// A CITY record.
 #[tactic(auto, unfolding(crate::specs::RecordText::city_of))]
-pub(crate) fn read_city(row: &Row, number: u32) -> Result<CityRec, TextFault>
+pub(crate) fn read_city(row: &FieldList, number: u32) -> Result<CityRec, TextFault>
     ensures { result ≡ city_of number row.now }
 {
-    counted(row, number, 4)?;
+    row.counted(number, 4)?;
     let code = City::read(row.field(1)).ok_or(TextFault::BadRecord(number, 2))?;
     let country = Country::read(row.field(2)).ok_or(TextFault::BadRecord(number, 3))?;
     let area = Area::read(row.field(3)).ok_or(TextFault::BadRecord(number, 4))?;
@@ -40,10 +41,10 @@ pub(crate) fn read_city(row: &Row, number: u32) -> Result<CityRec, TextFault>
 
 /// A CUR record.
 #[tactic(auto, unfolding(crate::specs::RecordText::currency_of))]
-pub(crate) fn read_currency(row: &Row, number: u32) -> Result<CurRec, TextFault>
+pub(crate) fn read_currency(row: &FieldList, number: u32) -> Result<CurRec, TextFault>
     ensures { result ≡ currency_of number row.now }
 {
-    counted(row, number, 7)?;
+    row.counted(number, 7)?;
     let country = Country::read(row.field(1)).ok_or(TextFault::BadRecord(number, 2))?;
     let currency = Currency::read(row.field(2)).ok_or(TextFault::BadRecord(number, 3))?;
     let roe = read_roe(row.field(3)).ok_or(TextFault::BadRecord(number, 4))?;
@@ -62,10 +63,10 @@ pub(crate) fn read_currency(row: &Row, number: u32) -> Result<CurRec, TextFault>
 
 /// An MPM record.
 #[tactic(auto, unfolding(crate::specs::RecordText::mileage_of))]
-pub(crate) fn read_mileage(row: &Row, number: u32) -> Result<MileRec, TextFault>
+pub(crate) fn read_mileage(row: &FieldList, number: u32) -> Result<MileRec, TextFault>
     ensures { result ≡ mileage_of number row.now }
 {
-    counted(row, number, 5)?;
+    row.counted(number, 5)?;
     let from = City::read(row.field(1)).ok_or(TextFault::BadRecord(number, 2))?;
     let to = City::read(row.field(2)).ok_or(TextFault::BadRecord(number, 3))?;
     let ind = Indicator::read(row.field(3)).ok_or(TextFault::BadRecord(number, 4))?;
@@ -80,10 +81,10 @@ pub(crate) fn read_mileage(row: &Row, number: u32) -> Result<MileRec, TextFault>
 
 /// A TPM record.
 #[tactic(auto, unfolding(crate::specs::RecordText::pair_of))]
-pub(crate) fn read_pair(row: &Row, number: u32) -> Result<PairRec, TextFault>
+pub(crate) fn read_pair(row: &FieldList, number: u32) -> Result<PairRec, TextFault>
     ensures { result ≡ pair_of number row.now }
 {
-    counted(row, number, 4)?;
+    row.counted(number, 4)?;
     let from = City::read(row.field(1)).ok_or(TextFault::BadRecord(number, 2))?;
     let to = City::read(row.field(2)).ok_or(TextFault::BadRecord(number, 3))?;
     let miles = read_number(row.field(3), MOST_MILES).ok_or(TextFault::BadRecord(number, 4))?;
@@ -103,10 +104,10 @@ fn read_via(bytes: &[u8]) -> Option<Option<City>>
 
 /// An EMA record.
 #[tactic(auto, unfolding(crate::specs::RecordText::allowance_of))]
-pub(crate) fn read_allowance(row: &Row, number: u32) -> Result<EmaRec, TextFault>
+pub(crate) fn read_allowance(row: &FieldList, number: u32) -> Result<EmaRec, TextFault>
     ensures { result ≡ allowance_of number row.now }
 {
-    counted(row, number, 6)?;
+    row.counted(number, 6)?;
     let from = City::read(row.field(1)).ok_or(TextFault::BadRecord(number, 2))?;
     let to = City::read(row.field(2)).ok_or(TextFault::BadRecord(number, 3))?;
     let ind = Indicator::read(row.field(3)).ok_or(TextFault::BadRecord(number, 4))?;

@@ -4,9 +4,8 @@ ghost use Rattle.std.specs.Prelude.{◌≡◌};
 ghost use Rattle.fare_outside.specs.Memory.{Gives};
 ghost use Rattle.fare_csv.specs.RecordText.{read_excess, rule_of};
 
+use crate::field_list::FieldList;
 use crate::name_list::read_names;
-use crate::read_plain::counted;
-use crate::rows::Row;
 use crate::text_fault::TextFault;
 use fare_codes::{RuleId, read_number};
 use fare_tariff::{MOST_DAYS, MOST_STOPS, MOST_TRANSFERS, RuleRec};
@@ -26,10 +25,10 @@ fn read_excess(bytes: &[u8]) -> Option<bool>
 
 /// A RULE record.
 #[tactic(auto, unfolding(crate::specs::RecordText::rule_of))]
-pub(crate) fn read_rule(alloc: Global, row: &Row, number: u32) -> Result<RuleRec, TextFault>
+pub(crate) fn read_rule(alloc: Global, row: &FieldList, number: u32) -> Result<RuleRec, TextFault>
     ensures { Gives TextFault.Memory (λ rule. rule) result (rule_of number row.now) }
 {
-    counted(row, number, 10)?;
+    row.counted(number, 10)?;
     let id = RuleId::read(row.field(1)).ok_or(TextFault::BadRecord(number, 2))?;
     let stops = read_number(row.field(2), MOST_STOPS).ok_or(TextFault::BadRecord(number, 3))?;
     let transfers = read_number(row.field(3), MOST_TRANSFERS).ok_or(TextFault::BadRecord(

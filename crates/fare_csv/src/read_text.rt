@@ -6,6 +6,7 @@ ghost use Rattle.fare_csv.specs.TariffText.{end_of, record_of, records_of, tarif
 ghost use Rattle.fare_csv.specs.Spelled.{is_end, is_head, spelled_tariff};
 ghost use Rattle.fare_csv.specs.Rows.{rows_of};
 
+use crate::field_list::FieldList;
 use crate::head::{Version, read_head};
 use crate::read_fare::read_fare;
 use crate::read_plain::{
@@ -20,10 +21,22 @@ use fare_tariff::{FiledRule, LAST_EDITION, Record};
 use std::alloc::Global;
 
 /// The record of a row that isn't END, by its first field, or its fault, which has this number.
-#[tactic(auto, unfolding(crate::specs::TariffText::record_of, crate::specs::TariffText::record_of_kind))]
 pub fn read_record(
     alloc: Global,
     row: &Row,
+    version: Version,
+    number: u32,
+) -> Result<Record, TextFault>
+    ensures { Gives TextFault.Memory (λ one. one) result (record_of version number row.now) }
+{
+    read_fields(alloc, &row.fields(alloc)?, version, number)
+}
+
+/// The record of the fields of a row that isn't END, by the first, or its fault, which has this number.
+#[tactic(auto, unfolding(crate::specs::TariffText::record_of, crate::specs::TariffText::record_of_kind))]
+pub(crate) fn read_fields(
+    alloc: Global,
+    row: &FieldList,
     version: Version,
     number: u32,
 ) -> Result<Record, TextFault>

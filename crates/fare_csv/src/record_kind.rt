@@ -19,27 +19,15 @@ impl RecordKind {
     pub fn named(name: &[u8]) -> Option<RecordKind>
         ensures { result ≡ kind_named name.now }
     {
-        if name == b"CITY".as_slice() {
-            return Some(RecordKind::City);
+        match name {
+            b"CITY" => Some(RecordKind::City),
+            b"CUR" => Some(RecordKind::Cur),
+            b"RULE" => Some(RecordKind::Rule),
+            b"FARE" => Some(RecordKind::Fare),
+            b"MPM" => Some(RecordKind::Mpm),
+            b"TPM" => Some(RecordKind::Tpm),
+            b"EMA" => Some(RecordKind::Ema),
+            _ => None,
         }
-        if name == b"CUR".as_slice() {
-            return Some(RecordKind::Cur);
-        }
-        if name == b"RULE".as_slice() {
-            return Some(RecordKind::Rule);
-        }
-        if name == b"FARE".as_slice() {
-            return Some(RecordKind::Fare);
-        }
-        if name == b"MPM".as_slice() {
-            return Some(RecordKind::Mpm);
-        }
-        if name == b"TPM".as_slice() {
-            return Some(RecordKind::Tpm);
-        }
-        if name == b"EMA".as_slice() {
-            return Some(RecordKind::Ema);
-        }
-        None
     }
 }

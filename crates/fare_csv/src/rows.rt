@@ -3,6 +3,7 @@
 ghost use Rattle.std.specs.Prelude.{◌≡◌, [], ◌∷◌, if◌then◌else◌, IfOk, OnErr, length, slice_index_or};
 ghost use Rattle.fare_csv.specs.Rows.{rows_of};
 
+use crate::field_list::FieldList;
 use csv::{ByteRecord, Reader, ReaderBuilder};
 use std::alloc::{AllocError, Global};
 use std::marker::Model;
@@ -44,6 +45,17 @@ impl Row {
         ensures { result.now ≡ slice_index_or self.now index [] }
     {
         self.record.get(index).unwrap_or(&[])
+    }
+
+    /// The fields, where they stand in the row.
+    pub(crate) fn fields(&self, alloc: Global) -> Result<FieldList<'_>, AllocError>
+        ensures { IfOk result (λ fields. fields ≡ self.now) }
+    {
+        let mut fields = FieldList::with_capacity(alloc, self.len())?;
+        for index in 0..self.len() {
+            fields.push(self.field(index))?;
+        }
+        Ok(fields)
     }
 }
 
