@@ -29,6 +29,19 @@ TPM,LAX,NYC,2470\nTPM,NYC,LON,3450\nMPM,LON,TYO,EH,7400\nMPM,LON,TYO,AP,11000\nE
 /// Asks for the list of editions.
 const LIST: &[u8] = b"GET /editions HTTP/1.1\r\n\r\n";
 
+/// What the publication of the first edition is answered.
+const PUBLISHED_7: &[u8] =
+    b"HTTP/1.1 201 Created\r\nContent-Type: text/plain\r\nContent-Length: 12\r\n\
+Connection: close\r\n\r\nPUBLISHED 7\n";
+
+/// What the list of the first edition is answered.
+const LISTED_7: &[u8] = b"HTTP/1.1 200 OK\r\nContent-Type: text/plain\r\nContent-Length: 24\r\n\
+Connection: close\r\n\r\nEDITION 7 2025-01-01 23\n";
+
+/// An answer without a text, as that of a list of no edition.
+const NO_TEXT: &[u8] = b"HTTP/1.1 200 OK\r\nContent-Type: text/plain\r\nContent-Length: 0\r\n\
+Connection: close\r\n\r\n";
+
 /// A clerk who lists what was published, and takes the first line of a tariff at its word.
 #[derive(Drop)]
 struct Clerk {

@@ -1,6 +1,6 @@
 //! What a failed call, or the early end of a connection, cuts off from a round: its own exchange alone.
 
-use super::{EDITION_7, LIST, clerk_with, door_of, failing_door, serve, was_sent};
+use super::{EDITION_7, LIST, LISTED_7, clerk_with, door_of, failing_door, serve, was_sent};
 use fare_rounds::*;
 use std::test::Fail;
 
@@ -37,10 +37,8 @@ fn a_connection_that_ends_early_is_cut_off_alone(rt: HostRuntime) -> Result<(), 
     let (end, counts) = serve(&rt, alloc, &mut door, &mut clerk, 8);
     assert_eq!(rt; end, DoorEnd::Open);
     assert_eq!(rt; counts, Counts { served: 2, cut: 1 });
-    let listed = b"HTTP/1.1 200 OK\r\nContent-Type: text/plain\r\nContent-Length: 24\r\n\
-Connection: close\r\n\r\nEDITION 7 2025-01-01 23\n";
-    assert!(rt; was_sent(&door, 0, listed));
+    assert!(rt; was_sent(&door, 0, LISTED_7));
     assert!(rt; was_sent(&door, 1, b""));
-    assert!(rt; was_sent(&door, 2, listed));
+    assert!(rt; was_sent(&door, 2, LISTED_7));
     Ok(())
 }

@@ -1,6 +1,8 @@
 //! Rounds as their clients see them: who is answered, in which order, and from which book.
 
-use super::{EDITION_7, LIST, clerk_with, door_of, serve, was_sent};
+use super::{
+    EDITION_7, LIST, LISTED_7, NO_TEXT, PUBLISHED_7, clerk_with, door_of, serve, was_sent,
+};
 use fare_rounds::*;
 use std::test::Fail;
 
@@ -38,22 +40,8 @@ fn a_publication_comes_after_what_is_only_asked(rt: HostRuntime) -> Result<(), F
     let (end, counts) = serve(&rt, alloc, &mut door, &mut clerk, 2);
     assert_eq!(rt; end, DoorEnd::Open);
     assert_eq!(rt; counts, Counts { served: 2, cut: 0 });
-    assert!(rt;
-        was_sent(
-            &door,
-            0,
-            b"HTTP/1.1 201 Created\r\nContent-Type: text/plain\r\n\
-Content-Length: 12\r\nConnection: close\r\n\r\nPUBLISHED 7\n"
-        )
-    );
-    assert!(rt;
-        was_sent(
-            &door,
-            1,
-            b"HTTP/1.1 200 OK\r\nContent-Type: text/plain\r\n\
-Content-Length: 0\r\nConnection: close\r\n\r\n"
-        )
-    );
+    assert!(rt; was_sent(&door, 0, PUBLISHED_7));
+    assert!(rt; was_sent(&door, 1, NO_TEXT));
     let (end, counts) = serve(&rt, alloc, &mut door, &mut clerk, 2);
     assert_eq!(rt; end, DoorEnd::NoMore);
     assert_eq!(rt; counts, Counts { served: 0, cut: 0 });
@@ -69,14 +57,7 @@ fn a_round_of_one_is_serving(rt: HostRuntime) -> Result<(), Fail> {
     assert_eq!(rt; counts, Counts { served: 1, cut: 0 });
     let (_, counts) = serve(&rt, alloc, &mut door, &mut clerk, 1);
     assert_eq!(rt; counts, Counts { served: 1, cut: 0 });
-    assert!(rt;
-        was_sent(
-            &door,
-            1,
-            b"HTTP/1.1 200 OK\r\nContent-Type: text/plain\r\n\
-Content-Length: 24\r\nConnection: close\r\n\r\nEDITION 7 2025-01-01 23\n"
-        )
-    );
+    assert!(rt; was_sent(&door, 1, LISTED_7));
     Ok(())
 }
 
@@ -86,14 +67,7 @@ fn publications_take_turns(rt: HostRuntime) -> Result<(), Fail> {
     let mut clerk = clerk_with(alloc, b"")?;
     let mut door = door_of(alloc, &[EDITION_7, EDITION_7])?;
     serve(&rt, alloc, &mut door, &mut clerk, 2);
-    assert!(rt;
-        was_sent(
-            &door,
-            0,
-            b"HTTP/1.1 201 Created\r\nContent-Type: text/plain\r\n\
-Content-Length: 12\r\nConnection: close\r\n\r\nPUBLISHED 7\n"
-        )
-    );
+    assert!(rt; was_sent(&door, 0, PUBLISHED_7));
     assert!(rt;
         was_sent(
             &door,

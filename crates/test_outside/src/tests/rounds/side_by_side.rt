@@ -2,7 +2,7 @@
 
 ghost use Rattle.std.specs.Prelude.{⊤};
 
-use super::{door_of, reply, serve, was_sent};
+use super::{NO_TEXT, door_of, reply, serve, was_sent};
 use fare_http::{Allow, Front, Handler, Reply, Status};
 use fare_outside::NoMemory;
 use fare_rounds::*;
@@ -92,9 +92,7 @@ fn round_two(rt: HostRuntime) -> Result<(), Fail> {
     };
     let (_, counts) = serve(&rt, alloc, &mut door, &mut meeting, 2);
     assert_eq!(rt; counts, Counts { served: 2, cut: 0 });
-    let okay = b"HTTP/1.1 200 OK\r\nContent-Type: text/plain\r\nContent-Length: 0\r\n\
-Connection: close\r\n\r\n";
-    assert!(rt; was_sent(&door, 0, okay));
-    assert!(rt; was_sent(&door, 1, okay));
+    assert!(rt; was_sent(&door, 0, NO_TEXT));
+    assert!(rt; was_sent(&door, 1, NO_TEXT));
     Ok(())
 }
