@@ -8,7 +8,7 @@ ghost use Rattle.fare_best.specs.Walked.{IsRanked};
 
 use crate::best_list::{BestList, MOST_BEST};
 use crate::walking::{Wanted, walk};
-use fare_branch::{Partial, best_of};
+use fare_branch::{Partial, Stage, ahead_of, best_of, stack_of};
 use fare_component::Table;
 use fare_homing::homing_of;
 use fare_outside::NoMemory;
@@ -59,10 +59,18 @@ fn rise(table: &Table, k: usize, least: u64, found: &mut BestList)
 {
     let homing = homing_of(table);
     let none = Partial::new();
+    let ahead = ahead_of(table, &homing, &none, stack_of(table, &homing, &none));
+    let stage = Stage {
+        table,
+        homing: &homing,
+        front: &none,
+        ahead: &ahead,
+    };
     let mut above = least / STEPS;
     for _walk in 0..MOST_WALKS {
         let limit = least.saturating_add(above);
-        walk(table, &homing, Wanted { count: k, limit }, &none, found);
+        let wanted = Wanted { count: k, limit };
+        walk(&stage, wanted, found);
         if found.is_within(k, limit) {
             return;
         }
@@ -75,7 +83,7 @@ fn rise(table: &Table, k: usize, least: u64, found: &mut BestList)
         count: k,
         limit: PRICE_LIMIT,
     };
-    walk(table, &homing, all, &none, found)
+    walk(&stage, all, found)
 }
 
 /// A law: at most one list is First k, so `first_k` has one answer.

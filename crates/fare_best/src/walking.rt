@@ -6,16 +6,14 @@ ghost use Rattle.fare_trip.specs.Itinerary.{count};
 ghost use Rattle.fare_rules.specs.Construction.{greatest_unit, places};
 ghost use Rattle.fare_component.specs.Table.{IsInBounds, entries_of};
 ghost use Rattle.fare_units.specs.Walk.{Completes, GoesOn, AnyPart, EndsAt, HasFare, IsPart, IsList, next_start};
-ghost use Rattle.fare_homing.specs.Rows.{AreHomingsOf};
-ghost use Rattle.fare_branch.specs.Ahead.{AreAhead};
-ghost use Rattle.fare_branch.specs.Floors.{IsFloorAnswer, IsMadeWith};
+ghost use Rattle.fare_branch.specs.Ahead.{IsStage};
+ghost use Rattle.fare_branch.specs.Floors.{IsFloorAnswer};
 ghost use Rattle.fare_best.specs.Ranking.{is_dear};
 ghost use Rattle.fare_best.specs.Walked.{IsWalk};
 
 use crate::best_list::{BestList, MOST_BEST};
-use fare_branch::{Ahead, Partial, ahead_of, floor_with, is_barred, stack_floor};
+use fare_branch::{Partial, Stage, ahead_of, floor_with, is_barred, is_crowded, stack_after};
 use fare_component::{Entry, Table};
-use fare_homing::Homing;
 use fare_rules::Part;
 use fare_units::lawful_price_by;
 
@@ -50,136 +48,89 @@ fn take(table: &Table, wanted: Wanted, front: &Partial, found: &mut BestList)
 
 /// Walks over all constructions that have these parts as their first ones.
 #[cycle(walk)]
-pub(crate) fn walk(
-    table: &Table,
-    homing: &Homing,
-    wanted: Wanted,
-    front: &Partial,
-    found: &mut BestList,
-)
-    requires homing { AreHomingsOf table.now.edition table.now.trip homing.now }
-    requires made { IsMadeWith table.now front.now }
+pub(crate) fn walk(stage: &Stage, wanted: Wanted, found: &mut BestList)
+    requires stage { IsStage stage.now.table.now stage.now.homing.now stage.now.front.now stage.now.ahead.now }
     requires some { 1 ≤ wanted.count }
     requires few { wanted.count ≤ MOST_BEST }
-    ensures { IsWalk table.now.edition table.now.trip wanted.count wanted.limit (Completes front.now) found.old
-        found.new }
+    ensures { IsWalk stage.now.table.now.edition stage.now.table.now.trip wanted.count wanted.limit
+        (Completes stage.now.front.now) found.old found.new }
 {
-    if front.end() == table.trip().count() {
-        return take(table, wanted, front, found);
+    if stage.front.end() == stage.table.trip().count() {
+        return take(stage.table, wanted, stage.front, found);
     }
-    let ahead = ahead_of(table, homing, front);
-    walk_ends(table, homing, wanted, front, &ahead, found)
+    walk_ends(stage, wanted, found)
 }
 
 /// Walks over those that go on with any part, the greatest end first.
 #[cycle(walk)]
-fn walk_ends(
-    table: &Table,
-    homing: &Homing,
-    wanted: Wanted,
-    front: &Partial,
-    ahead: &Ahead,
-    found: &mut BestList,
-)
-    requires homing { AreHomingsOf table.now.edition table.now.trip homing.now }
-    requires made { IsMadeWith table.now front.now }
-    requires ahead { AreAhead table.now front.now ahead.now }
+fn walk_ends(stage: &Stage, wanted: Wanted, found: &mut BestList)
+    requires stage { IsStage stage.now.table.now stage.now.homing.now stage.now.front.now stage.now.ahead.now }
     requires some { 1 ≤ wanted.count }
     requires few { wanted.count ≤ MOST_BEST }
-    ensures { IsWalk table.now.edition table.now.trip wanted.count wanted.limit (GoesOn front.now AnyPart) found.old
-        found.new }
+    ensures { IsWalk stage.now.table.now.edition stage.now.table.now.trip wanted.count wanted.limit
+        (GoesOn stage.now.front.now AnyPart) found.old found.new }
 {
-    let trip = table.trip();
-    for end in (front.next_start(trip) + 1..trip.count() + 1).rev() {
-        walk_entries(table, homing, wanted, front, ahead, end, found);
+    let trip = stage.table.trip();
+    for end in (stage.front.next_start(trip) + 1..trip.count() + 1).rev() {
+        walk_entries(stage, wanted, end, found);
     }
 }
 
 /// Walks over those that go on with a part that ends at a point, by record number.
 #[cycle(walk)]
-fn walk_entries(
-    table: &Table,
-    homing: &Homing,
-    wanted: Wanted,
-    front: &Partial,
-    ahead: &Ahead,
-    end: usize,
-    found: &mut BestList,
-)
-    requires homing { AreHomingsOf table.now.edition table.now.trip homing.now }
-    requires made { IsMadeWith table.now front.now }
-    requires ahead { AreAhead table.now front.now ahead.now }
+fn walk_entries(stage: &Stage, wanted: Wanted, end: usize, found: &mut BestList)
+    requires stage { IsStage stage.now.table.now stage.now.homing.now stage.now.front.now stage.now.ahead.now }
     requires some { 1 ≤ wanted.count }
     requires few { wanted.count ≤ MOST_BEST }
-    requires rises { next_start table.now.trip front.now < end }
-    requires within { end ≤ count table.now.trip }
-    ensures { IsWalk table.now.edition table.now.trip wanted.count wanted.limit (GoesOn front.now (EndsAt end))
-        found.old found.new }
+    requires rises { next_start stage.now.table.now.trip stage.now.front.now < end }
+    requires within { end ≤ count stage.now.table.now.trip }
+    ensures { IsWalk stage.now.table.now.edition stage.now.table.now.trip wanted.count wanted.limit
+        (GoesOn stage.now.front.now (EndsAt end)) found.old found.new }
 {
-    let entries = table.entries(front.next_start(table.trip()), end);
-    for entry in entries {
-        walk_units(table, homing, wanted, front, ahead, end, entry, found);
+    let start = stage.front.next_start(stage.table.trip());
+    for entry in stage.table.entries(start, end) {
+        walk_units(stage, wanted, end, entry, found);
     }
 }
 
 /// Walks over those that go on with a part that ends at a point and has the fare of an entry.
 #[cycle(walk)]
-fn walk_units(
-    table: &Table,
-    homing: &Homing,
-    wanted: Wanted,
-    front: &Partial,
-    ahead: &Ahead,
-    end: usize,
-    entry: &Entry,
-    found: &mut BestList,
-)
-    requires homing { AreHomingsOf table.now.edition table.now.trip homing.now }
-    requires made { IsMadeWith table.now front.now }
-    requires ahead { AreAhead table.now front.now ahead.now }
+fn walk_units(stage: &Stage, wanted: Wanted, end: usize, entry: &Entry, found: &mut BestList)
+    requires stage { IsStage stage.now.table.now stage.now.homing.now stage.now.front.now stage.now.ahead.now }
     requires some { 1 ≤ wanted.count }
     requires few { wanted.count ≤ MOST_BEST }
-    requires rises { next_start table.now.trip front.now < end }
-    requires within { end ≤ count table.now.trip }
-    requires there { Contains (entries_of table.now.edition table.now.trip (next_start table.now.trip front.now) end)
-        entry.now }
+    requires rises { next_start stage.now.table.now.trip stage.now.front.now < end }
+    requires within { end ≤ count stage.now.table.now.trip }
+    requires there { Contains (entries_of stage.now.table.now.edition stage.now.table.now.trip
+        (next_start stage.now.table.now.trip stage.now.front.now) end) entry.now }
     requires bounds { IsInBounds entry.now }
-    ensures { IsWalk table.now.edition table.now.trip wanted.count wanted.limit
-        (GoesOn front.now (HasFare end entry.now.fare)) found.old found.new }
+    ensures { IsWalk stage.now.table.now.edition stage.now.table.now.trip wanted.count wanted.limit
+        (GoesOn stage.now.front.now (HasFare end entry.now.fare)) found.old found.new }
 {
-    let sectors = table.trip().count();
+    let sectors = stage.table.trip().count();
     prove!(end <= sectors);
-    for unit in 1..front.greatest_unit() + 2 {
+    for unit in 1..stage.front.greatest_unit() + 2 {
         let part = Part {
             end: end as u8,
             unit: unit as u8,
             fare: entry.fare,
         };
-        let floor = floor_with(ahead, entry, part);
-        follow(table, homing, wanted, front, part, floor, found);
+        let floor = floor_with(stage.ahead, entry, part);
+        follow(stage, wanted, part, floor, found);
     }
 }
 
 /// Walks over those that go on with a part, where by its floor they can be wanted.
 #[cycle(walk)]
-fn follow(
-    table: &Table,
-    homing: &Homing,
-    wanted: Wanted,
-    front: &Partial,
-    part: Part,
-    floor: Option<u64>,
-    found: &mut BestList,
-)
-    requires homing { AreHomingsOf table.now.edition table.now.trip homing.now }
-    requires made { IsMadeWith table.now front.now }
+fn follow(stage: &Stage, wanted: Wanted, part: Part, floor: Option<u64>, found: &mut BestList)
+    requires stage { IsStage stage.now.table.now stage.now.homing.now stage.now.front.now stage.now.ahead.now }
     requires some { 1 ≤ wanted.count }
     requires few { wanted.count ≤ MOST_BEST }
-    requires rises { next_start table.now.trip front.now < part.end }
-    requires within { part.end ≤ count table.now.trip }
-    requires floor { IsFloorAnswer table.now.edition table.now.trip (front.now ++ part ∷ []) floor }
-    ensures { IsWalk table.now.edition table.now.trip wanted.count wanted.limit (GoesOn front.now (IsPart part))
-        found.old found.new }
+    requires rises { next_start stage.now.table.now.trip stage.now.front.now < part.end }
+    requires within { part.end ≤ count stage.now.table.now.trip }
+    requires floor { IsFloorAnswer stage.now.table.now.edition stage.now.table.now.trip (stage.now.front.now ++ part ∷ []) floor }
+    ensures { IsWalk stage.now.table.now.edition stage.now.table.now.trip wanted.count wanted.limit
+        (GoesOn stage.now.front.now (IsPart part)) found.old found.new }
 {
     let Some(least) = floor else {
         return;
@@ -187,33 +138,30 @@ fn follow(
     if is_dear(wanted, found, least) {
         return;
     }
-    enter(table, homing, wanted, front, part, found)
+    enter(stage, wanted, part, found)
 }
 
 /// Walks over those that go on with a part, unless none is lawful, none is wanted by its floor, or each is behind the
 /// last one wanted.
 #[cycle(walk)]
-fn enter(
-    table: &Table,
-    homing: &Homing,
-    wanted: Wanted,
-    front: &Partial,
-    part: Part,
-    found: &mut BestList,
-)
-    requires homing { AreHomingsOf table.now.edition table.now.trip homing.now }
-    requires made { IsMadeWith table.now front.now }
+fn enter(stage: &Stage, wanted: Wanted, part: Part, found: &mut BestList)
+    requires stage { IsStage stage.now.table.now stage.now.homing.now stage.now.front.now stage.now.ahead.now }
     requires some { 1 ≤ wanted.count }
     requires few { wanted.count ≤ MOST_BEST }
-    requires rises { next_start table.now.trip front.now < part.end }
-    requires within { part.end ≤ count table.now.trip }
-    ensures { IsWalk table.now.edition table.now.trip wanted.count wanted.limit (GoesOn front.now (IsPart part))
-        found.old found.new }
+    requires rises { next_start stage.now.table.now.trip stage.now.front.now < part.end }
+    requires within { part.end ≤ count stage.now.table.now.trip }
+    ensures { IsWalk stage.now.table.now.edition stage.now.table.now.trip wanted.count wanted.limit
+        (GoesOn stage.now.front.now (IsPart part)) found.old found.new }
 {
-    let Some(longer) = front.next(table, part) else {
+    let (table, homing) = (stage.table, stage.homing);
+    let Some(longer) = stage.front.next(table, part) else {
         return;
     };
-    let Some(floor) = stack_floor(table, homing, &longer) else {
+    if is_crowded(table, homing, &longer) {
+        return;
+    }
+    let stack = stack_after(table, homing, &longer, &stage.ahead.floors);
+    let Some(floor) = stack.floor else {
         return;
     };
     if is_dear(wanted, found, floor) {
@@ -225,5 +173,12 @@ fn enter(
     if is_barred(table, &longer) {
         return;
     }
-    walk(table, homing, wanted, &longer, found)
+    let ahead = ahead_of(table, homing, &longer, stack);
+    let further = Stage {
+        table,
+        homing,
+        front: &longer,
+        ahead: &ahead,
+    };
+    walk(&further, wanted, found)
 }

@@ -23,7 +23,7 @@ use Rattle.fare_bounds.specs.Covers.{least_cost, rest_at}
 use Rattle.fare_homing.specs.declared.homing.Homing.{Homing}
 use Rattle.fare_branch.specs.declared.ahead.Ahead.{Ahead}
 use Rattle.fare_branch.specs.Ahead.{AreAhead, AreBehindHalf, IsBehindNext, IsHalfRow, must_go_from}
-use Rattle.fare_branch.specs.Costs.{or_nothing, part_least, true_cost, units_floor}
+use Rattle.fare_branch.specs.Costs.{AreUnitFloors, or_nothing, part_least, true_cost, units_floor}
 use Rattle.fare_branch.specs.Floors.{IsFloorAnswer}
 use Rattle.fare_branch.specs.Joining.{is_stuck}
 use Rattle.fare_homing.specs.Homing.{IsUpTo, homing_at, is_same_city, may_end_at}
@@ -235,7 +235,7 @@ module _ (table : Pricing) (homing : Homing) (are : AreHomingsOf table.edition t
         absurd (not_stuck table.edition table.trip front (part ∷ rest) price lawful unit low most b.0 b.1 b.2 b.3 b.4 b.5 stuck)
 
   -- so what is known of the rows is known of what is ahead
-  module _ (ahead : Ahead) (spent : ahead.spent ≡ units_floor table.edition table.trip front) where
+  module _ (ahead : Ahead) (floors : AreUnitFloors table.edition table.trip front ahead.floors) (spent : ahead.spent ≤ units_floor table.edition table.trip front) where
     by_cost : (part : Part) (rest : List Part) (price : ℕ) (lawful : IsLawful table.edition table.trip (front ++ part ∷ rest) price) (behind : Option ℕ)
         → IsUpTo (sum_by (true_cost table.edition table.trip (front ++ part ∷ rest)) (range_with_len (length front + 1 + 1) (length rest))) behind → IsBehindNext table front part rest price ahead.spent behind
     by_cost part rest price lawful behind up =
@@ -273,6 +273,7 @@ module _ (table : Pricing) (homing : Homing) (are : AreHomingsOf table.edition t
     pub ahead_is : AreOver table homing front (greatest_unit front (places front)) ahead.alone
         → ((unit : ℕ) → 1 ≤ unit → unit ≤ greatest_unit front (places front) + 1 → AreBehindHalf table homing front unit (slice_index_or ahead.half unit [])) → AreAhead table front ahead
     ahead_is known rows = record {
+      floors = floors;
       alone = alone_by known;
       half = λ part rest price lawful way.
           let numbered = next_numbered table.edition table.trip front part rest price lawful in
@@ -338,9 +339,9 @@ module _ (table : Pricing) (front : List Part) (ahead : Ahead) (known : AreAhead
       omega arith
 
 -- a row is put behind those before it
-pub rows_put : (P : ℕ → List (Option ℕ) → Type 0) (rows : List (List (Option ℕ))) (past : ℕ) (row : List (Option ℕ)) → past < length rows → ((unit : ℕ) → 1 ≤ unit → unit < past → P unit (slice_index_or rows unit [])) → P past row
-    → (unit : ℕ) → 1 ≤ unit → unit < past + 1 → P unit (slice_index_or (set rows past row) unit [])
-rows_put P rows past row within known here unit low high =
+pub rows_more : (P : ℕ → List (Option ℕ) → Type 0) (rows : List (List (Option ℕ))) (past : ℕ) (row : List (Option ℕ)) → past < length rows → ((unit : ℕ) → unit < past → P unit (slice_index_or rows unit [])) → P past row
+    → (unit : ℕ) → unit < past + 1 → P unit (slice_index_or (set rows past row) unit [])
+rows_more P rows past row within known here unit high =
     elim (cases_eq unit past) [
       | inl same ↦
           let Q : ℕ → Type 0 = λ u. P u (slice_index_or (set rows past row) u []) in
@@ -348,5 +349,11 @@ rows_put P rows past row within known here unit low high =
           subst Q (sym same) (subst R (sym (get_or-set_same rows past row [] within)) here)
       | inr other ↦
           let R : List (Option ℕ) → Type 0 = λ r. P unit r in
-          subst R (sym (get_or-set_other rows past unit row [] other)) (known unit low (omega arith))
+          subst R (sym (get_or-set_other rows past unit row [] other)) (known unit (omega arith))
     ]
+
+-- the same from the first unit on
+pub rows_put : (P : ℕ → List (Option ℕ) → Type 0) (rows : List (List (Option ℕ))) (past : ℕ) (row : List (Option ℕ)) → past < length rows → ((unit : ℕ) → 1 ≤ unit → unit < past → P unit (slice_index_or rows unit [])) → P past row
+    → (unit : ℕ) → 1 ≤ unit → unit < past + 1 → P unit (slice_index_or (set rows past row) unit [])
+rows_put P rows past row within known here unit low high =
+    rows_more (λ u r. 1 ≤ u → P u r) rows past row within (λ u less one. known u one less) (λ one. here) unit high low

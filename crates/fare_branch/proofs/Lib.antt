@@ -33,4 +33,5 @@ pub mod TrueCostLemmas
 pub mod OverLemmas
 pub mod NeedLemmas
 pub mod CrowdingLemmas
+pub mod AddedLemmas
 pub mod AheadLemmas

@@ -1,6 +1,6 @@
 -- What is behind the first parts of a lawful construction, over one unit more of these.
 use Rattle.std.proofs.Common.{◌≡◌, ℕ, suc, ◌+◌, ◌-◌, ◌<◌, ◌≤◌, Bool, true, false, ◌&&◌, cond, leb, not, List, [], ◌∷◌, ◌++◌, length, refl, ap, sym, subst, ◌∙◌, inl, inr, arith}
-use Rattle.std.specs.Prelude.{Option, Some, None, bytes_eq, nat_lt, nat_le, sum_by}
+use Rattle.std.specs.Prelude.{Option, Some, None, bytes_eq, nat_lt, nat_le, option_map, sum_by}
 use Rattle.std.specs.List.{range_with_len}
 use Rattle.std.proofs.Math.ListN.{length-append}
 use Rattle.std.proofs.lemmas.Bool.{cases_Bool, or_cases, not-true, lt-ltb, le-leb, ltb-true, leb-true, eqb-true}
@@ -24,6 +24,7 @@ use Rattle.fare_bounds.specs.Covers.{rest_at}
 use Rattle.fare_homing.specs.declared.homing.Homing.{Homing}
 use Rattle.fare_branch.specs.declared.stacking.Open.{Open}
 use Rattle.fare_branch.specs.Costs.{part_least, true_cost, units_floor}
+use Rattle.fare_homing.specs.Floor.{capped_sum}
 use Rattle.fare_homing.specs.Homing.{IsUpTo, homing_at}
 use Rattle.fare_branch.specs.Ending.{needs_more}
 use Rattle.fare_branch.specs.Floors.{IsFloorAnswer}
@@ -396,6 +397,12 @@ module _ (table : Pricing) (homing : Homing) (are : AreHomingsOf table.edition t
       let spent : units_floor table.edition table.trip front + sum_by (true_cost table.edition table.trip (front ++ c.begins.0)) (range_with_len (length front + 1) (length c.begins.0)) ≤ price = spent_up table.edition table.trip front c.begins.0 price lawful in
       let low : least.0 ≤ sum_by (true_cost table.edition table.trip (front ++ c.begins.0)) (range_with_len (length front + 1) (length c.begins.0)) = least.2 in
       up_more (units_floor table.edition table.trip front + least.0) price found (omega arith) (sum (units_floor table.edition table.trip front) least.0 refl least.1)
+
+-- what is paid, with a number that is behind, is under the sum of that and of what costs no less
+pub paid_under : (paid spent : ℕ) (behind found : Option ℕ) → paid ≤ spent → found ≡ option_map (capped_sum paid) behind → IsUnderSum (Some spent) behind found
+paid_under paid spent behind found low is x y e f =
+    let same : spent ≡ x = same_Some spent x e in
+    (capped_sum paid y, is ∙ ap (option_map (capped_sum paid)) f, omega arith)
 
 -- so it is a floor
 pub stack_is_floor : (table : Pricing) (homing : Homing) → AreHomingsOf table.edition table.trip homing → (front : List Part) → end_of front (length front) ≤ count table.trip → (behind : List (Option ℕ)) → AreOver table homing front (greatest_unit front (places front)) behind

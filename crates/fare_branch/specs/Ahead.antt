@@ -11,9 +11,10 @@ use Rattle.fare_component.specs.Table.{Pricing}
 use Rattle.fare_bounds.specs.Covers.{rest_at}
 use Rattle.fare_branch.specs.declared.ahead.Ahead.{Ahead}
 use Rattle.fare_homing.specs.declared.homing.Homing.{Homing}
-use Rattle.fare_branch.specs.Costs.{part_least}
+use Rattle.fare_branch.specs.Costs.{part_least, AreUnitFloors}
+use Rattle.fare_branch.specs.Floors.{IsMadeWith}
 use Rattle.fare_homing.specs.Homing.{IsUpTo, may_end_at}
-use Rattle.fare_homing.specs.Rows.{cell, closing_from, jaw_from}
+use Rattle.fare_homing.specs.Rows.{cell, closing_from, jaw_from, AreHomingsOf}
 use Rattle.fare_branch.specs.Stack.{AreHomes, IsOver, IsOverOpen}
 
 -- a number is behind the part that comes next after some first parts: it is there, and with what the first parts cost
@@ -24,8 +25,10 @@ IsBehindNext table first part rest price spent behind =
     + part_least table.edition table.trip (first ++ part ∷ rest) (length first + 1) + more) behind)
 
 -- what is known of the next part after some first parts: in every lawful construction that begins with them what is
--- behind it, as a one way fare by the point where it ends, and as a half round trip by its unit and that point
+-- behind it, as a one way fare by the point where it ends, and as a half round trip by its unit and that point; and of
+-- the first parts what each of their units costs at least
 pub record AreAhead (table : Pricing) (first : List Part) (ahead : Ahead) : Type 0 where
+  pub floors : AreUnitFloors table.edition table.trip first ahead.floors
   pub alone : (part : Part) (rest : List Part) (price : ℕ)
       → IsLawful table.edition table.trip (first ++ part ∷ rest) price
       → is_ow table.edition (first ++ part ∷ rest) (length first + 1) ≡ true
@@ -59,3 +62,10 @@ IsHalfRow table homing from start begun below row =
     × ((i : ℕ) → from ≤ i → i ≤ count table.trip
     → IsOverOpen table.trip homing (i + 1) i start (must_go_from table.edition table.trip start begun i) i homes
     (rest_at below i) (rest_at row i))
+
+-- what is known of where a search stands: what is behind the points of the trip, that the first parts are of the trip,
+-- and what is ahead of them
+pub record IsStage (table : Pricing) (homing : Homing) (front : List Part) (ahead : Ahead) : Type 0 where
+  pub homings : AreHomingsOf table.edition table.trip homing
+  pub made : IsMadeWith table front
+  pub next : AreAhead table front ahead

@@ -1,5 +1,5 @@
 -- What parts cost at least, part by part and unit by unit.
-use Rattle.std.specs.Prelude.{ℕ, List, Option, Some, None, sum_by, if◌then◌else◌}
+use Rattle.std.specs.Prelude.{◌≡◌, ℕ, ◌<◌, ◌≤◌, List, [], ◌∷◌, ◌++◌, Option, Some, None, sum_by, slice_index, if◌then◌else◌}
 use Rattle.fare_trip.specs.Itinerary.{Itinerary}
 use Rattle.fare_tariff.specs.Tariff.{Tariff}
 use Rattle.fare_rules.specs.declared.part.Part.{Part}
@@ -9,6 +9,7 @@ use Rattle.fare_component.specs.Table.{entry_of}
 use Rattle.fare_rules.specs.UnitPrice.{part_cost, unit_price}
 use Rattle.fare_units.specs.Shut.{is_shut}
 use Rattle.fare_bounds.specs.Covers.{least_cost}
+use Rattle.fare_branch.specs.declared.costs.TheConstants.{MOST_UNITS}
 
 -- an amount, 0 where there is none
 abbrev pub or_nothing : Option ℕ → ℕ
@@ -43,3 +44,15 @@ unit_floor tariff trip parts unit =
 -- what units cost at least
 abbrev pub units_floor : Tariff → Itinerary → List Part → ℕ
 units_floor tariff trip parts = sum_by (unit_floor tariff trip parts) (units parts)
+
+-- amounts are what each unit of some parts costs at least, by its number
+abbrev pub AreUnitFloors : Tariff → Itinerary → List Part → List ℕ → Type 0
+AreUnitFloors tariff trip parts floors =
+    (unit : ℕ) → 1 ≤ unit → unit < MOST_UNITS → slice_index floors unit ≡ unit_floor tariff trip parts unit
+
+-- amounts are what each unit costs at least of some parts without their last one
+pub record AreFloorsBefore (tariff : Tariff) (trip : Itinerary) (parts : List Part) (floors : List ℕ) : Type 0 where
+  pub front : List Part
+  pub last : Part
+  pub whole : parts ≡ front ++ last ∷ []
+  pub known : AreUnitFloors tariff trip front floors

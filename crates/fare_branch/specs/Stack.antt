@@ -1,18 +1,20 @@
 -- Stack: units that go on behind some first parts come home one inside the other, the one that began last first.
 use Rattle.std.specs.Prelude.{◌≡◌, ℕ, zero, suc, ◌+◌, ◌≤◌, Bool, true, false, List, ◌++◌, length, Option, Some}
-use Rattle.std.specs.Prelude.{nat_le, nat_lt, ◌&&◌, if◌then◌else◌, filter}
+use Rattle.std.specs.Prelude.{[], nat_le, nat_lt, ◌&&◌, if◌then◌else◌, filter, slice_index_or}
 use Rattle.fare_trip.specs.Itinerary.{Itinerary, count}
 use Rattle.fare_tariff.specs.Tariff.{Tariff}
 use Rattle.fare_rules.specs.declared.part.Part.{Part}
 use Rattle.fare_rules.specs.Best.{IsLawful}
 use Rattle.fare_rules.specs.Numbers.{numbers}
-use Rattle.fare_rules.specs.Construction.{own, is_own, first_of, last_of, start_of, end_of}
+use Rattle.fare_rules.specs.Construction.{own, is_own, first_of, last_of, start_of, end_of, greatest_unit, places}
 use Rattle.fare_component.specs.Table.{Pricing}
 use Rattle.fare_bounds.specs.Covers.{rest_at}
 use Rattle.fare_homing.specs.declared.homing.Homing.{Homing}
 use Rattle.fare_branch.specs.declared.stacking.Open.{Open}
-use Rattle.fare_branch.specs.Costs.{true_cost}
+use Rattle.fare_branch.specs.declared.stacking.Stack.{Stack}
+use Rattle.fare_branch.specs.Costs.{true_cost, units_floor, AreUnitFloors}
 use Rattle.fare_branch.specs.Ending.{needs_more}
+use Rattle.fare_branch.specs.Floors.{IsFloorAnswer}
 use Rattle.fare_homing.specs.Homing.{IsUpTo, may_end_at, is_same_city, homing_at}
 use Rattle.fare_homing.specs.Rows.{closing_from, jaw_from}
 
@@ -102,3 +104,16 @@ AreOverOpen table homing from opened behind row =
     × ((i : ℕ) → from ≤ i → i ≤ count table.trip
     → IsOverOpen table.trip homing from opened.stands opened.start opened.must i homes (rest_at behind i)
     (rest_at row i))
+
+-- rows are over the units of some first parts, by the number up to which they are counted
+abbrev pub AreOverUnits : Pricing → Homing → List Part → List (List (Option ℕ)) → Type 0
+AreOverUnits table homing front rows =
+    (unit : ℕ) → unit ≤ greatest_unit front (places front) → AreOver table homing front unit (slice_index_or rows unit [])
+
+-- what is known of some first parts by their units: what each costs at least, and no more than all do, what is behind
+-- each point over the units up to each number, and a floor
+pub record IsStack (table : Pricing) (homing : Homing) (front : List Part) (stack : Stack) : Type 0 where
+  pub floors : AreUnitFloors table.edition table.trip front stack.floors
+  pub spent : stack.spent ≤ units_floor table.edition table.trip front
+  pub over : AreOverUnits table homing front stack.over
+  pub floor : IsFloorAnswer table.edition table.trip front stack.floor

@@ -13,39 +13,39 @@ ghost use Rattle.fare_branch.specs.Costs.{or_nothing};
 ghost use Rattle.fare_branch.specs.Floors.{IsFloorAnswer, IsMadeWith};
 ghost use Rattle.fare_homing.specs.Homing.{IsUpTo};
 ghost use Rattle.fare_homing.specs.Rows.{cell, AreHomingsOf};
-ghost use Rattle.fare_branch.specs.Stack.{AreOver};
+ghost use Rattle.fare_branch.specs.Stack.{AreOver, IsStack};
 
-use crate::costs::{entry_least, units_floor};
+use crate::costs::{MOST_UNITS, entry_least};
 use crate::joining::{first_place, is_stuck};
 use crate::partial::Partial;
-use crate::stacking::{Open, homes_of, may_come_to, over_point, over_unit};
+use crate::stacking::{Open, Stack, homes_of, may_come_to, over_point};
 use fare_component::{Entry, Table};
-use fare_homing::{Homing, added, number_at};
+use fare_homing::{Floor, Homing, NOTHING, number_at, paid_with};
 use fare_rules::{MOST_POINTS, Part};
 use fare_units::{is_shut_unit, start_of};
-
-/// One more than the greatest number of a unit: one for each of the parts, and a new one.
-const MOST_UNITS: usize = 18;
 
 /// What some first parts cost at least, and what is behind the part that comes next.
 #[derive(Drop)]
 pub struct Ahead {
+    /// What each unit of the first parts costs at least, by its number.
+    pub floors: [u64; MOST_UNITS],
     /// What the first parts cost at least.
     pub spent: u64,
     /// What is behind a one way fare, by the point where it ends.
-    pub alone: [Option<u64>; MOST_POINTS],
+    pub alone: [Floor; MOST_POINTS],
     /// What is behind a half round trip, by its unit and the point where it ends.
-    pub half: [[Option<u64>; MOST_POINTS]; MOST_UNITS],
+    pub half: [[Floor; MOST_POINTS]; MOST_UNITS],
 }
 
 /// Whether a unit that begins at a point must go on behind a half round trip that ends at another: this is its first
 /// part, or ends where the unit may not.
-fn must_go_from(table: &Table, start: usize, begun: bool, i: usize) -> bool
+fn must_go_from(table: &Table, homing: &Homing, start: usize, begun: bool, i: usize) -> bool
+    requires homing { AreHomingsOf table.now.edition table.now.trip homing.now }
     requires start { start ≤ count table.now.trip }
     requires end { i ≤ count table.now.trip }
     ensures { result ≡ must_go_from table.now.edition table.now.trip start begun i }
 {
-    !(begun && may_come_to(table, start, false, i))
+    !(begun && may_come_to(table, homing, start, false, i))
 }
 
 /// What is behind each half round trip of a unit that begins at a point, by what is there without the unit.
@@ -55,8 +55,9 @@ fn half_row(
     from: usize,
     start: usize,
     begun: bool,
-    below: &[Option<u64>; MOST_POINTS],
-) -> [Option<u64>; MOST_POINTS]
+    below: &[Floor; MOST_POINTS],
+) -> [Floor; MOST_POINTS]
+    requires homing { AreHomingsOf table.now.edition table.now.trip homing.now }
     requires start { start ≤ count table.now.trip }
     ensures { IsHalfRow table.now homing.now from start begun below.now result }
 {
@@ -67,16 +68,17 @@ fn half_row(
         closes: begun,
         must: true,
     };
-    let homes = homes_of(table, from, opened, below);
-    let mut row = [None; MOST_POINTS];
+    let homes = homes_of(table, homing, from, opened, below);
+    let mut row = [NOTHING; MOST_POINTS];
     for i in from..trip.count() + 1 {
         let here = Open {
             start,
             stands: i,
             closes: begun,
-            must: must_go_from(table, start, begun, i),
+            must: must_go_from(table, homing, start, begun, i),
         };
-        row[i] = over_point(trip, homing, i + 1, here, i, &homes, below[i]);
+        let behind = number_at(below, i);
+        row[i] = over_point(trip, homing, i + 1, here, i, &homes, behind);
     }
     row
 }
@@ -87,8 +89,8 @@ fn begun_row(
     homing: &Homing,
     front: &Partial,
     unit: usize,
-    below: &[Option<u64>; MOST_POINTS],
-) -> [Option<u64>; MOST_POINTS]
+    below: &[Floor; MOST_POINTS],
+) -> [Floor; MOST_POINTS]
     requires homing { AreHomingsOf table.now.edition table.now.trip homing.now }
     requires made { IsMadeWith table.now front.now }
     requires low { 1 ≤ unit }
@@ -99,10 +101,10 @@ fn begun_row(
     let trip = table.trip();
     let parts = front.parts();
     if is_stuck(table, front, unit) {
-        return [None; MOST_POINTS];
+        return [NOTHING; MOST_POINTS];
     }
     if is_shut_unit(table.edition(), trip, parts, unit) {
-        return [None; MOST_POINTS];
+        return [NOTHING; MOST_POINTS];
     }
     let start = start_of(trip, parts, first_place(parts, unit));
     half_row(table, homing, front.end(), start, true, below)
@@ -113,8 +115,8 @@ fn new_row(
     table: &Table,
     homing: &Homing,
     front: &Partial,
-    below: &[Option<u64>; MOST_POINTS],
-) -> [Option<u64>; MOST_POINTS]
+    below: &[Floor; MOST_POINTS],
+) -> [Floor; MOST_POINTS]
     requires homing { AreHomingsOf table.now.edition table.now.trip homing.now }
     requires made { IsMadeWith table.now front.now }
     requires below { AreOver table.now homing.now front.now (greatest_unit front.now (places front.now)) below.now }
@@ -125,26 +127,29 @@ fn new_row(
 }
 
 /// What is ahead of some first parts.
-pub fn ahead_of(table: &Table, homing: &Homing, front: &Partial) -> Ahead
+pub fn ahead_of(table: &Table, homing: &Homing, front: &Partial, stack: Stack) -> Ahead
     requires homing { AreHomingsOf table.now.edition table.now.trip homing.now }
     requires made { IsMadeWith table.now front.now }
+    requires stack { IsStack table.now homing.now front.now stack }
     ensures { AreAhead table.now front.now result }
 {
     let _sectors = table.trip().count();
     let greatest = front.greatest_unit();
-    let spent = units_floor(table, front.parts(), greatest);
-    let mut half = [[None; MOST_POINTS]; MOST_UNITS];
-    let mut alone = homing.rest;
+    let mut half = [[NOTHING; MOST_POINTS]; MOST_UNITS];
     for unit in 1..greatest + 1 {
-        half[unit] = begun_row(table, homing, front, unit, &alone);
-        alone = over_unit(table, homing, front, unit, &alone);
+        half[unit] = begun_row(table, homing, front, unit, &stack.over[unit - 1]);
     }
-    half[greatest + 1] = new_row(table, homing, front, &alone);
-    Ahead { spent, alone, half }
+    half[greatest + 1] = new_row(table, homing, front, &stack.over[greatest]);
+    Ahead {
+        floors: stack.floors,
+        spent: stack.spent,
+        alone: stack.over[greatest],
+        half,
+    }
 }
 
 /// What is behind a part with an entry.
-fn behind_of(ahead: &Ahead, entry: &Entry, part: Part) -> Option<u64>
+fn behind_of(ahead: &Ahead, entry: &Entry, part: Part) -> Floor
     ensures { result ≡ (if is_some entry.now.single then rest_at ahead.now.alone part.end
         else cell ahead.now.half part.unit part.end) }
 {
@@ -154,7 +159,7 @@ fn behind_of(ahead: &Ahead, entry: &Entry, part: Part) -> Option<u64>
     } else if unit < MOST_UNITS {
         number_at(&ahead.half[unit], end)
     } else {
-        None
+        NOTHING
     }
 }
 
@@ -165,8 +170,8 @@ pub fn floor_with(ahead: &Ahead, entry: &Entry, part: Part) -> Option<u64>
         else cell ahead.now.half part.unit part.end) ≡ Some behind
         → IsUpTo (ahead.now.spent + or_nothing (least_cost entry.now) + behind) result }
 {
-    let paid = added(Some(ahead.spent), Some(entry_least(entry)));
-    added(paid, behind_of(ahead, entry, part))
+    let paid = ahead.spent.saturating_add(entry_least(entry));
+    paid_with(paid, behind_of(ahead, entry, part))
 }
 
 /// A number that is at most the price of every completion of some first parts with one more at their end; nothing only

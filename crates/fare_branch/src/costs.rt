@@ -1,18 +1,23 @@
 //! What parts cost at least, part by part and unit by unit.
 
-ghost use Rattle.std.specs.Prelude.{◌≡◌, ◌+◌, ◌*◌, ◌<◌, ◌≤◌, length};
+ghost use Rattle.std.specs.Prelude.{◌≡◌, ℕ, ◌+◌, ◌*◌, ◌<◌, ◌≤◌, length, slice_index, sum_by};
 ghost use Rattle.fare_trip.specs.Itinerary.{count};
 ghost use Rattle.fare_rules.specs.Construction.{greatest_unit, places};
 ghost use Rattle.fare_component.specs.Table.{IsInBounds};
 ghost use Rattle.fare_units.specs.Advance.{Advances};
 ghost use Rattle.fare_units.specs.Places.{IsPlace};
 ghost use Rattle.fare_bounds.specs.Covers.{least_cost};
+ghost use Rattle.fare_rules.specs.Numbers.{numbers};
+ghost use Rattle.fare_branch.specs.Costs.{AreFloorsBefore, AreUnitFloors};
 ghost use Rattle.fare_branch.specs.Costs.{or_nothing, fare_least, part_least, unit_least, unit_floor, units_floor};
 
 use fare_bounds::{COST_LIMIT, least_cost};
 use fare_component::{Entry, Table};
 use fare_rules::Part;
 use fare_units::{MOST_PARTS, part_at, shut_price, start_of};
+
+/// One more than the greatest number of a unit: one for each of the parts, and a new one.
+pub(crate) const MOST_UNITS: usize = 18;
 
 /// What a unit costs at least is no more than this: as much as `MOST_PARTS` parts.
 pub(crate) const UNIT_LIMIT: u64 = 32_000_000_000;
@@ -105,6 +110,50 @@ pub(crate) fn units_floor(table: &Table, parts: &[Part], greatest: usize) -> u64
     let mut total = 0;
     for unit in 1..greatest + 1 {
         total += unit_floor(table, parts, unit);
+    }
+    total
+}
+
+/// What each unit of some parts costs at least, by its number.
+pub(crate) fn floors_of(table: &Table, parts: &[Part]) -> [u64; MOST_UNITS]
+    requires advances { Advances table.now.trip parts.now }
+    requires few { length parts.now ≤ MOST_PARTS }
+    ensures { AreUnitFloors table.now.edition table.now.trip parts.now result }
+{
+    let mut floors = [0; MOST_UNITS];
+    for unit in 1..MOST_UNITS {
+        floors[unit] = unit_floor(table, parts, unit);
+    }
+    floors
+}
+
+/// The same by those of the parts without their last one: its unit alone is looked at anew.
+pub(crate) fn floors_after(
+    table: &Table,
+    parts: &[Part],
+    before: &[u64; MOST_UNITS],
+) -> [u64; MOST_UNITS]
+    requires advances { Advances table.now.trip parts.now }
+    requires few { length parts.now ≤ MOST_PARTS }
+    requires before { AreFloorsBefore table.now.edition table.now.trip parts.now before.now }
+    ensures { AreUnitFloors table.now.edition table.now.trip parts.now result }
+{
+    let last = part_at(parts, parts.len()).unit as usize;
+    let unit = last.min(MOST_UNITS - 1);
+    let mut floors = *before;
+    floors[unit] = unit_floor(table, parts, unit);
+    floors
+}
+
+/// What the units up to a number cost at least.
+pub(crate) fn spent_on(floors: &[u64; MOST_UNITS], greatest: usize) -> u64
+    requires { greatest ≤ MOST_PARTS }
+    ensures { (cost : ℕ → ℕ) → ((unit : ℕ) → 1 ≤ unit → unit ≤ greatest → slice_index floors.now unit ≡ cost unit)
+        → result ≤ sum_by cost (numbers 1 (greatest + 1)) }
+{
+    let mut total: u64 = 0;
+    for unit in 1..greatest + 1 {
+        total = total.saturating_add(floors[unit]);
     }
     total
 }

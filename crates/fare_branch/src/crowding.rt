@@ -149,7 +149,7 @@ fn needs_behind(crowding: &Crowding, from: usize) -> [u8; MOST_POINTS]
 
 /// Whether more one way fares must come behind first parts, each of another rule that doesn't combine end on end with
 /// itself, than these leave such rules: then they have no completion.
-pub(crate) fn is_crowded(table: &Table, homing: &Homing, front: &Partial) -> bool
+pub fn is_crowded(table: &Table, homing: &Homing, front: &Partial) -> bool
     requires homing { AreHomingsOf table.now.edition table.now.trip homing.now }
     requires made { IsMadeWith table.now front.now }
     ensures { result ≡ true → HasNoCompletion table.now.edition table.now.trip front.now }

@@ -5,17 +5,19 @@ ghost use Rattle.std.specs.Prelude.{◌≡◌, ◌+◌, ◌<◌, ◌≤◌, [], 
 ghost use Rattle.fare_trip.specs.Itinerary.{count};
 ghost use Rattle.fare_component.specs.Table.{IsInBounds};
 ghost use Rattle.fare_units.specs.Walk.{next_start};
-ghost use Rattle.fare_branch.specs.Ahead.{AreAhead};
+ghost use Rattle.fare_branch.specs.Ahead.{IsStage};
 ghost use Rattle.fare_branch.specs.Beginnings.{AreCounts};
 ghost use Rattle.fare_homing.specs.Rows.{AreHomingsOf};
 ghost use Rattle.fare_branch.specs.Floors.{IsMadeWith};
 ghost use Rattle.fare_branch.specs.Dive.{GoesFrom, StartsIn};
 
-use crate::ahead::{Ahead, ahead_of, floor_ahead, floor_with};
+use crate::ahead::{ahead_of, floor_ahead, floor_with};
 use crate::barred::is_barred;
+use crate::crowding::is_crowded;
 use crate::partial::Partial;
 use crate::pieces::{Counts, Piece, choice, choices, counts_of};
-use crate::stacking::stack_floor;
+use crate::stacking::{stack_after, stack_of};
+use crate::stage::Stage;
 use fare_component::{Entry, Table};
 use fare_homing::Homing;
 use fare_rules::Part;
@@ -34,30 +36,25 @@ fn is_no_dearer(found: &Step, floor: u64) -> bool {
 /// The one with the lesser floor of what was found and some first parts that one more follows, where these can bring
 /// anything and their floor isn't below a number.
 #[tactic(auto, using(crate::proofs::DiveLemmas::goes_next))]
-fn lesser_step(
-    table: &Table,
-    homing: &Homing,
-    front: &Partial,
-    part: Part,
-    guess: Option<u64>,
-    from: u64,
-    found: Step,
-) -> Step
-    requires homing { AreHomingsOf table.now.edition table.now.trip homing.now }
-    requires made { IsMadeWith table.now front.now }
-    requires found { IfSome found (GoesFrom table.now front.now) }
-    ensures { IfSome result (GoesFrom table.now front.now) }
+fn lesser_step(stage: &Stage, part: Part, guess: Option<u64>, from: u64, found: Step) -> Step
+    requires stage { IsStage stage.now.table.now stage.now.homing.now stage.now.front.now stage.now.ahead.now }
+    requires found { IfSome found (GoesFrom stage.now.table.now stage.now.front.now) }
+    ensures { IfSome result (GoesFrom stage.now.table.now stage.now.front.now) }
 {
+    let (table, homing) = (stage.table, stage.homing);
     let Some(guess) = guess else {
         return found;
     };
     if is_no_dearer(&found, guess) {
         return found;
     }
-    let Some(longer) = front.next(table, part) else {
+    let Some(longer) = stage.front.next(table, part) else {
         return found;
     };
-    let Some(floor) = stack_floor(table, homing, &longer) else {
+    if is_crowded(table, homing, &longer) {
+        return found;
+    }
+    let Some(floor) = stack_after(table, homing, &longer, &stage.ahead.floors).floor else {
         return found;
     };
     if floor < from || is_no_dearer(&found, floor) || is_barred(table, &longer) {
@@ -67,58 +64,40 @@ fn lesser_step(
 }
 
 /// Over the units of a part that ends at a point and has a fare.
-fn least_by_units(
-    table: &Table,
-    homing: &Homing,
-    front: &Partial,
-    ahead: &Ahead,
-    end: usize,
-    entry: &Entry,
-    from: u64,
-    found: Step,
-) -> Step
-    requires homing { AreHomingsOf table.now.edition table.now.trip homing.now }
-    requires made { IsMadeWith table.now front.now }
-    requires within { end ≤ count table.now.trip }
+fn least_by_units(stage: &Stage, end: usize, entry: &Entry, from: u64, found: Step) -> Step
+    requires stage { IsStage stage.now.table.now stage.now.homing.now stage.now.front.now stage.now.ahead.now }
+    requires within { end ≤ count stage.now.table.now.trip }
     requires bounds { IsInBounds entry.now }
-    requires found { IfSome found (GoesFrom table.now front.now) }
-    ensures { IfSome result (GoesFrom table.now front.now) }
+    requires found { IfSome found (GoesFrom stage.now.table.now stage.now.front.now) }
+    ensures { IfSome result (GoesFrom stage.now.table.now stage.now.front.now) }
 {
-    let sectors = table.trip().count();
+    let sectors = stage.table.trip().count();
     prove!(end <= sectors);
     let mut found = found;
-    for unit in 1..front.greatest_unit() + 2 {
+    for unit in 1..stage.front.greatest_unit() + 2 {
         let part = Part {
             end: end as u8,
             unit: unit as u8,
             fare: entry.fare,
         };
-        let guess = floor_with(ahead, entry, part);
-        found = lesser_step(table, homing, front, part, guess, from, found);
+        let guess = floor_with(stage.ahead, entry, part);
+        found = lesser_step(stage, part, guess, from, found);
     }
     found
 }
 
 /// Over the entries of the span to a point.
-fn least_by_entries(
-    table: &Table,
-    homing: &Homing,
-    front: &Partial,
-    ahead: &Ahead,
-    end: usize,
-    from: u64,
-    found: Step,
-) -> Step
-    requires homing { AreHomingsOf table.now.edition table.now.trip homing.now }
-    requires made { IsMadeWith table.now front.now }
-    requires rises { next_start table.now.trip front.now < end }
-    requires within { end ≤ count table.now.trip }
-    requires found { IfSome found (GoesFrom table.now front.now) }
-    ensures { IfSome result (GoesFrom table.now front.now) }
+fn least_by_entries(stage: &Stage, end: usize, from: u64, found: Step) -> Step
+    requires stage { IsStage stage.now.table.now stage.now.homing.now stage.now.front.now stage.now.ahead.now }
+    requires rises { next_start stage.now.table.now.trip stage.now.front.now < end }
+    requires within { end ≤ count stage.now.table.now.trip }
+    requires found { IfSome found (GoesFrom stage.now.table.now stage.now.front.now) }
+    ensures { IfSome result (GoesFrom stage.now.table.now stage.now.front.now) }
 {
+    let start = stage.front.next_start(stage.table.trip());
     let mut found = found;
-    for entry in table.entries(front.next_start(table.trip()), end) {
-        found = least_by_units(table, homing, front, ahead, end, entry, from, found);
+    for entry in stage.table.entries(start, end) {
+        found = least_by_units(stage, end, entry, from, found);
     }
     found
 }
@@ -130,10 +109,16 @@ pub(crate) fn least_step(table: &Table, homing: &Homing, front: &Partial, from: 
     ensures { IfSome result (GoesFrom table.now front.now) }
 {
     let trip = table.trip();
-    let ahead = ahead_of(table, homing, front);
+    let ahead = ahead_of(table, homing, front, stack_of(table, homing, front));
+    let stage = Stage {
+        table,
+        homing,
+        front,
+        ahead: &ahead,
+    };
     let mut found = None;
     for end in (front.next_start(trip) + 1..trip.count() + 1).rev() {
-        found = least_by_entries(table, homing, front, &ahead, end, from, found);
+        found = least_by_entries(&stage, end, from, found);
     }
     found
 }
@@ -144,38 +129,39 @@ pub(crate) fn first_step(table: &Table, homing: &Homing, piece: Piece, from: u64
     ensures { IfSome result (StartsIn table.now piece) }
 {
     let none = Partial::new();
-    let ahead = ahead_of(table, homing, &none);
+    let ahead = ahead_of(table, homing, &none, stack_of(table, homing, &none));
+    let stage = Stage {
+        table,
+        homing,
+        front: &none,
+        ahead: &ahead,
+    };
     let counts = counts_of(table);
     let mut found = None;
     for number in piece.first..piece.past.min(choices(table)) {
-        found = lesser_start(
-            table, homing, &none, &ahead, &counts, piece, number, from, found,
-        );
+        found = lesser_start(&stage, &counts, piece, number, from, found);
     }
     found
 }
 
 /// The one with the lesser floor of what was found and the first part of a choice.
 fn lesser_start(
-    table: &Table,
-    homing: &Homing,
-    none: &Partial,
-    ahead: &Ahead,
+    stage: &Stage,
     counts: &Counts,
     piece: Piece,
     number: u32,
     from: u64,
     found: Step,
 ) -> Step
-    requires homing { AreHomingsOf table.now.edition table.now.trip homing.now }
-    requires none { none.now ≡ [] }
-    requires ahead { AreAhead table.now none.now ahead.now }
-    requires counts { AreCounts table.now.edition table.now.trip counts.now }
+    requires stage { IsStage stage.now.table.now stage.now.homing.now stage.now.front.now stage.now.ahead.now }
+    requires none { stage.now.front.now ≡ [] }
+    requires counts { AreCounts stage.now.table.now.edition stage.now.table.now.trip counts.now }
     requires low { piece.first ≤ number }
     requires high { number < piece.past }
-    requires found { IfSome found (StartsIn table.now piece) }
-    ensures { IfSome result (StartsIn table.now piece) }
+    requires found { IfSome found (StartsIn stage.now.table.now piece) }
+    ensures { IfSome result (StartsIn stage.now.table.now piece) }
 {
+    let (table, homing) = (stage.table, stage.homing);
     let Some((end, fare)) = choice(table, counts, number) else {
         return found;
     };
@@ -185,16 +171,19 @@ fn lesser_start(
         unit: 1,
         fare,
     };
-    let Some(guess) = floor_ahead(table, ahead, none, part) else {
+    let Some(guess) = floor_ahead(table, stage.ahead, stage.front, part) else {
         return found;
     };
     if is_no_dearer(&found, guess) {
         return found;
     }
-    let Some(first) = none.next(table, part) else {
+    let Some(first) = stage.front.next(table, part) else {
         return found;
     };
-    let Some(floor) = stack_floor(table, homing, &first) else {
+    if is_crowded(table, homing, &first) {
+        return found;
+    }
+    let Some(floor) = stack_of(table, homing, &first).floor else {
         return found;
     };
     if floor < from || is_no_dearer(&found, floor) {

@@ -15,9 +15,8 @@ ghost use Rattle.fare_branch.specs.LastParts.{AreLasts, AreOverLasts, IsGoing, I
 ghost use Rattle.fare_branch.specs.LastParts.{forbids_any, may_be_last};
 
 use crate::partial::{Partial, with_last};
-use fare_bounds::lesser;
 use fare_component::{Entry, Table};
-use fare_homing::day_behind;
+use fare_homing::{Floor, NOTHING, day_behind, greater, lesser, number_at};
 use fare_rules::{MOST_POINTS, Part};
 use fare_tariff::Edition;
 use fare_units::{MOST_PARTS, is_uncombined, part_at};
@@ -95,7 +94,7 @@ fn back_cost(entry: &Entry) -> Option<u64>
 }
 
 /// The lesser of a number and what the last part of a unit costs with an entry, where that may be it.
-fn lesser_last(going: &Going, span: LastSpan, entry: &Entry, least: Option<u64>) -> Option<u64>
+fn lesser_last(going: &Going, span: LastSpan, entry: &Entry, least: Floor) -> Floor
     requires going { IsGoing going.now.table.now going.now.front.now going.now.unit going.now.start }
     requires rises { span.start < span.home }
     requires within { span.home ≤ count going.now.table.now.trip }
@@ -107,7 +106,7 @@ fn lesser_last(going: &Going, span: LastSpan, entry: &Entry, least: Option<u64>)
         return least;
     };
     let cost = back.saturating_add(span.behind);
-    if let Some(known) = least
+    if let Some(known) = least.amount()
         && known <= cost
     {
         return least;
@@ -120,14 +119,14 @@ fn lesser_last(going: &Going, span: LastSpan, entry: &Entry, least: Option<u64>)
         fare: entry.fare,
     };
     if may_be_last(going, span.start, part) {
-        Some(cost)
+        Floor::of(Some(cost))
     } else {
         least
     }
 }
 
 /// The lesser of a number and what the last part of a unit costs over a span.
-fn least_over(going: &Going, span: LastSpan, least: Option<u64>) -> Option<u64>
+fn least_over(going: &Going, span: LastSpan, least: Floor) -> Floor
     requires going { IsGoing going.now.table.now going.now.front.now going.now.unit going.now.start }
     requires rises { span.start < span.home }
     requires within { span.home ≤ count going.now.table.now.trip }
@@ -144,12 +143,7 @@ fn least_over(going: &Going, span: LastSpan, least: Option<u64>) -> Option<u64>
 }
 
 /// The lesser of a number and what the last part of a unit costs that begins at a point.
-fn least_from(
-    going: &Going,
-    s: usize,
-    homes: &[Option<u64>; MOST_POINTS],
-    least: Option<u64>,
-) -> Option<u64>
+fn least_from(going: &Going, s: usize, homes: &[Floor; MOST_POINTS], least: Floor) -> Floor
     requires going { IsGoing going.now.table.now going.now.front.now going.now.unit going.now.start }
     requires within { s < count going.now.table.now.trip }
     ensures kept { IsKeptBy least result }
@@ -159,7 +153,7 @@ fn least_from(
     prove!(s < sectors);
     let mut least = least;
     for home in s + 1..sectors + 1 {
-        if let Some(behind) = homes[home] {
+        if let Some(behind) = number_at(homes, home).amount() {
             let span = LastSpan {
                 start: s,
                 home,
@@ -172,21 +166,22 @@ fn least_from(
 }
 
 /// What the last part of a unit costs at least that begins at each point or behind it, with what is behind its home.
-fn lasts_of(going: &Going, homes: &[Option<u64>; MOST_POINTS]) -> [Option<u64>; MOST_POINTS]
+fn lasts_of(going: &Going, homes: &[Floor; MOST_POINTS]) -> [Floor; MOST_POINTS]
     requires made { IsMadeWith going.now.table.now going.now.front.now }
     requires going { IsGoing going.now.table.now going.now.front.now going.now.unit going.now.start }
     ensures { AreLasts going.now.table.now going.now.front.now going.now.unit
         (end_of going.now.front.now (length going.now.front.now)) homes.now result }
 {
-    let mut row = [None; MOST_POINTS];
+    let mut row = [NOTHING; MOST_POINTS];
     for s in (going.front.end()..going.table.trip().count()).rev() {
-        row[s] = least_from(going, s, homes, row[s + 1]);
+        let later = number_at(&row, s + 1);
+        row[s] = least_from(going, s, homes, later);
     }
     row
 }
 
 /// The same; where the unit can't go on, numbers that say nothing.
-fn lasts(going: &Going, homes: &[Option<u64>; MOST_POINTS]) -> [Option<u64>; MOST_POINTS]
+fn lasts(going: &Going, homes: &[Floor; MOST_POINTS]) -> [Floor; MOST_POINTS]
     requires made { IsMadeWith going.now.table.now going.now.front.now }
     requires start { going.now.start ≡ start_of going.now.table.now.trip going.now.front.now
         (first_of (own going.now.front.now going.now.unit)) }
@@ -198,30 +193,19 @@ fn lasts(going: &Going, homes: &[Option<u64>; MOST_POINTS]) -> [Option<u64>; MOS
     if going.start < sectors && going.front.parts().len() < MOST_PARTS {
         return lasts_of(going, homes);
     }
-    [Some(0); MOST_POINTS]
-}
-
-/// The greater of two numbers that are at most a cost; nothing where one of them isn't there.
-fn greater(a: Option<u64>, b: Option<u64>) -> Option<u64>
-    ensures { (most : ℕ) → IsUpTo most a → IsUpTo most b → IsUpTo most result }
-{
-    match (a, b) {
-        (Some(x), Some(y)) => Some(x.max(y)),
-        _ => None,
-    }
+    [Floor::of(Some(0)); MOST_POINTS]
 }
 
 /// The numbers of two rows that are both under what is behind each point.
-pub(crate) fn greater_of(
-    a: &[Option<u64>; MOST_POINTS],
-    b: &[Option<u64>; MOST_POINTS],
-) -> [Option<u64>; MOST_POINTS]
+pub(crate) fn greater_of(a: &[Floor; MOST_POINTS], b: &[Floor; MOST_POINTS]) -> [Floor; MOST_POINTS]
     ensures { (i most : ℕ) → IsUpTo most (rest_at a.now i) → IsUpTo most (rest_at b.now i)
         → IsUpTo most (rest_at result i) }
 {
-    let mut row = [None; MOST_POINTS];
+    let mut row = [NOTHING; MOST_POINTS];
     for i in 0..MOST_POINTS {
-        row[i] = greater(a[i], b[i]);
+        let one = number_at(a, i);
+        let other = number_at(b, i);
+        row[i] = greater(one, other);
     }
     row
 }
@@ -231,9 +215,9 @@ pub(crate) fn greater_of(
 pub(crate) fn over_lasts(
     going: &Going,
     must: bool,
-    homes: &[Option<u64>; MOST_POINTS],
-    behind: &[Option<u64>; MOST_POINTS],
-) -> [Option<u64>; MOST_POINTS]
+    homes: &[Floor; MOST_POINTS],
+    behind: &[Floor; MOST_POINTS],
+) -> [Floor; MOST_POINTS]
     requires made { IsMadeWith going.now.table.now going.now.front.now }
     requires start { going.now.start ≡ start_of going.now.table.now.trip going.now.front.now
         (first_of (own going.now.front.now going.now.unit)) }
@@ -245,7 +229,9 @@ pub(crate) fn over_lasts(
         return row;
     }
     for i in 0..MOST_POINTS {
-        row[i] = lesser(row[i], behind[i]);
+        let last = number_at(&row, i);
+        let whole = number_at(behind, i);
+        row[i] = lesser(last, whole);
     }
     row
 }

@@ -14,6 +14,7 @@
 //! - `lasting`: what the last part of a unit that goes on costs at least;
 //! - `stacking`: what first parts cost at least, with all that may follow, since what begins must end;
 //! - `ahead`: what is behind the part that comes next at least;
+//! - `stage`: where a search stands: first parts with what is ahead of them;
 //! - `barred`: whether the rules on stays and on combined fares bar first parts;
 //! - `diving`: the steps of a dive;
 //! - `descent`: a dive for a price to begin with;
@@ -42,15 +43,18 @@ mod quoter;
 mod refusals;
 mod searching;
 mod stacking;
+mod stage;
 mod walking;
 
 pub use ahead::{Ahead, ahead_of, floor_with};
 pub use barred::is_barred;
 pub use bound::{Bound, NO_PRICE};
+pub use crowding::is_crowded;
 pub use floors::floor_of;
 pub use own_bound::OwnBound;
 pub use partial::Partial;
 pub use pieces::{Piece, choices};
 pub use quoter::{BranchQuoter, best_of, best_under};
 pub use searching::search;
-pub use stacking::stack_floor;
+pub use stacking::{Stack, stack_after, stack_of};
+pub use stage::Stage;

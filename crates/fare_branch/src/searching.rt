@@ -2,18 +2,20 @@
 
 ghost use Rattle.std.specs.Prelude.{◌≡◌, []};
 ghost use Rattle.fare_bounds.specs.Covers.{AreRests};
-ghost use Rattle.fare_branch.specs.Ahead.{AreAhead};
+ghost use Rattle.fare_branch.specs.Ahead.{IsStage};
 ghost use Rattle.fare_branch.specs.Beginnings.{AreCounts};
 ghost use Rattle.fare_homing.specs.Rows.{AreHomingsOf};
 ghost use Rattle.fare_branch.specs.Search.{IsLeastPrice, BeginsIn, BeginsBy, IsSearched, kept_at};
 ghost use Rattle.fare_branch.specs.Dive.{IsDived};
 ghost use Rattle.fare_branch.specs.Walked.{IsWalk, IsUnderAll};
 
-use crate::ahead::{Ahead, ahead_of, floor_ahead};
+use crate::ahead::{ahead_of, floor_ahead};
 use crate::bound::Bound;
 use crate::descent::dive;
 use crate::partial::Partial;
 use crate::pieces::{Counts, Piece, choice, choices, counts_of};
+use crate::stacking::stack_of;
+use crate::stage::Stage;
 use crate::walking::{Found, follow, keep};
 use fare_bounds::Rest;
 use fare_component::Table;
@@ -79,35 +81,39 @@ fn walk_piece<B: Bound>(
         (B.least bound.old) best (B.least bound.new) result }
 {
     let none = Partial::new();
-    let ahead = ahead_of(table, homing, &none);
+    let ahead = ahead_of(table, homing, &none, stack_of(table, homing, &none));
+    let stage = Stage {
+        table,
+        homing,
+        front: &none,
+        ahead: &ahead,
+    };
     let counts = counts_of(table);
     let mut best = best;
     for number in piece.first..piece.past.min(choices(table)) {
-        best = walk_choice(table, homing, &none, &ahead, &counts, number, best, bound);
+        best = walk_choice(&stage, &counts, number, best, bound);
     }
     best
 }
 
 /// Walks over the constructions that begin with a choice.
 fn walk_choice<B: Bound>(
-    table: &Table,
-    homing: &Homing,
-    none: &Partial,
-    ahead: &Ahead,
+    stage: &Stage,
     counts: &Counts,
     number: u32,
     best: Found,
     bound: &mut B,
 ) -> Found
-    requires homing { AreHomingsOf table.now.edition table.now.trip homing.now }
-    requires none { none.now ≡ [] }
-    requires ahead { AreAhead table.now none.now ahead.now }
-    requires counts { AreCounts table.now.edition table.now.trip counts.now }
-    requires under { IsUnderAll table.now.edition table.now.trip (B.fixed bound.old) }
+    requires stage { IsStage stage.now.table.now stage.now.homing.now stage.now.front.now stage.now.ahead.now }
+    requires none { stage.now.front.now ≡ [] }
+    requires counts { AreCounts stage.now.table.now.edition stage.now.table.now.trip counts.now }
+    requires under { IsUnderAll stage.now.table.now.edition stage.now.table.now.trip (B.fixed bound.old) }
     ensures fixed { B.fixed bound.new ≡ B.fixed bound.old }
-    ensures walk { IsWalk table.now.edition table.now.trip (BeginsBy table.now.edition table.now.trip number)
-        (B.least bound.old) best (B.least bound.new) result }
+    ensures walk { IsWalk stage.now.table.now.edition stage.now.table.now.trip
+        (BeginsBy stage.now.table.now.edition stage.now.table.now.trip number) (B.least bound.old) best (B.least bound.new)
+        result }
 {
+    let table = stage.table;
     let _sectors = table.trip().count();
     let Some((end, fare)) = choice(table, counts, number) else {
         return best;
@@ -117,6 +123,6 @@ fn walk_choice<B: Bound>(
         unit: 1,
         fare,
     };
-    let floor = floor_ahead(table, ahead, none, part);
-    follow(table, homing, none, part, floor, best, bound)
+    let floor = floor_ahead(table, stage.ahead, stage.front, part);
+    follow(stage, part, floor, best, bound)
 }

@@ -6,24 +6,38 @@ ghost use Rattle.fare_trip.specs.Itinerary.{count};
 ghost use Rattle.fare_bounds.specs.Covers.{rest_at};
 ghost use Rattle.fare_rules.specs.Construction.{end_of, first_of, greatest_unit, own, places};
 ghost use Rattle.fare_units.specs.Advance.{Advances};
-ghost use Rattle.fare_branch.specs.Floors.{IsMadeWith, IsFloorAnswer};
+ghost use Rattle.fare_branch.specs.Costs.{AreFloorsBefore, AreUnitFloors};
+ghost use Rattle.fare_branch.specs.Floors.{IsMadeWith};
 ghost use Rattle.fare_homing.specs.Homing.{homing_at};
 ghost use Rattle.fare_homing.specs.Rows.{AreHomingsOf, closing_from, jaw_from};
-ghost use Rattle.fare_branch.specs.Stack.{AreOver, AreHomes, IsUntilHome, IsOverOpen};
+ghost use Rattle.fare_branch.specs.Stack.{AreOver, AreOverUnits, AreHomes, IsUntilHome, IsOverOpen, IsStack};
 ghost use Rattle.fare_branch.specs.Stack.{IsOpenUnit, may_come_to};
 
-use crate::costs::units_floor;
-use crate::crowding::is_crowded;
+use crate::costs::{MOST_UNITS, floors_after, floors_of, spent_on};
 use crate::ending::needs_more;
 use crate::joining::{first_place, is_stuck, part_count, standing_point};
 use crate::lasting::{Going, greater_of, over_lasts};
 use crate::partial::Partial;
-use fare_bounds::lesser;
 use fare_component::Table;
-use fare_homing::{Homing, added, are_near, closing_from, jaw_from};
+use fare_homing::{
+    Floor, Homing, NOTHING, added, closing_from, jaw_from, lesser, lie_near, number_at, paid_with,
+};
 use fare_rules::{MOST_POINTS, Part};
 use fare_trip::Trip;
 use fare_units::{MOST_PARTS, is_shut_unit, start_of};
+
+/// What is known of first parts by their units.
+#[derive(Drop)]
+pub struct Stack {
+    /// What each unit costs at least, by its number, in NUC hundredths.
+    pub floors: [u64; MOST_UNITS],
+    /// What the first parts cost at least, in NUC hundredths.
+    pub spent: u64,
+    /// What is behind each point at least over the units up to each number.
+    pub over: [[Floor; MOST_POINTS]; MOST_UNITS],
+    /// A number that is at most the price of every completion, in NUC hundredths; nothing only where there is none.
+    pub floor: Option<u64>,
+}
 
 /// A unit of first parts that is open: parts may come to it.
 #[derive(Clone, Copy)]
@@ -39,7 +53,14 @@ pub(crate) struct Open {
 }
 
 /// Whether a unit that begins at a point may come home at another.
-pub(crate) fn may_come_to(table: &Table, start: usize, closes: bool, home: usize) -> bool
+pub(crate) fn may_come_to(
+    table: &Table,
+    homing: &Homing,
+    start: usize,
+    closes: bool,
+    home: usize,
+) -> bool
+    requires homing { AreHomingsOf table.now.edition table.now.trip homing.now }
     requires start { start ≤ count table.now.trip }
     requires home { home ≤ count table.now.trip }
     ensures { result ≡ may_come_to table.now.edition table.now.trip start closes home }
@@ -48,12 +69,12 @@ pub(crate) fn may_come_to(table: &Table, start: usize, closes: bool, home: usize
     if closes {
         trip.point(home).is(trip.point(start))
     } else {
-        are_near(table.edition(), trip.point(home), trip.point(start))
+        lie_near(table, homing, home, start)
     }
 }
 
 /// What is behind a point at least until a unit comes home at another, by where it began and where it stands.
-fn homing_at(trip: &Trip, homing: &Homing, opened: Open, i: usize, home: usize) -> Option<u64>
+fn homing_at(trip: &Trip, homing: &Homing, opened: Open, i: usize, home: usize) -> Floor
     requires start { opened.start ≤ count trip.now }
     requires home { home ≤ count trip.now }
     ensures { result ≡ homing_at trip.now (closing_from homing.now opened.stands) (jaw_from homing.now opened.stands)
@@ -69,17 +90,19 @@ fn homing_at(trip: &Trip, homing: &Homing, opened: Open, i: usize, home: usize) 
 /// The numbers behind the points where a unit may come home.
 pub(crate) fn homes_of(
     table: &Table,
+    homing: &Homing,
     from: usize,
     opened: Open,
-    behind: &[Option<u64>; MOST_POINTS],
-) -> [Option<u64>; MOST_POINTS]
+    behind: &[Floor; MOST_POINTS],
+) -> [Floor; MOST_POINTS]
+    requires homing { AreHomingsOf table.now.edition table.now.trip homing.now }
     requires start { opened.start ≤ count table.now.trip }
     ensures { AreHomes table.now.edition table.now.trip from opened.start opened.closes behind.now result }
 {
-    let mut homes = [None; MOST_POINTS];
+    let mut homes = [NOTHING; MOST_POINTS];
     for home in from..table.trip().count() + 1 {
-        if may_come_to(table, opened.start, opened.closes, home) {
-            homes[home] = behind[home];
+        if may_come_to(table, homing, opened.start, opened.closes, home) {
+            homes[home] = number_at(behind, home);
         }
     }
     homes
@@ -92,14 +115,15 @@ fn until_home(
     from: usize,
     opened: Open,
     i: usize,
-    homes: &[Option<u64>; MOST_POINTS],
-) -> Option<u64>
+    homes: &[Floor; MOST_POINTS],
+) -> Floor
     requires start { opened.start ≤ count trip.now }
     ensures { IsUntilHome trip.now homing.now from opened.stands opened.start i homes.now result }
 {
-    let mut least = None;
+    let mut least = NOTHING;
     for home in from..trip.count() + 1 {
-        let here = added(homing_at(trip, homing, opened, i, home), homes[home]);
+        let until = homing_at(trip, homing, opened, i, home);
+        let here = added(until, number_at(homes, home));
         least = lesser(least, here);
     }
     least
@@ -113,9 +137,9 @@ pub(crate) fn over_point(
     from: usize,
     opened: Open,
     i: usize,
-    homes: &[Option<u64>; MOST_POINTS],
-    behind: Option<u64>,
-) -> Option<u64>
+    homes: &[Floor; MOST_POINTS],
+    behind: Floor,
+) -> Floor
     requires start { opened.start ≤ count trip.now }
     ensures { IsOverOpen trip.now homing.now from opened.stands opened.start opened.must i homes.now behind result }
 {
@@ -133,17 +157,18 @@ fn over_open(
     homing: &Homing,
     from: usize,
     opened: Open,
-    homes: &[Option<u64>; MOST_POINTS],
-    behind: &[Option<u64>; MOST_POINTS],
-) -> [Option<u64>; MOST_POINTS]
+    homes: &[Floor; MOST_POINTS],
+    behind: &[Floor; MOST_POINTS],
+) -> [Floor; MOST_POINTS]
     requires start { opened.start ≤ count trip.now }
     ensures { (i : ℕ) → from ≤ i → i ≤ count trip.now
         → IsOverOpen trip.now homing.now from opened.stands opened.start opened.must i homes.now (rest_at behind.now i)
         (rest_at result i) }
 {
-    let mut row = [None; MOST_POINTS];
+    let mut row = [NOTHING; MOST_POINTS];
     for i in from..trip.count() + 1 {
-        row[i] = over_point(trip, homing, from, opened, i, homes, behind[i]);
+        let below = number_at(behind, i);
+        row[i] = over_point(trip, homing, from, opened, i, homes, below);
     }
     row
 }
@@ -172,8 +197,9 @@ fn over_going(
     partial: &Partial,
     unit: usize,
     opened: Open,
-    behind: &[Option<u64>; MOST_POINTS],
-) -> [Option<u64>; MOST_POINTS]
+    behind: &[Floor; MOST_POINTS],
+) -> [Floor; MOST_POINTS]
+    requires homing { AreHomingsOf table.now.edition table.now.trip homing.now }
     requires made { IsMadeWith table.now partial.now }
     requires low { 1 ≤ unit }
     requires high { unit ≤ greatest_unit partial.now (places partial.now) }
@@ -182,7 +208,7 @@ fn over_going(
     ensures { AreOver table.now homing.now partial.now unit result }
 {
     let _sectors = table.trip().count();
-    let homes = homes_of(table, partial.end(), opened, behind);
+    let homes = homes_of(table, homing, partial.end(), opened, behind);
     let row = over_open(table.trip(), homing, partial.end(), opened, &homes, behind);
     let going = Going {
         table,
@@ -201,8 +227,9 @@ pub(crate) fn over_unit(
     homing: &Homing,
     partial: &Partial,
     unit: usize,
-    behind: &[Option<u64>; MOST_POINTS],
-) -> [Option<u64>; MOST_POINTS]
+    behind: &[Floor; MOST_POINTS],
+) -> [Floor; MOST_POINTS]
+    requires homing { AreHomingsOf table.now.edition table.now.trip homing.now }
     requires made { IsMadeWith table.now partial.now }
     requires low { 1 ≤ unit }
     requires high { unit ≤ greatest_unit partial.now (places partial.now) }
@@ -218,37 +245,75 @@ pub(crate) fn over_unit(
         return over_going(table, homing, partial, unit, opened, behind);
     }
     if opened.must {
-        return [None; MOST_POINTS];
+        return [NOTHING; MOST_POINTS];
     }
     *behind
 }
 
-/// What is behind each point at least over all units of first parts.
-fn over_units(table: &Table, homing: &Homing, partial: &Partial) -> [Option<u64>; MOST_POINTS]
-    requires made { IsMadeWith table.now partial.now }
-    ensures { AreOver table.now homing.now partial.now (greatest_unit partial.now (places partial.now)) result }
-{
-    let mut behind = homing.rest;
-    for unit in 1..partial.greatest_unit() + 1 {
-        behind = over_unit(table, homing, partial, unit, &behind);
-    }
-    behind
-}
-
-/// A number that is at most the price of every completion of some first parts; nothing only where there is none. It
-/// knows that what begins must end: each open unit comes home, one inside the other, and so does each that begins
-/// behind; and that one way fares whose rules don't combine with themselves can't be had more often than there are
-/// rules.
-pub fn stack_floor(table: &Table, homing: &Homing, partial: &Partial) -> Option<u64>
+/// What is behind each point at least over the units of first parts, by the number up to which they are counted.
+fn over_units(
+    table: &Table,
+    homing: &Homing,
+    partial: &Partial,
+) -> [[Floor; MOST_POINTS]; MOST_UNITS]
     requires homing { AreHomingsOf table.now.edition table.now.trip homing.now }
     requires made { IsMadeWith table.now partial.now }
-    ensures { IsFloorAnswer table.now.edition table.now.trip partial.now result }
+    ensures { AreOverUnits table.now homing.now partial.now result }
 {
     let _sectors = table.trip().count();
-    if is_crowded(table, homing, partial) {
-        return None;
+    let mut over = [[NOTHING; MOST_POINTS]; MOST_UNITS];
+    over[0] = homing.rest;
+    for unit in 1..partial.greatest_unit() + 1 {
+        over[unit] = over_unit(table, homing, partial, unit, &over[unit - 1]);
     }
-    let spent = units_floor(table, partial.parts(), partial.greatest_unit());
-    let behind = over_units(table, homing, partial);
-    added(Some(spent), behind[partial.end()])
+    over
+}
+
+/// What is known of first parts by what each of their units costs at least.
+fn stack_with(table: &Table, homing: &Homing, partial: &Partial, floors: [u64; MOST_UNITS]) -> Stack
+    requires homing { AreHomingsOf table.now.edition table.now.trip homing.now }
+    requires made { IsMadeWith table.now partial.now }
+    requires floors { AreUnitFloors table.now.edition table.now.trip partial.now floors }
+    ensures { IsStack table.now homing.now partial.now result }
+{
+    let _sectors = table.trip().count();
+    let greatest = partial.greatest_unit();
+    let spent = spent_on(&floors, greatest);
+    let over = over_units(table, homing, partial);
+    let floor = paid_with(spent, number_at(&over[greatest], partial.end()));
+    Stack {
+        floors,
+        spent,
+        over,
+        floor,
+    }
+}
+
+/// What is known of first parts by their units: what begins must end, so each open unit comes home, one inside the
+/// other, and so does each that begins behind.
+pub fn stack_of(table: &Table, homing: &Homing, partial: &Partial) -> Stack
+    requires homing { AreHomingsOf table.now.edition table.now.trip homing.now }
+    requires made { IsMadeWith table.now partial.now }
+    ensures { IsStack table.now homing.now partial.now result }
+{
+    let _sectors = table.trip().count();
+    let floors = floors_of(table, partial.parts());
+    stack_with(table, homing, partial, floors)
+}
+
+/// The same by what is known of the parts without their last one: its unit alone is priced anew.
+pub fn stack_after(
+    table: &Table,
+    homing: &Homing,
+    partial: &Partial,
+    before: &[u64; MOST_UNITS],
+) -> Stack
+    requires homing { AreHomingsOf table.now.edition table.now.trip homing.now }
+    requires made { IsMadeWith table.now partial.now }
+    requires before { AreFloorsBefore table.now.edition table.now.trip partial.now before.now }
+    ensures { IsStack table.now homing.now partial.now result }
+{
+    let _sectors = table.trip().count();
+    let floors = floors_after(table, partial.parts(), before);
+    stack_with(table, homing, partial, floors)
 }

@@ -8,18 +8,18 @@ ghost use Rattle.fare_rules.specs.Construction.{greatest_unit, places};
 ghost use Rattle.fare_component.specs.Table.{IsInBounds, entries_of};
 ghost use Rattle.fare_units.specs.Walk.{Completes, GoesOn, AnyPart, EndsAt, HasFare, IsPart, IsList, TakesBetter};
 ghost use Rattle.fare_units.specs.Walk.{next_start};
-ghost use Rattle.fare_branch.specs.Ahead.{AreAhead};
-ghost use Rattle.fare_homing.specs.Rows.{AreHomingsOf};
-ghost use Rattle.fare_branch.specs.Floors.{IsMadeWith, IsFloorAnswer};
+ghost use Rattle.fare_branch.specs.Floors.{IsFloorAnswer};
+ghost use Rattle.fare_branch.specs.Ahead.{IsStage};
 ghost use Rattle.fare_branch.specs.Walked.{IsWalk, IsUnderAll, is_beaten, is_no_sooner};
 
-use crate::ahead::{Ahead, ahead_of, floor_with};
+use crate::ahead::{ahead_of, floor_with};
 use crate::barred::is_barred;
 use crate::bound::Bound;
+use crate::crowding::is_crowded;
 use crate::partial::Partial;
-use crate::stacking::stack_floor;
+use crate::stacking::stack_after;
+use crate::stage::Stage;
 use fare_component::{Entry, Table};
-use fare_homing::Homing;
 use fare_rules::Part;
 use fare_units::{Construction, earlier, lawful_price_by};
 
@@ -100,78 +100,51 @@ pub(crate) fn take<B: Bound>(table: &Table, front: &Partial, best: Found, bound:
 
 /// Walks over all constructions that have these parts as their first ones.
 #[cycle(walk)]
-fn walk<B: Bound>(
-    table: &Table,
-    homing: &Homing,
-    front: &Partial,
-    best: Found,
-    bound: &mut B,
-) -> Found
-    requires homing { AreHomingsOf table.now.edition table.now.trip homing.now }
-    requires made { IsMadeWith table.now front.now }
-    requires under { IsUnderAll table.now.edition table.now.trip (B.fixed bound.old) }
+fn walk<B: Bound>(stage: &Stage, best: Found, bound: &mut B) -> Found
+    requires stage { IsStage stage.now.table.now stage.now.homing.now stage.now.front.now stage.now.ahead.now }
+    requires under { IsUnderAll stage.now.table.now.edition stage.now.table.now.trip (B.fixed bound.old) }
     ensures fixed { B.fixed bound.new ≡ B.fixed bound.old }
-    ensures walk { IsWalk table.now.edition table.now.trip (Completes front.now) (B.least bound.old) best
-        (B.least bound.new) result }
+    ensures walk { IsWalk stage.now.table.now.edition stage.now.table.now.trip (Completes stage.now.front.now)
+        (B.least bound.old) best (B.least bound.new) result }
 {
-    if front.end() == table.trip().count() {
-        return take(table, front, best, bound);
+    if stage.front.end() == stage.table.trip().count() {
+        return take(stage.table, stage.front, best, bound);
     }
-    let ahead = ahead_of(table, homing, front);
-    walk_ends(table, homing, front, &ahead, best, bound)
+    walk_ends(stage, best, bound)
 }
 
 /// Walks over those that go on with any part, the greatest end first.
 #[cycle(walk)]
-fn walk_ends<B: Bound>(
-    table: &Table,
-    homing: &Homing,
-    front: &Partial,
-    ahead: &Ahead,
-    best: Found,
-    bound: &mut B,
-) -> Found
-    requires homing { AreHomingsOf table.now.edition table.now.trip homing.now }
-    requires made { IsMadeWith table.now front.now }
-    requires ahead { AreAhead table.now front.now ahead.now }
-    requires under { IsUnderAll table.now.edition table.now.trip (B.fixed bound.old) }
+fn walk_ends<B: Bound>(stage: &Stage, best: Found, bound: &mut B) -> Found
+    requires stage { IsStage stage.now.table.now stage.now.homing.now stage.now.front.now stage.now.ahead.now }
+    requires under { IsUnderAll stage.now.table.now.edition stage.now.table.now.trip (B.fixed bound.old) }
     ensures fixed { B.fixed bound.new ≡ B.fixed bound.old }
-    ensures walk { IsWalk table.now.edition table.now.trip (GoesOn front.now AnyPart) (B.least bound.old) best
-        (B.least bound.new) result }
+    ensures walk { IsWalk stage.now.table.now.edition stage.now.table.now.trip (GoesOn stage.now.front.now AnyPart)
+        (B.least bound.old) best (B.least bound.new) result }
 {
-    let trip = table.trip();
+    let trip = stage.table.trip();
     let mut best = best;
-    for end in (front.next_start(trip) + 1..trip.count() + 1).rev() {
-        best = walk_entries(table, homing, front, ahead, end, best, bound);
+    for end in (stage.front.next_start(trip) + 1..trip.count() + 1).rev() {
+        best = walk_entries(stage, end, best, bound);
     }
     best
 }
 
 /// Walks over those that go on with a part that ends at a point, by record number.
 #[cycle(walk)]
-fn walk_entries<B: Bound>(
-    table: &Table,
-    homing: &Homing,
-    front: &Partial,
-    ahead: &Ahead,
-    end: usize,
-    best: Found,
-    bound: &mut B,
-) -> Found
-    requires homing { AreHomingsOf table.now.edition table.now.trip homing.now }
-    requires made { IsMadeWith table.now front.now }
-    requires ahead { AreAhead table.now front.now ahead.now }
-    requires rises { next_start table.now.trip front.now < end }
-    requires within { end ≤ count table.now.trip }
-    requires under { IsUnderAll table.now.edition table.now.trip (B.fixed bound.old) }
+fn walk_entries<B: Bound>(stage: &Stage, end: usize, best: Found, bound: &mut B) -> Found
+    requires stage { IsStage stage.now.table.now stage.now.homing.now stage.now.front.now stage.now.ahead.now }
+    requires rises { next_start stage.now.table.now.trip stage.now.front.now < end }
+    requires within { end ≤ count stage.now.table.now.trip }
+    requires under { IsUnderAll stage.now.table.now.edition stage.now.table.now.trip (B.fixed bound.old) }
     ensures fixed { B.fixed bound.new ≡ B.fixed bound.old }
-    ensures walk { IsWalk table.now.edition table.now.trip (GoesOn front.now (EndsAt end)) (B.least bound.old) best
-        (B.least bound.new) result }
+    ensures walk { IsWalk stage.now.table.now.edition stage.now.table.now.trip (GoesOn stage.now.front.now (EndsAt end))
+        (B.least bound.old) best (B.least bound.new) result }
 {
-    let entries = table.entries(front.next_start(table.trip()), end);
+    let start = stage.front.next_start(stage.table.trip());
     let mut best = best;
-    for entry in entries {
-        best = walk_units(table, homing, front, ahead, end, entry, best, bound);
+    for entry in stage.table.entries(start, end) {
+        best = walk_units(stage, end, entry, best, bound);
     }
     best
 }
@@ -179,39 +152,34 @@ fn walk_entries<B: Bound>(
 /// Walks over those that go on with a part that ends at a point and has the fare of a record number.
 #[cycle(walk)]
 fn walk_units<B: Bound>(
-    table: &Table,
-    homing: &Homing,
-    front: &Partial,
-    ahead: &Ahead,
+    stage: &Stage,
     end: usize,
     entry: &Entry,
     best: Found,
     bound: &mut B,
 ) -> Found
-    requires homing { AreHomingsOf table.now.edition table.now.trip homing.now }
-    requires made { IsMadeWith table.now front.now }
-    requires ahead { AreAhead table.now front.now ahead.now }
-    requires rises { next_start table.now.trip front.now < end }
-    requires within { end ≤ count table.now.trip }
-    requires there { Contains (entries_of table.now.edition table.now.trip (next_start table.now.trip front.now) end)
-        entry.now }
+    requires stage { IsStage stage.now.table.now stage.now.homing.now stage.now.front.now stage.now.ahead.now }
+    requires rises { next_start stage.now.table.now.trip stage.now.front.now < end }
+    requires within { end ≤ count stage.now.table.now.trip }
+    requires there { Contains (entries_of stage.now.table.now.edition stage.now.table.now.trip
+        (next_start stage.now.table.now.trip stage.now.front.now) end) entry.now }
     requires bounds { IsInBounds entry.now }
-    requires under { IsUnderAll table.now.edition table.now.trip (B.fixed bound.old) }
+    requires under { IsUnderAll stage.now.table.now.edition stage.now.table.now.trip (B.fixed bound.old) }
     ensures fixed { B.fixed bound.new ≡ B.fixed bound.old }
-    ensures walk { IsWalk table.now.edition table.now.trip (GoesOn front.now (HasFare end entry.now.fare))
+    ensures walk { IsWalk stage.now.table.now.edition stage.now.table.now.trip (GoesOn stage.now.front.now (HasFare end entry.now.fare))
         (B.least bound.old) best (B.least bound.new) result }
 {
-    let sectors = table.trip().count();
+    let sectors = stage.table.trip().count();
     prove!(end <= sectors);
     let mut best = best;
-    for unit in 1..front.greatest_unit() + 2 {
+    for unit in 1..stage.front.greatest_unit() + 2 {
         let part = Part {
             end: end as u8,
             unit: unit as u8,
             fare: entry.fare,
         };
-        let floor = floor_with(ahead, entry, part);
-        best = follow(table, homing, front, part, floor, best, bound);
+        let floor = floor_with(stage.ahead, entry, part);
+        best = follow(stage, part, floor, best, bound);
     }
     best
 }
@@ -219,23 +187,20 @@ fn walk_units<B: Bound>(
 /// Walks over those that go on with a part, where its floor is no more than the least price known.
 #[cycle(walk)]
 pub(crate) fn follow<B: Bound>(
-    table: &Table,
-    homing: &Homing,
-    front: &Partial,
+    stage: &Stage,
     part: Part,
     floor: Option<u64>,
     best: Found,
     bound: &mut B,
 ) -> Found
-    requires homing { AreHomingsOf table.now.edition table.now.trip homing.now }
-    requires made { IsMadeWith table.now front.now }
-    requires rises { next_start table.now.trip front.now < part.end }
-    requires within { part.end ≤ count table.now.trip }
-    requires floor { IsFloorAnswer table.now.edition table.now.trip (front.now ++ part ∷ []) floor }
-    requires under { IsUnderAll table.now.edition table.now.trip (B.fixed bound.old) }
+    requires stage { IsStage stage.now.table.now stage.now.homing.now stage.now.front.now stage.now.ahead.now }
+    requires rises { next_start stage.now.table.now.trip stage.now.front.now < part.end }
+    requires within { part.end ≤ count stage.now.table.now.trip }
+    requires floor { IsFloorAnswer stage.now.table.now.edition stage.now.table.now.trip (stage.now.front.now ++ part ∷ []) floor }
+    requires under { IsUnderAll stage.now.table.now.edition stage.now.table.now.trip (B.fixed bound.old) }
     ensures fixed { B.fixed bound.new ≡ B.fixed bound.old }
-    ensures walk { IsWalk table.now.edition table.now.trip (GoesOn front.now (IsPart part)) (B.least bound.old) best
-        (B.least bound.new) result }
+    ensures walk { IsWalk stage.now.table.now.edition stage.now.table.now.trip (GoesOn stage.now.front.now (IsPart part))
+        (B.least bound.old) best (B.least bound.new) result }
 {
     let Some(least) = floor else {
         return best;
@@ -243,32 +208,29 @@ pub(crate) fn follow<B: Bound>(
     if bound.seen() < least {
         return best;
     }
-    enter(table, homing, front, part, best, bound)
+    enter(stage, part, best, bound)
 }
 
 /// Walks over those that go on with a part, where that can still bring what is wanted.
 #[cycle(walk)]
-fn enter<B: Bound>(
-    table: &Table,
-    homing: &Homing,
-    front: &Partial,
-    part: Part,
-    best: Found,
-    bound: &mut B,
-) -> Found
-    requires homing { AreHomingsOf table.now.edition table.now.trip homing.now }
-    requires made { IsMadeWith table.now front.now }
-    requires rises { next_start table.now.trip front.now < part.end }
-    requires within { part.end ≤ count table.now.trip }
-    requires under { IsUnderAll table.now.edition table.now.trip (B.fixed bound.old) }
+fn enter<B: Bound>(stage: &Stage, part: Part, best: Found, bound: &mut B) -> Found
+    requires stage { IsStage stage.now.table.now stage.now.homing.now stage.now.front.now stage.now.ahead.now }
+    requires rises { next_start stage.now.table.now.trip stage.now.front.now < part.end }
+    requires within { part.end ≤ count stage.now.table.now.trip }
+    requires under { IsUnderAll stage.now.table.now.edition stage.now.table.now.trip (B.fixed bound.old) }
     ensures fixed { B.fixed bound.new ≡ B.fixed bound.old }
-    ensures walk { IsWalk table.now.edition table.now.trip (GoesOn front.now (IsPart part)) (B.least bound.old) best
-        (B.least bound.new) result }
+    ensures walk { IsWalk stage.now.table.now.edition stage.now.table.now.trip (GoesOn stage.now.front.now (IsPart part))
+        (B.least bound.old) best (B.least bound.new) result }
 {
-    let Some(longer) = front.next(table, part) else {
+    let (table, homing) = (stage.table, stage.homing);
+    let Some(longer) = stage.front.next(table, part) else {
         return best;
     };
-    let Some(floor) = stack_floor(table, homing, &longer) else {
+    if is_crowded(table, homing, &longer) {
+        return best;
+    }
+    let stack = stack_after(table, homing, &longer, &stage.ahead.floors);
+    let Some(floor) = stack.floor else {
         return best;
     };
     if is_beaten(&best, &longer, floor) {
@@ -280,5 +242,12 @@ fn enter<B: Bound>(
     if is_barred(table, &longer) {
         return best;
     }
-    walk(table, homing, &longer, best, bound)
+    let ahead = ahead_of(table, homing, &longer, stack);
+    let further = Stage {
+        table,
+        homing,
+        front: &longer,
+        ahead: &ahead,
+    };
+    walk(&further, best, bound)
 }

@@ -10,11 +10,13 @@ use Rattle.fare_rules.specs.Construction.{begin_after}
 use Rattle.fare_rules.specs.Shape.{is_same_country, lie_together}
 use Rattle.fare_rules.proofs.CoverLemmas.{begins_later}
 use Rattle.fare_component.specs.declared.table.entry.Entry.{Entry}
+use Rattle.fare_component.specs.Table.{entries_of}
 use Rattle.fare_component.proofs.LawLemmas.{entry_is_of_fare}
 use Rattle.fare_bounds.specs.Covers.{lesser, rest_at}
 use Rattle.fare_homing.specs.Homing.{IsUpTo, back_cost, between_cost, first_cost, heads_to, homing_at, is_same_city}
 use Rattle.fare_homing.specs.HomingRows.{AreClosings, AreJaws, AreWholes, IsBetween, IsPart, IsUnderBoth}
-use Rattle.fare_homing.specs.Least.{IsLeastOf, added}
+use Rattle.fare_homing.specs.Floor.{added}
+use Rattle.fare_homing.specs.Least.{IsUnderEach}
 use Rattle.fare_homing.specs.Rows.{country_at, heads_in, step_to, AreCountries}
 use Rattle.fare_homing.proofs.ReachLemmas.{added_up, up_first, up_more, up_second}
 
@@ -72,18 +74,18 @@ module _ (tariff : Tariff) (trip : Itinerary) where
 
   -- a part between costs no less than what is told of it by the countries of the trip's points
   pub step_up : (countries : List (Option Country)) (a b home x : ℕ) (first last : ℕ → Option ℕ) → AreCountries tariff trip countries → a ≤ count trip → b ≤ count trip → home ≤ count trip
-      → IsLeastOf (IsPart tariff trip first_cost a b) (first b) → IsLeastOf (IsPart tariff trip back_cost a b) (last b) → IsBetween tariff trip a home b x → IsUpTo x (step_to countries a first last home b)
+      → IsUnderEach first_cost (entries_of tariff trip a b) (first b) → IsUnderEach back_cost (entries_of tariff trip a b) (last b) → IsBetween tariff trip a home b x → IsUpTo x (step_to countries a first last home b)
   step_up countries a b home x first last are low mid high outs backs part =
       let same : heads_to tariff trip a b home ≡ heads_in countries a b home = heads_same tariff trip countries a b home are low mid high in
       elim (cases_Bool (heads_to tariff trip a b home)) [
         | inl t ↦
             let heads : heads_in countries a b home ≡ true = sym same ∙ t in
             let back : IsPart tariff trip back_cost a b x = by_way true t part in
-            rw heads (backs.lowest x back)
+            rw heads (backs x back)
         | inr f ↦
             let heads : heads_in countries a b home ≡ false = sym same ∙ f in
             let out : IsPart tariff trip first_cost a b x = by_way false f part in
-            rw heads (outs.lowest x out)
+            rw heads (outs x out)
       ]
     where
       by_way : (way : Bool) → heads_to tariff trip a b home ≡ way → IsBetween tariff trip a home b x → IsPart tariff trip (between_cost way) a b x

@@ -6,7 +6,7 @@ use Rattle.std.proofs.lemmas.Option.{none-some, same_Some}
 use Rattle.std.proofs.lemmas.List.{get_or-set_same, get_or-set_other}
 use Rattle.fare_bounds.specs.Covers.{lesser, rest_at}
 use Rattle.fare_homing.specs.Homing.{IsUpTo}
-use Rattle.fare_homing.specs.Least.{added, capped_sum}
+use Rattle.fare_homing.specs.Floor.{added, capped}
 
 -- the lesser of two amounts is no more than either
 pub lesser_first : (a b : Option ℕ) (amount : ℕ) → a ≡ Some amount → IsUpTo amount (lesser a b)
@@ -30,15 +30,15 @@ pub up_second : (a b : Option ℕ) (most : ℕ) → IsUpTo most b → IsUpTo mos
 up_second a b most up = let least = lesser_second a b up.0 up.1 in up_more up.0 most (lesser a b) up.2 least
 
 -- a sum is there where both amounts are
-pub added_of : (a b : Option ℕ) (x y : ℕ) → a ≡ Some x → b ≡ Some y → added a b ≡ Some (capped_sum x y)
+pub added_of : (a b : Option ℕ) (x y : ℕ) → a ≡ Some x → b ≡ Some y → added a b ≡ Some (capped (x + y))
 added_of a b x y e f = rw (e, f) refl
 
 -- and is no more than both together
-pub capped_low : (x y : ℕ) → capped_sum x y ≤ x + y
-capped_low x y = omega arith
+pub capped_low : (x : ℕ) → capped x ≤ x
+capped_low x = omega arith
 
 pub added_up : (a b found : Option ℕ) → found ≡ added a b → (x y : ℕ) → a ≡ Some x → b ≡ Some y → IsUpTo (x + y) found
-added_up a b found is x y e f = (capped_sum x y, is ∙ added_of a b x y e f, capped_low x y)
+added_up a b found is x y e f = (capped (x + y), is ∙ added_of a b x y e f, capped_low (x + y))
 
 -- what holds of the items of a row below a point, where the item at the point is put
 pub row_more : {A : Type 0} (P : ℕ → Option A → Type 0) (row : List (Option A)) (p : ℕ) (item : Option A) → p < length row

@@ -4,24 +4,24 @@ use Rattle.fare_trip.specs.Itinerary.{Itinerary, count}
 use Rattle.fare_tariff.specs.Tariff.{Tariff}
 use Rattle.fare_rules.specs.Construction.{begin_after}
 use Rattle.fare_component.specs.declared.table.entry.Entry.{Entry}
+use Rattle.fare_component.specs.Table.{entries_of}
 use Rattle.fare_bounds.specs.Covers.{rest_at}
 use Rattle.fare_homing.specs.declared.legs.Least.{Least}
 use Rattle.fare_homing.specs.declared.legs.LegRows.{LegRows}
 use Rattle.fare_homing.specs.Homing.{single_cost, first_cost, back_cost}
-use Rattle.fare_homing.specs.HomingRows.{IsPart}
-use Rattle.fare_homing.specs.Least.{IsCost, IsLeastOf}
+use Rattle.fare_homing.specs.Least.{IsUnderEach}
 
--- what a part costs at least with some entries, by what it is in its unit
+-- numbers are no more than what a part costs with some entries, by what it is in its unit
 pub record AreLeastOf (entries : List Entry) (least : Least) : Type 0 where
-  pub alone : IsLeastOf (IsCost single_cost entries) least.alone
-  pub first : IsLeastOf (IsCost first_cost entries) least.first
-  pub last : IsLeastOf (IsCost back_cost entries) least.last
+  pub alone : IsUnderEach single_cost entries least.alone
+  pub first : IsUnderEach first_cost entries least.first
+  pub last : IsUnderEach back_cost entries least.last
 
--- the numbers of a row are what the parts from a point cost at least, by the points where these end
+-- the numbers of a row are no more than what the parts from a point cost, by the points where these end
 abbrev pub AreLegs : Tariff → Itinerary → (Entry → Option ℕ) → ℕ → List (Option ℕ) → Type 0
-AreLegs tariff trip cost_of a row = (b : ℕ) → IsLeastOf (IsPart tariff trip cost_of a b) (rest_at row b)
+AreLegs tariff trip cost_of a row = (b : ℕ) → IsUnderEach cost_of (entries_of tariff trip a b) (rest_at row b)
 
--- rows are what the parts from a point cost at least, by what a part is in its unit
+-- rows are no more than what the parts from a point cost, by what a part is in its unit
 pub record AreLegsOf (tariff : Tariff) (trip : Itinerary) (a : ℕ) (legs : LegRows) : Type 0 where
   pub alone : AreLegs tariff trip single_cost a legs.alone
   pub first : AreLegs tariff trip first_cost a legs.first
@@ -31,7 +31,7 @@ pub record AreLegsOf (tariff : Tariff) (trip : Itinerary) (a : ℕ) (legs : LegR
 abbrev pub no_legs : LegRows
 no_legs = record { alone = []; first = []; last = [] }
 
--- rows are what the parts behind each point cost at least
+-- rows are no more than what the parts behind each point cost
 abbrev pub AreLegsBehind : Tariff → Itinerary → List LegRows → Type 0
 AreLegsBehind tariff trip rows =
     (i : ℕ) → i < count trip → AreLegsOf tariff trip (begin_after trip i) (slice_index_or rows i no_legs)

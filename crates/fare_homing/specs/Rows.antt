@@ -27,16 +27,17 @@ closing_from homing c i j = cell (slice_index_or homing.standing c no_standing).
 abbrev pub jaw_from : Homing → ℕ → ℕ → ℕ → Option ℕ
 jaw_from homing c i j = cell (slice_index_or homing.standing c no_standing).jaw i j
 
--- the numbers of a trip are what its parts cost at least, and its lonely fares have rules that combine with no fare of
--- their own
-pub record AreHomingsOf (tariff : Tariff) (trip : Itinerary) (homing : Homing) : Type 0 where
-  pub known : AreHomings tariff trip (closing_from homing) (jaw_from homing) (cell homing.whole) (rest_at homing.rest)
-  pub lonely : AreLonely tariff homing.lonely
-
 -- the countries of the points of a trip
 abbrev pub AreCountries : Tariff → Itinerary → List (Option Country) → Type 0
 AreCountries tariff trip countries =
     (i : ℕ) → i ≤ count trip → slice_index_or countries i None ≡ country tariff (point trip i)
+
+-- the numbers of a trip are no more than what its parts cost, its countries are those of its points, and its lonely
+-- fares have rules that combine with no fare of their own
+pub record AreHomingsOf (tariff : Tariff) (trip : Itinerary) (homing : Homing) : Type 0 where
+  pub known : AreHomings tariff trip (closing_from homing) (jaw_from homing) (cell homing.whole) (rest_at homing.rest)
+  pub countries : AreCountries tariff trip homing.countries
+  pub lonely : AreLonely tariff homing.lonely
 
 -- the country of a point among those of a trip's points
 abbrev pub country_at : List (Option Country) → ℕ → Option Country

@@ -5,13 +5,16 @@ ghost use Rattle.fare_trip.specs.Itinerary.{count};
 ghost use Rattle.fare_bounds.specs.Covers.{rest_at};
 ghost use Rattle.fare_homing.specs.Homing.{IsUpTo, is_same_city};
 ghost use Rattle.fare_rules.specs.Shape.{is_same_country};
-ghost use Rattle.fare_homing.specs.Rows.{closing_from, country_at, heads_in, step_to};
+ghost use Rattle.fare_rules.specs.Construction.{begin_after};
+ghost use Rattle.fare_homing.specs.Legs.{AreLegsBehind, AreLegsOf};
+ghost use Rattle.fare_homing.specs.Rows.{closing_from, country_at, heads_in, step_to, AreCountries};
 
+use crate::floor::{Floor, NOTHING, added, lesser, number_at};
 use crate::homing::{Homing, closing_from};
 use crate::legs::LegRows;
-use crate::reaching::added;
-use fare_bounds::lesser;
+use fare_bounds::begin_after;
 use fare_codes::Country;
+use fare_component::Table;
 use fare_rules::MOST_POINTS;
 use fare_trip::Trip;
 use fare_units::is_same_country;
@@ -23,6 +26,30 @@ pub(crate) struct Start<'a> {
     pub(crate) legs: &'a LegRows,
     /// The countries of the points of the trip.
     pub(crate) countries: &'a [Option<Country>; MOST_POINTS],
+}
+
+/// The start behind a point, of those of a trip.
+pub(crate) fn start_at<'a>(
+    table: &Table,
+    legs: &'a [LegRows; MOST_POINTS],
+    countries: &'a [Option<Country>; MOST_POINTS],
+    i: usize,
+) -> Start<'a>
+    requires within { i < count table.now.trip }
+    requires countries { AreCountries table.now.edition table.now.trip countries.now }
+    requires legs { AreLegsBehind table.now.edition table.now.trip legs.now }
+    ensures point { result.point ≡ begin_after table.now.trip i }
+    ensures inside { result.point ≤ count table.now.trip }
+    ensures countries { AreCountries table.now.edition table.now.trip result.countries.now }
+    ensures legs { AreLegsOf table.now.edition table.now.trip result.point result.legs.now }
+{
+    let trip = table.trip();
+    let _sectors = trip.count();
+    Start {
+        point: begin_after(trip, i),
+        legs: &legs[i],
+        countries,
+    }
 }
 
 /// Whether two points lie in one country.
@@ -46,7 +73,7 @@ fn heads_in(countries: &[Option<Country>; MOST_POINTS], a: usize, b: usize, home
 }
 
 /// What a part between costs at least that ends at a point, where its unit closes at another.
-fn step_to(start: &Start, home: usize, b: usize) -> Option<u64>
+fn step_to(start: &Start, home: usize, b: usize) -> Floor
     requires point { start.now.point < MOST_POINTS }
     requires home { home < MOST_POINTS }
     requires end { b < MOST_POINTS }
@@ -54,15 +81,15 @@ fn step_to(start: &Start, home: usize, b: usize) -> Option<u64>
         (rest_at start.now.legs.now.last) home b }
 {
     if heads_in(start.countries, start.point, b, home) {
-        start.legs.last[b]
+        number_at(&start.legs.last, b)
     } else {
-        start.legs.first[b]
+        number_at(&start.legs.first, b)
     }
 }
 
 /// The least of all parts between that end before a point, elsewhere than in its city, with what is behind them until
 /// their unit closes there.
-fn reach_between(trip: &Trip, homing: &Homing, start: &Start, i: usize, home: usize) -> Option<u64>
+fn reach_between(trip: &Trip, homing: &Homing, start: &Start, i: usize, home: usize) -> Floor
     requires point { start.now.point < MOST_POINTS }
     requires rises { i < home }
     requires within { home ≤ count trip.now }
@@ -73,7 +100,7 @@ fn reach_between(trip: &Trip, homing: &Homing, start: &Start, i: usize, home: us
 {
     let sectors = trip.count();
     prove!(home <= sectors);
-    let mut least = None;
+    let mut least = NOTHING;
     for b in i + 1..home {
         if trip.point(b).is(trip.point(home)) {
             continue;
@@ -90,8 +117,8 @@ pub(crate) fn with_between(
     homing: &Homing,
     start: &Start,
     i: usize,
-    row: &[Option<u64>; MOST_POINTS],
-) -> [Option<u64>; MOST_POINTS]
+    row: &[Floor; MOST_POINTS],
+) -> [Floor; MOST_POINTS]
     requires point { start.now.point < MOST_POINTS }
     requires rises { i < count trip.now }
     ensures kept { (j most : ℕ) → IsUpTo most (rest_at row.now j) → IsUpTo most (rest_at result j) }
@@ -103,7 +130,10 @@ pub(crate) fn with_between(
     let count = trip.count();
     let mut least = *row;
     for j in i + 1..count + 1 {
-        least[j] = lesser(least[j], reach_between(trip, homing, start, i, j));
+        least[j] = lesser(
+            number_at(&least, j),
+            reach_between(trip, homing, start, i, j),
+        );
     }
     least
 }

@@ -1,17 +1,20 @@
 //! Homing: what the parts behind a point of a trip cost at least until a unit comes home, at each later point.
 
-ghost use Rattle.std.specs.Prelude.{◌≡◌, ◌<◌, Some};
+ghost use Rattle.std.specs.Prelude.{◌≡◌, ◌<◌, ◌≤◌, Some, slice_index_or};
+ghost use Rattle.fare_trip.specs.Itinerary.{count, point};
 ghost use Rattle.fare_bounds.specs.Covers.{rest_at};
-ghost use Rattle.fare_homing.specs.Rows.{cell, closing_from, jaw_from, AreHomingsOf};
+ghost use Rattle.fare_homing.specs.Homing.{are_near};
+ghost use Rattle.fare_homing.specs.Rows.{cell, closing_from, jaw_from, no_standing, AreHomingsOf};
 
-use crate::between::Start;
+use crate::between::{lie_together, start_at};
+use crate::floor::{Floor, NOTHING, number_at};
 use crate::legs::legs_behind;
 use crate::lonely::{MOST_LONELY, lonely_fares};
 use crate::nearness::countries_of;
 use crate::reaching::least_onward;
 use crate::standing::standing_at;
 use crate::whole::wholes_at;
-use fare_bounds::begin_after;
+use fare_codes::Country;
 use fare_component::Table;
 use fare_rules::MOST_POINTS;
 
@@ -20,9 +23,9 @@ use fare_rules::MOST_POINTS;
 pub struct Standing {
     /// Until it closes, in the city where it began: by the point behind which its next part comes, and that where it
     /// ends.
-    pub closing: [[Option<u64>; MOST_POINTS]; MOST_POINTS],
+    pub closing: [[Floor; MOST_POINTS]; MOST_POINTS],
     /// Until it ends as an open jaw, where it has one part so far.
-    pub jaw: [[Option<u64>; MOST_POINTS]; MOST_POINTS],
+    pub jaw: [[Floor; MOST_POINTS]; MOST_POINTS],
 }
 
 /// What is behind each point of a trip at least.
@@ -31,71 +34,101 @@ pub struct Homing {
     /// Until a unit comes home, by the point in whose city it stands.
     pub standing: [Standing; MOST_POINTS],
     /// One whole unit: by the point behind which it begins and that where it ends.
-    pub whole: [[Option<u64>; MOST_POINTS]; MOST_POINTS],
+    pub whole: [[Floor; MOST_POINTS]; MOST_POINTS],
     /// All that is behind the point, where no unit is open.
-    pub rest: [Option<u64>; MOST_POINTS],
+    pub rest: [Floor; MOST_POINTS],
+    /// The country of each point of the trip.
+    pub countries: [Option<Country>; MOST_POINTS],
     /// The record number of one fare of each rule that doesn't combine end on end with itself, of the one way fares: of
     /// as many rules as are told apart; 0 at the places that are free.
     pub lonely: [u32; MOST_LONELY],
 }
 
-/// A number of a row by its point.
-pub fn number_at(row: &[Option<u64>; MOST_POINTS], j: usize) -> Option<u64>
-    ensures { result ≡ rest_at row.now j }
-{
-    if j < MOST_POINTS { row[j] } else { None }
-}
-
 /// A number by its two points.
-pub fn cell(rows: &[[Option<u64>; MOST_POINTS]; MOST_POINTS], i: usize, j: usize) -> Option<u64>
+pub fn cell(rows: &[[Floor; MOST_POINTS]; MOST_POINTS], i: usize, j: usize) -> Floor
     ensures { result ≡ cell rows.now i j }
 {
     if i < MOST_POINTS {
         number_at(&rows[i], j)
     } else {
-        None
+        NOTHING
+    }
+}
+
+/// A number of one of some standings until a unit closes.
+fn closing_in(standings: &[Standing; MOST_POINTS], stand: usize, i: usize, home: usize) -> Floor
+    ensures { result ≡ cell (slice_index_or standings.now stand no_standing).closing i home }
+{
+    if stand < MOST_POINTS {
+        cell(&standings[stand].closing, i, home)
+    } else {
+        NOTHING
+    }
+}
+
+/// The same until it ends as an open jaw.
+fn jaw_in(standings: &[Standing; MOST_POINTS], stand: usize, i: usize, home: usize) -> Floor
+    ensures { result ≡ cell (slice_index_or standings.now stand no_standing).jaw i home }
+{
+    if stand < MOST_POINTS {
+        cell(&standings[stand].jaw, i, home)
+    } else {
+        NOTHING
     }
 }
 
 /// What is behind a point until a unit that stands in the city of another closes at a third.
-pub fn closing_from(homing: &Homing, stand: usize, i: usize, home: usize) -> Option<u64>
+pub fn closing_from(homing: &Homing, stand: usize, i: usize, home: usize) -> Floor
     ensures { result ≡ closing_from homing.now stand i home }
 {
-    if stand < MOST_POINTS {
-        cell(&homing.standing[stand].closing, i, home)
-    } else {
-        None
-    }
+    closing_in(&homing.standing, stand, i, home)
 }
 
 /// The same until it ends there as an open jaw.
-pub fn jaw_from(homing: &Homing, stand: usize, i: usize, home: usize) -> Option<u64>
+pub fn jaw_from(homing: &Homing, stand: usize, i: usize, home: usize) -> Floor
     ensures { result ≡ jaw_from homing.now stand i home }
 {
-    if stand < MOST_POINTS {
-        cell(&homing.standing[stand].jaw, i, home)
-    } else {
-        None
-    }
+    jaw_in(&homing.standing, stand, i, home)
 }
 
-/// The numbers of a trip with its lonely fares, of which no other is known but that nothing is behind the end.
-fn unknown(count: usize, lonely: [u32; MOST_LONELY]) -> Homing
+/// Whether two points of a trip are in one city, or in one country.
+pub fn lie_near(table: &Table, homing: &Homing, a: usize, b: usize) -> bool
+    requires homing { AreHomingsOf table.now.edition table.now.trip homing.now }
+    requires first { a ≤ count table.now.trip }
+    requires second { b ≤ count table.now.trip }
+    ensures { result ≡ are_near table.now.edition (point table.now.trip a) (point table.now.trip b) }
+{
+    let trip = table.trip();
+    let count = trip.count();
+    prove!(a <= count);
+    prove!(b <= count);
+    trip.point(a).is(trip.point(b)) || lie_together(&homing.countries, a, b)
+}
+
+/// The numbers of a trip with the countries of its points and its lonely fares, of which no other is known but that
+/// nothing is behind the end.
+fn unknown(
+    count: usize,
+    countries: [Option<Country>; MOST_POINTS],
+    lonely: [u32; MOST_LONELY],
+) -> Homing
     requires { count < MOST_POINTS }
     ensures end { rest_at result.rest count ≡ Some 0 }
+    ensures countries { result.countries ≡ countries }
     ensures lonely { result.lonely ≡ lonely }
 {
-    let rows = [[None; MOST_POINTS]; MOST_POINTS];
+    let rows = [[NOTHING; MOST_POINTS]; MOST_POINTS];
     let none = Standing {
         closing: rows,
         jaw: rows,
     };
-    let mut rest = [None; MOST_POINTS];
-    rest[count] = Some(0);
+    let mut rest = [NOTHING; MOST_POINTS];
+    rest[count] = Floor::of(Some(0));
     Homing {
         standing: [none; MOST_POINTS],
         whole: rows,
         rest,
+        countries,
         lonely,
     }
 }
@@ -106,19 +139,14 @@ pub fn homing_of(table: &Table) -> Homing
 {
     let trip = table.trip();
     let count = trip.count();
-    let countries = countries_of(table);
     let legs = legs_behind(table);
-    let mut homing = unknown(count, lonely_fares(table));
+    let mut homing = unknown(count, countries_of(table), lonely_fares(table));
     for c in (0..count).rev() {
-        let start = Start {
-            point: begin_after(trip, c),
-            legs: &legs[c],
-            countries: &countries,
-        };
+        let start = start_at(table, &legs, &homing.countries, c);
         let whole = wholes_at(table, &homing, &start, c);
         homing.whole[c] = whole;
         homing.rest[c] = least_onward(&whole, &homing.rest, c, count + 1);
-        let standing = standing_at(table, &countries, &legs, &homing, c);
+        let standing = standing_at(table, &homing.countries, &legs, &homing, c);
         homing.standing[c] = standing;
     }
     homing

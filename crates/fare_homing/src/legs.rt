@@ -7,7 +7,8 @@ ghost use Rattle.fare_bounds.specs.Covers.{hundredths_of};
 ghost use Rattle.fare_homing.specs.Homing.{half_cost, single_cost};
 ghost use Rattle.fare_homing.specs.Legs.{AreLeastOf, AreLegsBehind, AreLegsOf};
 
-use fare_bounds::{begin_after, lesser};
+use crate::floor::{Floor, NOTHING, lesser};
+use fare_bounds::begin_after;
 use fare_component::{Amount, Entry, Table};
 use fare_rules::MOST_POINTS;
 
@@ -15,27 +16,27 @@ use fare_rules::MOST_POINTS;
 #[derive(Clone, Copy)]
 struct Least {
     /// A one way fare, alone in it.
-    alone: Option<u64>,
+    alone: Floor,
     /// The first of its parts.
-    first: Option<u64>,
+    first: Floor,
     /// The last of its parts.
-    last: Option<u64>,
+    last: Floor,
 }
 
 /// What the parts from a point cost at least, by the points where they end, for each that a part is in its unit.
 #[derive(Clone, Copy)]
 pub(crate) struct LegRows {
     /// A one way fare, alone in it.
-    pub(crate) alone: [Option<u64>; MOST_POINTS],
+    pub(crate) alone: [Floor; MOST_POINTS],
     /// The first of its parts.
-    pub(crate) first: [Option<u64>; MOST_POINTS],
+    pub(crate) first: [Floor; MOST_POINTS],
     /// The last of its parts.
-    pub(crate) last: [Option<u64>; MOST_POINTS],
+    pub(crate) last: [Floor; MOST_POINTS],
 }
 
 impl LegRows {
     /// What the last part of a unit costs at least, by the points where it ends.
-    pub(crate) fn last_row(&self) -> [Option<u64>; MOST_POINTS]
+    pub(crate) fn last_row(&self) -> [Floor; MOST_POINTS]
         ensures { result ≡ self.now.last }
     {
         self.last
@@ -78,9 +79,9 @@ fn lesser_with(least: Least, entry: &Entry) -> Least
     ensures { (entries : List Entry) → AreLeastOf entries least → AreLeastOf (entries ++ entry.now ∷ []) result }
 {
     Least {
-        alone: lesser(least.alone, single_cost(entry)),
-        first: lesser(least.first, half_cost(entry, &entry.out)),
-        last: lesser(least.last, half_cost(entry, &entry.back)),
+        alone: lesser(least.alone, Floor::of(single_cost(entry))),
+        first: lesser(least.first, Floor::of(half_cost(entry, &entry.out))),
+        last: lesser(least.last, Floor::of(half_cost(entry, &entry.back))),
     }
 }
 
@@ -89,9 +90,9 @@ fn cheapest(entries: &[Entry]) -> Least
     ensures { AreLeastOf entries.now result }
 {
     let mut least = Least {
-        alone: None,
-        first: None,
-        last: None,
+        alone: NOTHING,
+        first: NOTHING,
+        last: NOTHING,
     };
     for entry in entries {
         least = lesser_with(least, entry);
@@ -105,7 +106,7 @@ fn legs(table: &Table, a: usize) -> LegRows
     ensures { AreLegsOf table.now.edition table.now.trip a result }
 {
     let count = table.trip().count();
-    let none = [None; MOST_POINTS];
+    let none = [NOTHING; MOST_POINTS];
     let mut legs = LegRows {
         alone: none,
         first: none,
@@ -126,9 +127,9 @@ pub(crate) fn legs_behind(table: &Table) -> [LegRows; MOST_POINTS]
 {
     let trip = table.trip();
     let none = LegRows {
-        alone: [None; MOST_POINTS],
-        first: [None; MOST_POINTS],
-        last: [None; MOST_POINTS],
+        alone: [NOTHING; MOST_POINTS],
+        first: [NOTHING; MOST_POINTS],
+        last: [NOTHING; MOST_POINTS],
     };
     let mut rows = [none; MOST_POINTS];
     for i in 0..trip.count() {

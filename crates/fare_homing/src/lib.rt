@@ -1,6 +1,7 @@
 //! Homing: what the parts behind each point of a trip cost at least until a pricing unit comes home there, since what
 //! begins must also end. No call takes memory.
 //!
+//! - `floor`: what something costs at least, and the sum and the lesser of two;
 //! - `nearness`: which cities lie near each other, and the countries of a trip's points;
 //! - `reaching`: the least by which a point is reached, over steps to the points before it;
 //! - `legs`: what the parts from a point cost at least, by what a part is in its unit;
@@ -15,6 +16,7 @@
 #![tactic(auto)]
 
 mod between;
+mod floor;
 mod homing;
 mod legs;
 mod lonely;
@@ -24,8 +26,8 @@ mod reaching;
 mod standing;
 mod whole;
 
-pub use homing::{Homing, Standing, cell, closing_from, homing_of, jaw_from, number_at};
+pub use floor::{Floor, GREATEST_FLOOR, NOTHING, added, greater, lesser, number_at, paid_with};
+pub use homing::{Homing, Standing, cell, closing_from, homing_of, jaw_from, lie_near};
 pub use lonely::{MOST_LONELY, is_rule_of, rule_at};
 pub use nearness::are_near;
 pub use pairs::day_behind;
-pub use reaching::added;

@@ -10,11 +10,11 @@ ghost use Rattle.fare_homing.specs.HomingRows.{AreClosings, AreJaws};
 ghost use Rattle.fare_homing.specs.Legs.{AreLegsBehind, AreLegsOf};
 ghost use Rattle.fare_homing.specs.Rows.{cell, closing_from, AreCountries};
 
-use crate::between::{Start, lie_together, with_between};
+use crate::between::{Start, lie_together, start_at, with_between};
+use crate::floor::{Floor, NOTHING};
 use crate::homing::{Homing, Standing};
 use crate::legs::LegRows;
 use crate::reaching::lowered_by;
-use fare_bounds::begin_after;
 use fare_codes::Country;
 use fare_component::Table;
 use fare_rules::MOST_POINTS;
@@ -47,13 +47,13 @@ fn may_go_on(
 }
 
 /// What the last part of a unit costs by where it ends, where it may begin; nothing where it may not.
-fn last_row(may: bool, start: &Start) -> [Option<u64>; MOST_POINTS]
+fn last_row(may: bool, start: &Start) -> [Floor; MOST_POINTS]
     ensures { may ≡ true → (j x : ℕ) → IsUpTo x (rest_at start.now.legs.now.last j) → IsUpTo x (rest_at result j) }
 {
     if may {
         start.legs.last_row()
     } else {
-        [None; MOST_POINTS]
+        [NOTHING; MOST_POINTS]
     }
 }
 
@@ -62,9 +62,9 @@ fn closings_at(
     table: &Table,
     homing: &Homing,
     start: &Start,
-    stays: &[[Option<u64>; MOST_POINTS]; MOST_POINTS],
+    stays: &[[Floor; MOST_POINTS]; MOST_POINTS],
     unit: GoingOn,
-) -> [Option<u64>; MOST_POINTS]
+) -> [Floor; MOST_POINTS]
     requires point { start.now.point ≡ begin_after table.now.trip unit.i }
     requires inside { start.now.point ≤ count table.now.trip }
     requires stand { unit.stand ≤ unit.i }
@@ -93,9 +93,9 @@ fn jaws_at(
     table: &Table,
     homing: &Homing,
     start: &Start,
-    stays: &[[Option<u64>; MOST_POINTS]; MOST_POINTS],
+    stays: &[[Floor; MOST_POINTS]; MOST_POINTS],
     unit: GoingOn,
-) -> [Option<u64>; MOST_POINTS]
+) -> [Floor; MOST_POINTS]
     requires inside { start.now.point ≤ count table.now.trip }
     requires point { start.now.point ≡ begin_after table.now.trip unit.i }
     requires stand { unit.stand ≤ unit.i }
@@ -129,17 +129,13 @@ pub(crate) fn standing_at(
         (cell homing.now.whole i) (cell result.jaw) stand i (cell result.jaw i) }
 {
     let trip = table.trip();
-    let rows = [[None; MOST_POINTS]; MOST_POINTS];
+    let rows = [[NOTHING; MOST_POINTS]; MOST_POINTS];
     let mut standing = Standing {
         closing: rows,
         jaw: rows,
     };
     for i in (stand..trip.count()).rev() {
-        let start = Start {
-            point: begin_after(trip, i),
-            legs: &legs[i],
-            countries,
-        };
+        let start = start_at(table, legs, countries, i);
         let unit = GoingOn { stand, i };
         let closing = closings_at(table, homing, &start, &standing.closing, unit);
         let jaw = jaws_at(table, homing, &start, &standing.jaw, unit);

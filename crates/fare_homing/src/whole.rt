@@ -11,31 +11,24 @@ ghost use Rattle.fare_homing.specs.Pairs.{HasPair};
 ghost use Rattle.fare_homing.specs.Rows.{closing_from, jaw_from, AreCountries};
 
 use crate::between::{Start, lie_together};
+use crate::floor::{Floor, NOTHING, added, lesser, number_at};
 use crate::homing::{Homing, closing_from, jaw_from};
 use crate::pairs::{Pairing, least_pair};
-use crate::reaching::added;
-use fare_bounds::lesser;
 use fare_component::Table;
 use fare_rules::MOST_POINTS;
 
 /// What one unit costs at least that begins at a point and ends at another: one part alone, or half round trips, by
 /// what they cost at least and by the first and the last of them.
-fn with_half(
-    table: &Table,
-    start: usize,
-    home: usize,
-    half: Option<u64>,
-    alone: Option<u64>,
-) -> Option<u64>
+fn with_half(table: &Table, start: usize, home: usize, half: Floor, alone: Floor) -> Floor
     requires home { home ≤ count table.now.trip }
     ensures alone { (most : ℕ) → IsUpTo most alone → IsUpTo most result }
     ensures half { (most cost : ℕ) → IsUpTo most half → most ≤ cost
         → HasPair table.now.edition table.now.trip start home cost → IsUpTo cost result }
 {
-    let Some(floor) = half else {
+    let Some(floor) = half.amount() else {
         return alone;
     };
-    if start >= table.trip().count() || alone.unwrap_or(u64::MAX) <= floor {
+    if start >= table.trip().count() || alone.amount().unwrap_or(u64::MAX) <= floor {
         return lesser(alone, half);
     }
     let pairing = Pairing {
@@ -44,11 +37,11 @@ fn with_half(
         home,
         floor,
     };
-    lesser(alone, least_pair(&pairing))
+    lesser(alone, Floor::of(least_pair(&pairing)))
 }
 
 /// What is behind a first part that ends at a point until its unit ends at another: it closes there, or is an open jaw.
-fn behind_first(homing: &Homing, closes: bool, b: usize, home: usize) -> Option<u64>
+fn behind_first(homing: &Homing, closes: bool, b: usize, home: usize) -> Floor
     ensures { result ≡ (if closes then closing_from homing.now b b home else jaw_from homing.now b b home) }
 {
     if closes {
@@ -61,28 +54,27 @@ fn behind_first(homing: &Homing, closes: bool, b: usize, home: usize) -> Option<
 /// What a unit of half round trips costs at least by its first part, with what is then behind that.
 fn reach_first(
     homing: &Homing,
-    first: &[Option<u64>; MOST_POINTS],
+    first: &[Floor; MOST_POINTS],
     closes: bool,
     i: usize,
     home: usize,
-) -> Option<u64>
+) -> Floor
     requires rises { i < home }
     requires within { home < MOST_POINTS }
     ensures { (b x y : ℕ) → i < b → b < home → IsUpTo x (rest_at first.now b) → IsUpTo y (if closes
         then closing_from homing.now b b home else jaw_from homing.now b b home) → IsUpTo (x + y) result }
 {
-    let mut least = None;
+    let mut least = NOTHING;
     for b in i + 1..home {
-        least = lesser(
-            least,
-            added(first[b], behind_first(homing, closes, b, home)),
-        );
+        let step = number_at(first, b);
+        let behind = behind_first(homing, closes, b, home);
+        least = lesser(least, added(step, behind));
     }
     least
 }
 
 /// What one unit costs at least that begins behind a point and ends at another.
-fn whole_to(table: &Table, homing: &Homing, start: &Start, i: usize, home: usize) -> Option<u64>
+fn whole_to(table: &Table, homing: &Homing, start: &Start, i: usize, home: usize) -> Floor
     requires point { start.now.point ≡ begin_after table.now.trip i }
     requires inside { start.now.point ≤ count table.now.trip }
     requires rises { i < home }
@@ -100,7 +92,7 @@ fn whole_to(table: &Table, homing: &Homing, start: &Start, i: usize, home: usize
     let count = trip.count();
     prove!(home <= count);
     prove!(start.point <= count);
-    let alone = start.legs.alone[home];
+    let alone = number_at(&start.legs.alone, home);
     let closes = trip.point(home).is(trip.point(start.point));
     if !closes && !lie_together(start.countries, home, start.point) {
         return alone;
@@ -115,7 +107,7 @@ pub(crate) fn wholes_at(
     homing: &Homing,
     start: &Start,
     i: usize,
-) -> [Option<u64>; MOST_POINTS]
+) -> [Floor; MOST_POINTS]
     requires point { start.now.point ≡ begin_after table.now.trip i }
     requires inside { start.now.point ≤ count table.now.trip }
     requires within { i < count table.now.trip }
@@ -125,7 +117,7 @@ pub(crate) fn wholes_at(
         (rest_at result) }
 {
     let count = table.trip().count();
-    let mut row = [None; MOST_POINTS];
+    let mut row = [NOTHING; MOST_POINTS];
     for home in i + 1..count + 1 {
         row[home] = whole_to(table, homing, start, i, home);
     }

@@ -1,13 +1,11 @@
--- the rows of the units so far, and what is over these
-use Rattle.std.proofs.Common.{◌≡◌, ℕ, ◌-◌, ◌<◌, ◌≤◌, [], length}
+-- the rows of the units so far
+use Rattle.std.proofs.Common.{◌≡◌, ℕ, ◌<◌, ◌≤◌, [], length}
 use Rattle.std.specs.Prelude.{slice_index_or}
 use Rattle.fare_branch.specs.Ahead.{AreBehindHalf}
-use Rattle.fare_branch.specs.Stack.{AreOver}
 use Rattle.fare_branch.proofs.ahead.ahead_of.Given as goal
 
 abbrev pub invariant-loop-unit : goal.invariant-loop-unit
 invariant-loop-unit l = record {
   long : length l.half ≡ 18;
   rows : (unit : ℕ) → 1 ≤ unit → unit < l.unit → AreBehindHalf l.table l.homing l.front unit (slice_index_or l.half unit []);
-  over : AreOver l.table l.homing l.front (l.unit - 1) l.alone;
 }

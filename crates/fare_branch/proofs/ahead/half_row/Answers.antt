@@ -9,10 +9,11 @@ use Rattle.fare_branch.proofs.ahead.half_row.Goals as goal
 pub loop-i-preserved : goal.loop-i-preserved
 loop-i-preserved c =
     let P : ℕ → Option ℕ → Type 0 = λ i number. IsOverOpen c.trip-trip.result.now c.args.homing.now (i + 1) i c.args.start (must_go_from c.args.table.now.edition c.args.table.now.trip c.args.start c.args.begun i) i c.homes_of-homes.result (rest_at c.args.below.now i) number in
-    let Q : Bool → Type 0 = λ must. IsOverOpen c.trip-trip.result.now c.args.homing.now (c.loop-i.i + 1) c.loop-i.i c.args.start must c.loop-i.i c.homes_of-homes.result (rest_at c.args.below.now c.loop-i.i) c.over_point.result in
+    let Q : Bool → Type 0 = λ must. IsOverOpen c.trip-trip.result.now c.args.homing.now (c.loop-i.i + 1) c.loop-i.i c.args.start must c.loop-i.i c.homes_of-homes.result c.number_at-behind.result c.over_point.result in
+    let R : Option ℕ → Type 0 = λ behind. IsOverOpen c.trip-trip.result.now c.args.homing.now (c.loop-i.i + 1) c.loop-i.i c.args.start (must_go_from c.args.table.now.edition c.args.table.now.trip c.args.start c.args.begun c.loop-i.i) c.loop-i.i c.homes_of-homes.result behind c.over_point.result in
     record {
       long = length-set c.loop-i.row c.loop-i.i c.over_point.result ∙ c.loop-i.invariant.long;
-      known = row_put P c.loop-i.row c.args.from c.loop-i.i c.over_point.result (omega (arith, c.loop-i.invariant.long)) c.loop-i.invariant.known (subst Q c.must_go_from.ensures c.over_point.ensures);
+      known = row_put P c.loop-i.row c.args.from c.loop-i.i c.over_point.result (omega (arith, c.loop-i.invariant.long)) c.loop-i.invariant.known (subst R c.number_at-behind.ensures (subst Q c.must_go_from.ensures c.over_point.ensures));
     }
 
 pub returns : goal.returns

@@ -5,6 +5,7 @@ use Rattle.std.proofs.lemmas.List.{get_or-set_same, get_or-set_other}
 use Rattle.fare_trip.specs.Itinerary.{count}
 use Rattle.fare_component.proofs.LawLemmas.{entry_is_of_fare}
 use Rattle.fare_bounds.specs.Covers.{rest_at}
+use Rattle.fare_homing.specs.Homing.{IsUpTo}
 use Rattle.fare_branch.specs.LastParts.{IsUnderLasts}
 use Rattle.fare_branch.proofs.lasting.lasts_of.Goals as goal
 
@@ -30,7 +31,7 @@ loop-s-preserved c =
                 elim (cases_eq s (c.loop-s.s - 1)) [
                   | inl first ↦ (let R : ℕ → Type 0 = λ j. Under j c.least_from.result in subst R (sym first) c.least_from.ensures.lasts)
                   | inr later ↦ λ home behind entry stands there cost e may.
-                      c.least_from.ensures.kept _ (c.loop-s.invariant.known (c.loop-s.s - 1 + 1) s (omega arith) (omega arith) home behind entry stands there cost e may)
+                      c.least_from.ensures.kept (cost + behind) (subst (IsUpTo (cost + behind)) (sym c.number_at-later.ensures) (c.loop-s.invariant.known (c.loop-s.s - 1 + 1) s (omega arith) (omega arith) home behind entry stands there cost e may))
                 ] in
                 subst Q (sym same) (subst (Under s) (sym (get_or-set_same c.loop-s.row (c.loop-s.s - 1) c.least_from.result None (omega (arith, c.loop-s.invariant.long)))) here)
             | inr other ↦ subst (Under s) (sym (get_or-set_other c.loop-s.row (c.loop-s.s - 1) i c.least_from.result None other)) (c.loop-s.invariant.known i s (omega arith) le)

@@ -20,7 +20,7 @@ loop-home-init c = record {
 
 pub loop-home-preserved : goal.loop-home-preserved
 loop-home-preserved c =
-    elim c.match-homes-home.branch [
+    elim c.match-amount.branch [
       | in-Some w ↦ rw w.least-is (record {
         kept = λ most up. w.least_over-least.ensures.kept most (c.loop-home.invariant.kept most up);
         lasts = λ home behind entry less stands there.
@@ -29,7 +29,7 @@ loop-home-preserved c =
                   let S : ℕ → Type 0 = λ j. rest_at c.args.homes.now j ≡ Some behind in
                   let C : ℕ → Type 0 = λ j. Contains (entries_of c.args.going.now.table.now.edition c.args.going.now.table.now.trip c.args.s j) entry in
                   let T : ℕ → ℕ → Type 0 = λ j b. IsUnderLast c.args.going.now.table.now c.args.going.now.front.now c.args.going.now.unit c.args.s j b entry w.least_over-least.result in
-                  let is_behind : w.in-Some.behind ≡ behind = same_Some w.in-Some.behind behind (sym w.in-Some.is ∙ subst S same stands) in
+                  let is_behind : w.in-Some.behind ≡ behind = same_Some w.in-Some.behind behind (sym w.in-Some.is ∙ c.amount.ensures ∙ c.number_at.ensures ∙ subst S same stands) in
                   let here : T c.loop-home.home w.in-Some.behind = w.least_over-least.ensures.lasts entry (subst C same there) in
                   let there_too : T c.loop-home.home behind = subst (T c.loop-home.home) is_behind here in
                   let U : ℕ → Type 0 = λ j. T j behind in
@@ -43,7 +43,7 @@ loop-home-preserved c =
             elim (cases_eq home c.loop-home.home) [
               | inl same ↦
                   let S : ℕ → Type 0 = λ j. rest_at c.args.homes.now j ≡ Some behind in
-                  absurd (w.in_default.not-Some behind (subst S same stands))
+                  absurd (w.in_default.not-Some behind (c.amount.ensures ∙ c.number_at.ensures ∙ subst S same stands))
               | inr other ↦ c.loop-home.invariant.lasts home behind entry (omega arith) stands there
             ];
       })

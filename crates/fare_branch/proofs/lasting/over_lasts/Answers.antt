@@ -15,8 +15,8 @@ loop-i-preserved c =
     let within : c.loop-i.i < 17 = omega arith in
     let P : Option ℕ → Type 0 = λ number. (most : ℕ) → IsUpTo most (rest_at c.loop-i.row c.loop-i.i) → IsUpTo most number in
     let Q : Option ℕ → Type 0 = λ number. (most : ℕ) → IsUpTo most (rest_at c.args.behind.now c.loop-i.i) → IsUpTo most number in
-    let kept = subst P (sym c.lesser.ensures) (λ most up. up_first (rest_at c.loop-i.row c.loop-i.i) (rest_at c.args.behind.now c.loop-i.i) most up) in
-    let more = subst Q (sym c.lesser.ensures) (λ most up. up_second (rest_at c.loop-i.row c.loop-i.i) (rest_at c.args.behind.now c.loop-i.i) most up) in
+    let kept = subst P (sym c.lesser.ensures) (λ most up. up_first c.number_at-last.result c.number_at-whole.result most (subst (IsUpTo most) (sym c.number_at-last.ensures) up)) in
+    let more = subst Q (sym c.lesser.ensures) (λ most up. up_second c.number_at-last.result c.number_at-whole.result most (subst (IsUpTo most) (sym c.number_at-whole.ensures) up)) in
     record {
       long = length-set row p c.lesser.result ∙ c.loop-i.invariant.long;
       lasts = λ i s low le home behind entry there contains cost e may.

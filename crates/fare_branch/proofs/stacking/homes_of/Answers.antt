@@ -13,8 +13,8 @@ loop-home-preserved c =
     let P : ℕ → Option ℕ → Type 0 = λ home number. may_come_to c.args.table.now.edition c.args.table.now.trip c.args.opened.start c.args.opened.closes home ≡ true → number ≡ rest_at c.args.behind.now home in
     elim c.if-may_come_to.branch [
       | then-may_come_to w ↦ rw w.homes-is (record {
-        long = length-set c.loop-home.homes c.loop-home.home (rest_at c.args.behind.now c.loop-home.home) ∙ c.loop-home.invariant.long;
-        known = row_put P c.loop-home.homes c.args.from c.loop-home.home (rest_at c.args.behind.now c.loop-home.home) (omega (arith, c.loop-home.invariant.long)) c.loop-home.invariant.known (λ t. refl);
+        long = length-set c.loop-home.homes c.loop-home.home w.number_at.result ∙ c.loop-home.invariant.long;
+        known = row_put P c.loop-home.homes c.args.from c.loop-home.home w.number_at.result (omega (arith, c.loop-home.invariant.long)) c.loop-home.invariant.known (λ t. w.number_at.ensures);
       })
       | else-may_come_to w ↦ rw w.homes-is (record {
         long = c.loop-home.invariant.long;

@@ -8,37 +8,37 @@ use Rattle.fare_branch.proofs.StepLemmas.{EndsFrom, HasEntry}
 use Rattle.fare_branch.proofs.walking.+walk.Given as goal
 
 abbrev pub decreases-walk : goal.decreases-walk
-decreases-walk g l = 6 * (count l.table.now.trip - end_of l.front.now (length l.front.now)) + 5
+decreases-walk g l = 6 * (count l.stage.now.table.now.trip - end_of l.stage.now.front.now (length l.stage.now.front.now)) + 5
 
 abbrev pub decreases-walk_ends : goal.decreases-walk_ends
-decreases-walk_ends g l = 6 * (count l.table.now.trip - end_of l.front.now (length l.front.now)) + 4
+decreases-walk_ends g l = 6 * (count l.stage.now.table.now.trip - end_of l.stage.now.front.now (length l.stage.now.front.now)) + 4
 
 abbrev pub decreases-walk_entries : goal.decreases-walk_entries
-decreases-walk_entries g l = 6 * (count l.table.now.trip - end_of l.front.now (length l.front.now)) + 3
+decreases-walk_entries g l = 6 * (count l.stage.now.table.now.trip - end_of l.stage.now.front.now (length l.stage.now.front.now)) + 3
 
 abbrev pub decreases-walk_units : goal.decreases-walk_units
-decreases-walk_units g l = 6 * (count l.table.now.trip - end_of l.front.now (length l.front.now)) + 2
+decreases-walk_units g l = 6 * (count l.stage.now.table.now.trip - end_of l.stage.now.front.now (length l.stage.now.front.now)) + 2
 
 abbrev pub decreases-follow : goal.decreases-follow
-decreases-follow g l = 6 * (count l.table.now.trip - end_of l.front.now (length l.front.now)) + 1
+decreases-follow g l = 6 * (count l.stage.now.table.now.trip - end_of l.stage.now.front.now (length l.stage.now.front.now)) + 1
 
 abbrev pub decreases-enter : goal.decreases-enter
-decreases-enter g l = 6 * (count l.table.now.trip - end_of l.front.now (length l.front.now))
+decreases-enter g l = 6 * (count l.stage.now.table.now.trip - end_of l.stage.now.front.now (length l.stage.now.front.now))
 
 abbrev pub invariant-walk_ends-loop-end : goal.invariant-walk_ends-loop-end
 invariant-walk_ends-loop-end g l = record {
   fixed : g.B.Bound.fixed l.bound ≡ g.B.Bound.fixed l.fn.bound;
-  walk : IsWalk l.fn.table.edition l.fn.table.trip (GoesOn l.fn.front (EndsFrom l.end)) (g.B.Bound.least l.fn.bound) l.fn.best (g.B.Bound.least l.bound) l.best;
+  walk : IsWalk l.fn.stage.table.now.edition l.fn.stage.table.now.trip (GoesOn l.fn.stage.front.now (EndsFrom l.end)) (g.B.Bound.least l.fn.bound) l.fn.best (g.B.Bound.least l.bound) l.best;
 }
 
 abbrev pub invariant-walk_entries-loop-entry : goal.invariant-walk_entries-loop-entry
 invariant-walk_entries-loop-entry g l = record {
   fixed : g.B.Bound.fixed l.bound ≡ g.B.Bound.fixed l.fn.bound;
-  walk : IsWalk l.fn.table.edition l.fn.table.trip (GoesOn l.fn.front (HasEntry l.end (take l.entry-index l.entries))) (g.B.Bound.least l.fn.bound) l.fn.best (g.B.Bound.least l.bound) l.best;
+  walk : IsWalk l.fn.stage.table.now.edition l.fn.stage.table.now.trip (GoesOn l.fn.stage.front.now (HasEntry l.end (take l.entry-index l.entry-items))) (g.B.Bound.least l.fn.bound) l.fn.best (g.B.Bound.least l.bound) l.best;
 }
 
 abbrev pub invariant-walk_units-loop-unit : goal.invariant-walk_units-loop-unit
 invariant-walk_units-loop-unit g l = record {
   fixed : g.B.Bound.fixed l.bound ≡ g.B.Bound.fixed l.fn.bound;
-  walk : IsWalk l.fn.table.edition l.fn.table.trip (GoesOn l.fn.front (HasUnitBefore l.end l.entry.fare l.unit)) (g.B.Bound.least l.fn.bound) l.fn.best (g.B.Bound.least l.bound) l.best;
+  walk : IsWalk l.fn.stage.table.now.edition l.fn.stage.table.now.trip (GoesOn l.fn.stage.front.now (HasUnitBefore l.end l.entry.fare l.unit)) (g.B.Bound.least l.fn.bound) l.fn.best (g.B.Bound.least l.bound) l.best;
 }

@@ -1,4 +1,4 @@
-use Rattle.std.proofs.Common.{rules, ◌≡◌, ℕ, ◌+◌, ◌<◌, false, sym, subst, ◌∙◌, inl, inr, arith, length, length-set, set}
+use Rattle.std.proofs.Common.{rules, ◌≡◌, ℕ, ◌+◌, ◌<◌, false, sym, subst, ◌∙◌, ap, inl, inr, arith, length, length-set, set}
 use Rattle.std.specs.Prelude.{Option, None}
 use Rattle.std.proofs.lemmas.Bool.{cases_eq}
 use Rattle.std.proofs.lemmas.List.{get_or-set_same, get_or-set_other}
@@ -23,7 +23,7 @@ loop-j-preserved c =
     let here = c.loop-j.j in
     let number = c.lesser.result in
     let long : here < length least = omega (arith, c.loop-j.invariant.long) in
-    let the_lesser : number ≡ lesser (rest_at least here) c.reach_between.result = c.lesser.ensures in
+    let the_lesser : number ≡ lesser (rest_at least here) c.reach_between.result = c.lesser.ensures ∙ ap (λ a. lesser a c.reach_between.result) c.number_at.ensures in
     let Step : ℕ → ℕ → Option ℕ = λ j b. step_to start.countries.now start.point (rest_at start.legs.now.first) (rest_at start.legs.now.last) j b in
     record {
       long = length-set least here number ∙ c.loop-j.invariant.long;

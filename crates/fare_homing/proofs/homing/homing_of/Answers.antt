@@ -1,20 +1,11 @@
 use Rattle.std.proofs.Common.{rules, ◌≡◌, ◌+◌, ◌-◌, ℕ, sym, subst, ◌∙◌, ap, arith, length-set}
-use Rattle.std.specs.Prelude.{Some, slice_index_or}
+use Rattle.std.specs.Prelude.{Some}
 use Rattle.fare_trip.specs.Itinerary.{count}
-use Rattle.fare_rules.specs.Construction.{begin_after}
 use Rattle.fare_bounds.specs.Covers.{rest_at}
-use Rattle.fare_homing.specs.Legs.{AreLegsOf, no_legs}
 use Rattle.fare_homing.specs.Lonely.{AreLonely}
+use Rattle.fare_homing.specs.Rows.{AreCountries}
 use Rattle.fare_homing.proofs.HomingLemmas.{AreHomingsFrom, all_homings, no_homings, put_homings}
 use Rattle.fare_homing.proofs.homing.homing_of.Goals as goal
-
-pub wholes_at-whole-requires-clause-legs : goal.wholes_at-whole-requires-clause-legs
-wholes_at-whole-requires-clause-legs c =
-    let trip = c.args.table.now.trip in
-    let place = c.loop-c.c - 1 in
-    let last : c.count-count.result ≡ count trip = c.count-count.ensures.value ∙ ap count c.trip-trip.ensures in
-    let begins : c.begin_after.result ≡ begin_after trip place = c.begin_after.ensures.value ∙ ap (λ t. begin_after t place) c.trip-trip.ensures in
-    subst (λ a. AreLegsOf c.args.table.now.edition trip a (slice_index_or c.legs_behind-legs.result place no_legs)) (sym begins) (c.legs_behind-legs.ensures place (omega arith))
 
 pub loop-c-init : goal.loop-c-init
 loop-c-init c =
@@ -25,6 +16,7 @@ loop-c-init c =
       long_whole = search rules;
       long_rest = search rules;
       known = subst P (sym last) (no_homings c.args.table.now.edition c.args.table.now.trip c.unknown-homing.result (subst (λ n. rest_at c.unknown-homing.result.rest n ≡ Some 0) last c.unknown-homing.ensures.end));
+      countries = subst (AreCountries c.args.table.now.edition c.args.table.now.trip) (sym c.unknown-homing.ensures.countries) c.countries_of.ensures;
       lonely = subst (AreLonely c.args.table.now.edition) (sym c.unknown-homing.ensures.lonely) c.lonely_fares.ensures;
     }
 
@@ -45,6 +37,7 @@ loop-c-preserved c =
       known = put_homings tariff trip homing place (omega arith) c.wholes_at-whole.result c.least_onward.result c.standing_at-standing.result
           (omega (arith, known.long_standing, c.count-count.ensures.at_most)) (omega (arith, known.long_whole, c.count-count.ensures.at_most)) (omega (arith, known.long_rest, c.count-count.ensures.at_most)) (subst From next known.known)
           c.wholes_at-whole.ensures (λ b x y past within up more. c.least_onward.ensures b x y past (omega arith) up more) c.standing_at-standing.ensures.closes c.standing_at-standing.ensures.ends;
+      countries = known.countries;
       lonely = known.lonely;
     }
 
@@ -54,5 +47,6 @@ returns c =
     let P : ℕ → Type 0 = λ first. AreHomingsFrom c.args.table.now.edition c.args.table.now.trip first c.loop-c.homing in
     record {
       known = all_homings c.args.table.now.edition c.args.table.now.trip c.loop-c.homing (subst P done c.loop-c.invariant.known);
+      countries = c.loop-c.invariant.countries;
       lonely = c.loop-c.invariant.lonely;
     }

@@ -1,6 +1,7 @@
 -- the numbers are known from this point on
 use Rattle.std.proofs.Common.{◌≡◌, length}
 use Rattle.fare_homing.specs.Lonely.{AreLonely}
+use Rattle.fare_homing.specs.Rows.{AreCountries}
 use Rattle.fare_homing.proofs.HomingLemmas.{AreHomingsFrom}
 use Rattle.fare_homing.proofs.homing.homing_of.Given as goal
 
@@ -10,5 +11,6 @@ invariant-loop-c l = record {
   long_whole : length l.homing.whole ≡ 17;
   long_rest : length l.homing.rest ≡ 17;
   known : AreHomingsFrom l.table.edition l.table.trip l.c l.homing;
+  countries : AreCountries l.table.edition l.table.trip l.homing.countries;
   lonely : AreLonely l.table.edition l.homing.lonely;
 }

@@ -1,4 +1,5 @@
 use Rattle.std.proofs.Common.{List, [], ◌∷◌, ◌++◌, take, sym, subst}
+use Rattle.std.specs.Prelude.{None}
 use Rattle.std.proofs.lemmas.List.{take_all, take_more}
 use Rattle.fare_component.specs.declared.table.entry.Entry.{Entry}
 use Rattle.fare_homing.specs.Homing.{single_cost, first_cost, back_cost}
@@ -7,7 +8,7 @@ use Rattle.fare_homing.proofs.LeastLemmas.{cost_none}
 use Rattle.fare_homing.proofs.legs.cheapest.Goals as goal
 
 pub loop-entry-init : goal.loop-entry-init
-loop-entry-init c = record { alone = cost_none single_cost; first = cost_none first_cost; last = cost_none back_cost }
+loop-entry-init c = record { alone = cost_none single_cost None; first = cost_none first_cost None; last = cost_none back_cost None }
 
 pub loop-entry-preserved : goal.loop-entry-preserved
 loop-entry-preserved c =

@@ -1,4 +1,5 @@
-use Rattle.std.proofs.Common.{◌≡◌, refl, ◌<◌, List, subst, ◌∙◌, ap, arith, length-set}
+use Rattle.std.specs.Prelude.{None}
+use Rattle.std.proofs.Common.{◌≡◌, refl, ◌<◌, List, replicate, subst, ◌∙◌, ap, arith, length-set}
 use Rattle.fare_trip.specs.Itinerary.{count}
 use Rattle.fare_component.specs.declared.table.entry.Entry.{Entry}
 use Rattle.fare_homing.specs.Homing.{single_cost, first_cost, back_cost}
@@ -13,11 +14,11 @@ loop-b-init c =
     let trip = c.args.table.now.trip in
     record {
       long_alone = refl;
-      alone = legs_first tariff trip single_cost c.args.a 17;
+      alone = legs_first tariff trip single_cost c.args.a (replicate 17 None);
       long_first = refl;
-      first = legs_first tariff trip first_cost c.args.a 17;
+      first = legs_first tariff trip first_cost c.args.a (replicate 17 None);
       long_last = refl;
-      last = legs_first tariff trip back_cost c.args.a 17;
+      last = legs_first tariff trip back_cost c.args.a (replicate 17 None);
     }
 
 pub loop-b-preserved : goal.loop-b-preserved

@@ -1,4 +1,4 @@
-use Rattle.std.proofs.Common.{ℕ, ◌+◌, ◌<◌, length-set, Option, refl, ◌∙◌, arith}
+use Rattle.std.proofs.Common.{ℕ, ◌+◌, ◌<◌, length-set, Option, refl, subst, sym, ◌∙◌, arith}
 use Rattle.fare_bounds.specs.Covers.{rest_at}
 use Rattle.fare_homing.specs.Homing.{IsUpTo}
 use Rattle.fare_homing.proofs.HomingRowLemmas.{lesser_kept, lesser_sum, stands_before}
@@ -14,9 +14,9 @@ loop-j-preserved c =
     record {
       long = length-set c.loop-j.lowered c.loop-j.j c.lesser.result ∙ c.loop-j.invariant.long;
       kept = λ j most less. row_more Kept c.loop-j.lowered c.loop-j.j c.lesser.result (omega (arith, c.loop-j.invariant.long)) (λ k past most up. c.loop-j.invariant.kept k most past up)
-          (λ most up. lesser_kept (rest_at row c.loop-j.j) c.added.result c.lesser.result c.lesser.ensures most up) j less most;
+          (λ most up. lesser_kept c.number_at-here.result c.added.result c.lesser.result c.lesser.ensures most (subst (IsUpTo most) (sym c.number_at-here.ensures) up)) j less most;
       under = λ j x y less. row_more Under c.loop-j.lowered c.loop-j.j c.lesser.result (omega (arith, c.loop-j.invariant.long)) (λ k past x y a b. c.loop-j.invariant.under k x y past a b)
-          (λ x y a b. lesser_sum (rest_at row c.loop-j.j) c.args.step (rest_at behind c.loop-j.j) c.lesser.result (rw (c.lesser.ensures, c.added.ensures) refl) x y a b) j less x y;
+          (λ x y a b. lesser_sum (rest_at row c.loop-j.j) c.args.step (rest_at behind c.loop-j.j) c.lesser.result (rw (c.lesser.ensures, c.added.ensures, c.number_at-here.ensures, c.number_at-more.ensures) refl) x y a b) j less x y;
     }
 
 pub returns-clause-kept : goal.returns-clause-kept

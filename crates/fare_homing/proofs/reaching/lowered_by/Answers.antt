@@ -1,11 +1,18 @@
-use Rattle.std.proofs.Common.{◌≡◌, false, not, ℕ, ◌+◌, ◌<◌, subst, ap, ◌∙◌, inl, inr, arith}
-use Rattle.std.specs.Prelude.{is_some}
+use Rattle.std.proofs.Common.{◌≡◌, true, false, not, refl, ℕ, ◌+◌, ◌<◌, subst, sym, ap, ◌∙◌, inl, inr, arith}
+use Rattle.std.specs.Prelude.{Option, Some, None, is_some}
 use Rattle.std.proofs.lemmas.Bool.{cases_eq}
 use Rattle.fare_bounds.specs.Covers.{rest_at}
 use Rattle.fare_homing.specs.Homing.{IsUpTo}
 use Rattle.fare_homing.specs.Rows.{cell}
 use Rattle.fare_homing.proofs.HomingRowLemmas.{not_there, stands_before}
 use Rattle.fare_homing.proofs.reaching.lowered_by.Goals as goal
+
+none : (found : Option ℕ) → not (is_some found) ≡ true → is_some found ≡ false
+none None e = refl
+none (Some n) e = absurd (true_false (sym e))
+  where
+    true_false : true ≡ false → ⊥
+    true_false h = cc
 
 pub loop-b-init : goal.loop-b-init
 loop-b-init c = record {
@@ -20,18 +27,18 @@ loop-b-preserved c = record {
     | inl same ↦
         let P : ℕ → Type 0 = λ k. IsUpTo x (rest_at c.args.steps.now k) in
         let Q : ℕ → Type 0 = λ k. IsUpTo y (cell c.args.behind.now k j) in
-        c.lowered-least.ensures.under j x y (subst P same up) (subst Q same more)
+        c.lowered-least.ensures.under j x y (subst (IsUpTo x) (sym c.number_at-step.ensures) (subst P same up)) (subst Q same more)
     | inr other ↦ c.lowered-least.ensures.kept j (x + y) (c.loop-b.invariant.under b j x y low (omega arith) up more)
   ];
 }
 
-pub loop-b-preserved-then-is_none : goal.loop-b-preserved-then-is_none
-loop-b-preserved-then-is_none c = record {
+pub loop-b-preserved-then-is_nothing : goal.loop-b-preserved-then-is_nothing
+loop-b-preserved-then-is_nothing c = record {
   kept = c.loop-b.invariant.kept;
   under = λ b j x y low less up more. elim (cases_eq b c.loop-b.b) [
     | inl same ↦
         let P : ℕ → Type 0 = λ k. IsUpTo x (rest_at c.args.steps.now k) in
-        let some : is_some (rest_at c.args.steps.now c.loop-b.b) ≡ false = c.is_none.ensures ∙ ap not c.if-is_none.true in
+        let some : is_some (rest_at c.args.steps.now c.loop-b.b) ≡ false = ap is_some (sym c.number_at-step.ensures) ∙ none c.number_at-step.result (sym c.is_nothing.ensures ∙ c.if-is_nothing.true) in
         absurd (not_there (rest_at c.args.steps.now c.loop-b.b) x some (subst P same up))
     | inr other ↦ c.loop-b.invariant.under b j x y low (omega arith) up more
   ];

@@ -21,7 +21,7 @@ returns-then-is c =
     record {
       last = λ j x near part.
           let A : ℕ → Type 0 = λ a. IsPart tariff trip back_cost a j x in
-          c.lowered_by.ensures.kept j x (c.with_between-within.ensures.kept j x (c.last_row-last.ensures (may ∙ subst M begins near) j x ((c.requires.legs.last j).lowest x (subst A begins part))));
+          c.lowered_by.ensures.kept j x (c.with_between-within.ensures.kept j x (c.last_row-last.ensures (may ∙ subst M begins near) j x (c.requires.legs.last j x (subst A begins part))));
       between = λ b j x y city part less apart within up.
           let rises = part_after tariff trip (between_cost (heads_to tariff trip (begin_after trip i) b j)) i b x part in
           let A : ℕ → Type 0 = λ a. IsBetween tariff trip a j b x in
@@ -46,7 +46,7 @@ returns c =
     record {
       last = λ j x near part.
           let A : ℕ → Type 0 = λ a. IsPart tariff trip back_cost a j x in
-          c.lowered_by-2.ensures.kept j x (c.last_row-last.ensures (may ∙ subst M begins near) j x ((c.requires.legs.last j).lowest x (subst A begins part)));
+          c.lowered_by-2.ensures.kept j x (c.last_row-last.ensures (may ∙ subst M begins near) j x (c.requires.legs.last j x (subst A begins part)));
       between = λ b j x y there part less apart within up. absurd (both_ways (is_same_city trip stand (begin_after trip i)) city there);
       nested = c.lowered_by-2.ensures.under;
     }

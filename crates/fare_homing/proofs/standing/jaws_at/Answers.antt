@@ -17,6 +17,6 @@ returns c =
     record {
       last = λ j x city part.
           let A : ℕ → Type 0 = λ a. IsPart tariff trip back_cost a j x in
-          c.lowered_by.ensures.kept j x (c.last_row-last.ensures (here ∙ subst C begins city) j x ((c.requires.legs.last j).lowest x (subst A begins part)));
+          c.lowered_by.ensures.kept j x (c.last_row-last.ensures (here ∙ subst C begins city) j x (c.requires.legs.last j x (subst A begins part)));
       nested = c.lowered_by.ensures.under;
     }

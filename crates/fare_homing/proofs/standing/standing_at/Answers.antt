@@ -3,29 +3,11 @@ use Rattle.std.specs.Prelude.{Option, None, slice_index_or}
 use Rattle.std.proofs.lemmas.Bool.{cases_eq}
 use Rattle.std.proofs.lemmas.List.{get_or-set_same, get_or-set_other}
 use Rattle.fare_trip.specs.Itinerary.{count}
-use Rattle.fare_rules.specs.Construction.{begin_after}
 use Rattle.fare_bounds.specs.Covers.{rest_at}
 use Rattle.fare_homing.specs.HomingRows.{AreClosings, AreJaws}
-use Rattle.fare_homing.specs.Legs.{AreLegsOf, no_legs}
 use Rattle.fare_homing.specs.Rows.{cell, closing_from}
 use Rattle.fare_homing.proofs.HomingRowLemmas.{closings_same, jaws_same}
 use Rattle.fare_homing.proofs.standing.standing_at.Goals as goal
-
-pub closings_at-closing-requires-clause-legs : goal.closings_at-closing-requires-clause-legs
-closings_at-closing-requires-clause-legs c =
-    let trip = c.args.table.now.trip in
-    let place = c.loop-i.i - 1 in
-    let last : c.count-i.result ≡ count trip = c.count-i.ensures.value ∙ ap count c.trip-trip.ensures in
-    let begins : c.begin_after.result ≡ begin_after trip place = c.begin_after.ensures.value ∙ ap (λ t. begin_after t place) c.trip-trip.ensures in
-    subst (λ a. AreLegsOf c.args.table.now.edition trip a (slice_index_or c.args.legs.now place no_legs)) (sym begins) (c.requires.legs place (omega arith))
-
-pub jaws_at-jaw-requires-clause-legs : goal.jaws_at-jaw-requires-clause-legs
-jaws_at-jaw-requires-clause-legs c =
-    let trip = c.args.table.now.trip in
-    let place = c.loop-i.i - 1 in
-    let last : c.count-i.result ≡ count trip = c.count-i.ensures.value ∙ ap count c.trip-trip.ensures in
-    let begins : c.begin_after.result ≡ begin_after trip place = c.begin_after.ensures.value ∙ ap (λ t. begin_after t place) c.trip-trip.ensures in
-    subst (λ a. AreLegsOf c.args.table.now.edition trip a (slice_index_or c.args.legs.now place no_legs)) (sym begins) (c.requires.legs place (omega arith))
 
 pub loop-i-init : goal.loop-i-init
 loop-i-init c =

@@ -14,7 +14,7 @@ loop-b-preserved c b x y low less up more =
       | inl same ↦
           let P : ℕ → Type 0 = λ k. IsUpTo x (rest_at c.args.first.now k) in
           let Q : ℕ → Type 0 = λ k. IsUpTo y (Behind k) in
-          lesser_sum c.loop-b.least (rest_at c.args.first.now c.loop-b.b) (Behind c.loop-b.b) c.lesser-least.result (rw (c.lesser-least.ensures, c.added.ensures, c.behind_first.ensures) refl) x y (subst P same up) (subst Q same more)
+          lesser_sum c.loop-b.least (rest_at c.args.first.now c.loop-b.b) (Behind c.loop-b.b) c.lesser-least.result (rw (c.lesser-least.ensures, c.added.ensures, c.number_at-step.ensures, c.behind_first-behind.ensures) refl) x y (subst P same up) (subst Q same more)
       | inr other ↦ lesser_kept c.loop-b.least c.added.result c.lesser-least.result c.lesser-least.ensures (x + y) (c.loop-b.invariant b x y low (omega arith) up more)
     ]
 

@@ -21,6 +21,9 @@ returns-then-not-lie_together-clause-first c b x y cost may part less up sum pai
     let never : may_end_at tariff trip start c.args.home ≡ false = rw (city, lie) refl in
     absurd (both_ways (may_end_at tariff trip start c.args.home) never may)
 
+pub returns-then-not-lie_together-clause-alone : goal.returns-then-not-lie_together-clause-alone
+returns-then-not-lie_together-clause-alone c cost part = subst (IsUpTo cost) (sym c.number_at-alone.ensures) (c.requires.legs.alone c.args.home cost part)
+
 pub returns : goal.returns
 returns c =
     let tariff = c.args.table.now.edition in
@@ -29,10 +32,10 @@ returns c =
     let start = c.args.start.now in
     let here : c.is-closes.result ≡ is_same_city trip start.point c.args.home = cc in
     record {
-      alone = λ cost part. c.with_half.ensures.alone cost ((c.requires.legs.alone c.args.home).lowest cost part);
+      alone = λ cost part. c.with_half.ensures.alone cost (subst (IsUpTo cost) (sym c.number_at-alone.ensures) (c.requires.legs.alone c.args.home cost part));
       first = λ b x y cost may part less up sum pair.
           let P : ℕ → Type 0 = λ a. IsPart tariff trip first_cost a b x in
           let rises = part_after tariff trip first_cost c.args.i b x (subst P c.requires.point part) in
           let Q : Bool → Type 0 = λ closes. IsUpTo y (if closes then closing_from homing b b c.args.home else jaw_from homing b b c.args.home) in
-          c.with_half.ensures.half (x + y) cost (c.reach_first-half.ensures b x y rises.0 less ((c.requires.legs.first b).lowest x part) (subst Q (sym here) up)) sum pair;
+          c.with_half.ensures.half (x + y) cost (c.reach_first-half.ensures b x y rises.0 less (c.requires.legs.first b x part) (subst Q (sym here) up)) sum pair;
     }
