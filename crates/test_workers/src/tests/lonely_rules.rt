@@ -2,18 +2,20 @@
 
 use super::cases::Input;
 
+/// Six rules, of which no more than four combine with each other.
+const SIX_RULES: &str =
+    "HEAD,1,1,2025-01-01\nCUR,AA,XAA,1.000000,2,1,U\nCUR,AB,XAB,1.000000,2,1,U\nCITY,CAA,AA,2\n\
+     CITY,CAB,AB,2\nRULE,R0,16,16,0,0,999,Y,*,R1 R2 R3 R4\nRULE,R1,16,16,0,0,999,Y,*,R0 R2 R3 R5\n\
+     RULE,R2,16,16,0,0,999,Y,*,R0 R1 R3 R4\nRULE,R3,16,16,0,0,999,Y,*,R0 R1 R2 R4 R5\n\
+     RULE,R4,16,16,0,0,999,Y,*,R0 R2 R3 R5\nRULE,R5,16,16,0,0,999,Y,*,R1 R3 R4\nFARE,CAA,CAB,EH,YY,Y,OW,R0,100.77\n\
+     FARE,CAA,CAB,EH,YY,Y,OW,R1,101.18\nFARE,CAA,CAB,EH,YY,Y,OW,R2,103.25\nFARE,CAA,CAB,EH,YY,Y,OW,R3,100.77\n\
+     FARE,CAA,CAB,EH,YY,Y,OW,R4,104.44\nFARE,CAA,CAB,EH,YY,Y,OW,R5,104.74\nFARE,CAB,CAA,EH,YY,Y,OW,R0,102.67\n\
+     FARE,CAB,CAA,EH,YY,Y,OW,R1,101.99\nFARE,CAB,CAA,EH,YY,Y,OW,R2,103.79\nFARE,CAB,CAA,EH,YY,Y,OW,R3,100.07\n\
+     FARE,CAB,CAA,EH,YY,Y,OW,R4,103.43\nFARE,CAB,CAA,EH,YY,Y,OW,R5,103.97\nEND\n";
+
 /// Four sectors and six rules, of which four combine with each other.
 pub static AS_MANY_RULES_AS_SECTORS: Input = Input {
-    tariff: "HEAD,1,1,2025-01-01\nCUR,AA,XAA,1.000000,2,1,U\nCUR,AB,XAB,1.000000,2,1,U\nCITY,CAA,AA,2\n\
-             CITY,CAB,AB,2\nRULE,R0,16,16,0,0,999,Y,*,R1 R2 R3 R4\nRULE,R1,16,16,0,0,999,Y,*,R0 R2 R3 R5\n\
-             RULE,R2,16,16,0,0,999,Y,*,R0 R1 R3 R4\nRULE,R3,16,16,0,0,999,Y,*,R0 R1 R2 R4 R5\n\
-             RULE,R4,16,16,0,0,999,Y,*,R0 R2 R3 R5\nRULE,R5,16,16,0,0,999,Y,*,R1 R3 R4\n\
-             FARE,CAA,CAB,EH,YY,Y,OW,R0,100.77\nFARE,CAA,CAB,EH,YY,Y,OW,R1,101.18\n\
-             FARE,CAA,CAB,EH,YY,Y,OW,R2,103.25\nFARE,CAA,CAB,EH,YY,Y,OW,R3,100.77\n\
-             FARE,CAA,CAB,EH,YY,Y,OW,R4,104.44\nFARE,CAA,CAB,EH,YY,Y,OW,R5,104.74\n\
-             FARE,CAB,CAA,EH,YY,Y,OW,R0,102.67\nFARE,CAB,CAA,EH,YY,Y,OW,R1,101.99\n\
-             FARE,CAB,CAA,EH,YY,Y,OW,R2,103.79\nFARE,CAB,CAA,EH,YY,Y,OW,R3,100.07\n\
-             FARE,CAB,CAA,EH,YY,Y,OW,R4,103.43\nFARE,CAB,CAA,EH,YY,Y,OW,R5,103.97\nEND\n",
+    tariff: SIX_RULES,
     itinerary: "{\"sale\":\"2025-03-01\",\"from\":\"CAA\",\"sectors\":[\
                 {\"to\":\"CAB\",\"carrier\":\"Q1\",\"day\":\"2025-04-01\",\"cabin\":\"Y\"},\
                 {\"to\":\"CAA\",\"carrier\":\"Q1\",\"day\":\"2025-04-02\",\"cabin\":\"Y\"},\
@@ -23,16 +25,7 @@ pub static AS_MANY_RULES_AS_SECTORS: Input = Input {
 
 /// One sector more: no five of the rules combine with each other.
 pub static A_SECTOR_MORE_THAN_RULES: Input = Input {
-    tariff: "HEAD,1,1,2025-01-01\nCUR,AA,XAA,1.000000,2,1,U\nCUR,AB,XAB,1.000000,2,1,U\nCITY,CAA,AA,2\n\
-             CITY,CAB,AB,2\nRULE,R0,16,16,0,0,999,Y,*,R1 R2 R3 R4\nRULE,R1,16,16,0,0,999,Y,*,R0 R2 R3 R5\n\
-             RULE,R2,16,16,0,0,999,Y,*,R0 R1 R3 R4\nRULE,R3,16,16,0,0,999,Y,*,R0 R1 R2 R4 R5\n\
-             RULE,R4,16,16,0,0,999,Y,*,R0 R2 R3 R5\nRULE,R5,16,16,0,0,999,Y,*,R1 R3 R4\n\
-             FARE,CAA,CAB,EH,YY,Y,OW,R0,100.77\nFARE,CAA,CAB,EH,YY,Y,OW,R1,101.18\n\
-             FARE,CAA,CAB,EH,YY,Y,OW,R2,103.25\nFARE,CAA,CAB,EH,YY,Y,OW,R3,100.77\n\
-             FARE,CAA,CAB,EH,YY,Y,OW,R4,104.44\nFARE,CAA,CAB,EH,YY,Y,OW,R5,104.74\n\
-             FARE,CAB,CAA,EH,YY,Y,OW,R0,102.67\nFARE,CAB,CAA,EH,YY,Y,OW,R1,101.99\n\
-             FARE,CAB,CAA,EH,YY,Y,OW,R2,103.79\nFARE,CAB,CAA,EH,YY,Y,OW,R3,100.07\n\
-             FARE,CAB,CAA,EH,YY,Y,OW,R4,103.43\nFARE,CAB,CAA,EH,YY,Y,OW,R5,103.97\nEND\n",
+    tariff: SIX_RULES,
     itinerary: "{\"sale\":\"2025-03-01\",\"from\":\"CAA\",\"sectors\":[\
                 {\"to\":\"CAB\",\"carrier\":\"Q1\",\"day\":\"2025-04-01\",\"cabin\":\"Y\"},\
                 {\"to\":\"CAA\",\"carrier\":\"Q1\",\"day\":\"2025-04-02\",\"cabin\":\"Y\"},\
