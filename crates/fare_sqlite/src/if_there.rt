@@ -1,6 +1,6 @@
 //! The calls on a keeper that name a place, where it isn't known which places there are.
 
-ghost use Rattle.std.specs.Prelude.{IsTrue};
+ghost use Rattle.std.specs.Prelude.{◌≡◌, IsTrue};
 
 use fare_outside::{KeepFault, Keeper};
 use std::alloc::Global;
@@ -12,7 +12,8 @@ pub fn load_if_there<P: Keeper>(
     place: u32,
 ) -> Result<Vec<u8>, KeepFault>
     requires { IsTrue (P.ready table.old) }
-    ensures { IsTrue (P.ready table.new) }
+    ensures ready { IsTrue (P.ready table.new) }
+    ensures name { P.opened_as table.new ≡ P.opened_as table.old }
 {
     let count = table.len(alloc)?;
     if place == 0 || place as u64 > count {
@@ -29,7 +30,8 @@ pub fn replace_if_there<P: Keeper>(
     body: &[u8],
 ) -> Result<(), KeepFault>
     requires { IsTrue (P.ready table.old) }
-    ensures { IsTrue (P.ready table.new) }
+    ensures ready { IsTrue (P.ready table.new) }
+    ensures name { P.opened_as table.new ≡ P.opened_as table.old }
 {
     let count = table.len(alloc)?;
     if place == 0 || place as u64 > count {

@@ -1,5 +1,5 @@
 ghost use Rattle.std.specs.Prelude.{◌≡◌, ◌≤◌, ◌-◌, ◌||◌, ◌++◌, ◌∷◌, [], true, false, is_ok, length, slice_set, OnOk, IfOk, IfSome};
-ghost use Rattle.std.specs.Prelude.{IsErrOf, IsSome, IsTrue, MatchResult, None, Some};
+ghost use Rattle.std.specs.Prelude.{IsErrOf, IsTrue, MatchResult, None, Some};
 ghost use Rattle.std.specs.Option.{ForSome};
 ghost use Rattle.sqlite.specs.Held.{state};
 ghost use Rattle.fare_outside.specs.Cause.{Rose};
@@ -33,7 +33,7 @@ pub struct NamedKeeper<A: Alter, O: Opener<A>> {
 }
 
 impl<A: Alter, O: Opener<A>> Model for NamedKeeper<A, O> {
-    ghost use Rattle.std.specs.Prelude.{IfSome, IsSome, IsTrue, string_bytes};
+    ghost use Rattle.std.specs.Prelude.{◌≡◌, IfSome, IsTrue, Some, string_bytes};
     ghost use Rattle.fare_sqlite.specs.Named.{NamedState, named_code};
 
     ghost Value = { NamedState A };
@@ -48,7 +48,8 @@ impl<A: Alter, O: Opener<A>> Model for NamedKeeper<A, O> {
       faults = k.faults;
     } };
 
-    ghost invariant = { λ k. IfSome k.table (λ table. IsSome table.name × IsTrue k.is_ready) };
+    ghost invariant = { λ k.
+        IfSome k.table (λ table. (table.name ≡ Some (string_bytes k.name)) × IsTrue k.is_ready) };
 }
 
 impl<A: Alter + Drop, O: Opener<A>> NamedKeeper<A, O> {
@@ -307,7 +308,7 @@ fn opened<A: Alter + Drop, O: Opener<A>>(
     name: &str,
 ) -> Result<SqliteKeeper<A>, KeepFault>
     ensures told { IfOk result (λ table. WhereTold O.Opener.bodies (kept (state A.Store table.conn)) BodiesStay) }
-    ensures ready { IfOk result (λ table. IsSome table.name) }
+    ensures name { IfOk result (λ table. table.name ≡ Some name.now) }
 {
     let mut table = SqliteKeeper::over(opener.open(name)?);
     table.open(alloc, name)?;
