@@ -76,6 +76,14 @@ impl BestList {
         self.get(k.saturating_sub(1))
     }
 
+    /// The price of the `k`th.
+    pub(crate) fn price_of(&self, k: usize) -> Option<u64> {
+        match self.last_wanted(k) {
+            None => None,
+            Some((_, price)) => Some(price),
+        }
+    }
+
     /// Whether the `k`th costs less than a floor.
     pub(crate) fn is_beyond(&self, k: usize, floor: u64) -> bool
         ensures { result ≡ is_beyond k self.now floor }

@@ -4,13 +4,15 @@ ghost use Rattle.std.specs.Prelude.{◌≡◌, ◌≤◌, ℕ, [], List, IfOk};
 ghost use Rattle.fare_trip.specs.Itinerary.{Itinerary};
 ghost use Rattle.fare_tariff.specs.Tariff.{Tariff};
 ghost use Rattle.fare_rules.specs.FirstK.{Priced, IsFirstK};
-ghost use Rattle.fare_best.specs.Walked.{IsRanked};
+ghost use Rattle.fare_homing.specs.Rows.{AreHomingsOf};
+ghost use Rattle.fare_units.specs.Walk.{Completes};
+ghost use Rattle.fare_best.specs.Walked.{IsRanked, IsWalk};
 
 use crate::best_list::{BestList, MOST_BEST};
 use crate::walking::{Wanted, walk};
-use fare_branch::{Partial, Stage, ahead_of, best_of, stack_of};
+use fare_branch::{Partial, Stage, ahead_of, best_of, dived_front, is_far, stack_of};
 use fare_component::Table;
-use fare_homing::homing_of;
+use fare_homing::{Homing, homing_of};
 use fare_outside::NoMemory;
 use fare_rules::{PRICE_LIMIT, edition_is_valid, price_is_bounded};
 use fare_tariff::Edition;
@@ -22,6 +24,9 @@ const MOST_WALKS: u32 = 8;
 
 /// Into how many steps the least price is cut: the first limit is one of them above it.
 const STEPS: u64 = 128;
+
+/// How many of the last parts of what a dive comes to are tried otherwise for a limit.
+const OPEN_PARTS: usize = 4;
 
 /// First k: the first `k` lawful constructions of a trip in an edition by Order, each with its price, or all where
 /// fewer are lawful. It takes memory for the table of the trip and for the list.
@@ -49,33 +54,82 @@ fn fill(table: &Table, k: usize, found: &mut BestList)
     rise(table, k, least, found)
 }
 
-/// Finds the first `k`, by walks whose limit rises from the least price on until that many cost no more, and at last by
-/// one over all.
+/// Finds the first `k`, by walks whose limit rises from the least price on until that many cost no more. Where the least
+/// price is far above what all costs at least, each limit is a ceiling too.
 fn rise(table: &Table, k: usize, least: u64, found: &mut BestList)
     requires some { 1 ≤ k }
     requires few { k ≤ MOST_BEST }
     requires ranked { IsRanked table.now.edition table.now.trip k found.old }
     ensures { IsFirstK table.now.edition table.now.trip k found.new }
 {
-    let homing = homing_of(table);
-    let none = Partial::new();
-    let ahead = ahead_of(table, &homing, &none, stack_of(table, &homing, &none));
-    let stage = Stage {
-        table,
-        homing: &homing,
-        front: &none,
-        ahead: &ahead,
-    };
+    let homing = homing_of(table, None);
+    let far = is_far(&homing, least);
     let mut above = least / STEPS;
     for _walk in 0..MOST_WALKS {
         let limit = least.saturating_add(above);
+        let ceiling = if far { Some(limit) } else { None };
         let wanted = Wanted { count: k, limit };
-        walk(&stage, wanted, found);
+        walk_under(table, &homing, ceiling, wanted, found);
         if found.is_within(k, limit) {
             return;
         }
         above = above.saturating_mul(2);
     }
+    finish(table, &homing, far, k, found)
+}
+
+/// Finds the first `k` by a walk up to the price of the `k`th of those that a dive is near, or else by one over all.
+fn finish(table: &Table, homing: &Homing, far: bool, k: usize, found: &mut BestList)
+    requires homing { AreHomingsOf table.now.edition table.now.trip homing.now }
+    requires some { 1 ≤ k }
+    requires few { k ≤ MOST_BEST }
+    requires ranked { IsRanked table.now.edition table.now.trip k found.old }
+    ensures { IsFirstK table.now.edition table.now.trip k found.new }
+{
+    sound(table, homing, k, found);
+    match found.price_of(k) {
+        None => search_all(table, homing, k, found),
+        Some(limit) => {
+            let ceiling = if far {
+                Some(limit.saturating_sub(1))
+            } else {
+                None
+            };
+            let wanted = Wanted { count: k, limit };
+            search_to(table, homing, ceiling, wanted, found)
+        }
+    }
+}
+
+/// Finds the first ones by a walk up to a limit, or where too few cost no more, by one over all.
+fn search_to(
+    table: &Table,
+    homing: &Homing,
+    ceiling: Option<u64>,
+    wanted: Wanted,
+    found: &mut BestList,
+)
+    requires homing { AreHomingsOf table.now.edition table.now.trip homing.now }
+    requires some { 1 ≤ wanted.count }
+    requires few { wanted.count ≤ MOST_BEST }
+    requires ranked { IsRanked table.now.edition table.now.trip wanted.count found.old }
+    ensures { IsFirstK table.now.edition table.now.trip wanted.count found.new }
+{
+    walk_under(table, homing, ceiling, wanted, found);
+    if found.is_within(wanted.count, wanted.limit) {
+        return;
+    }
+    search_all(table, homing, wanted.count, found)
+}
+
+/// Finds the first `k` by a walk over all.
+fn search_all(table: &Table, homing: &Homing, k: usize, found: &mut BestList)
+    requires homing { AreHomingsOf table.now.edition table.now.trip homing.now }
+    requires some { 1 ≤ k }
+    requires few { k ≤ MOST_BEST }
+    requires ranked { IsRanked table.now.edition table.now.trip k found.old }
+    ensures { IsFirstK table.now.edition table.now.trip k found.new }
+{
     edition_is_valid(table.edition());
     price_is_bounded();
     let _sectors = table.trip().count();
@@ -83,7 +137,72 @@ fn rise(table: &Table, k: usize, least: u64, found: &mut BestList)
         count: k,
         limit: PRICE_LIMIT,
     };
+    walk_all(table, homing, all, found)
+}
+
+/// Finds constructions that end otherwise than what a dive comes to, so that a limit is known.
+fn sound(table: &Table, homing: &Homing, k: usize, found: &mut BestList)
+    requires homing { AreHomingsOf table.now.edition table.now.trip homing.now }
+    requires some { 1 ≤ k }
+    requires few { k ≤ MOST_BEST }
+    requires ranked { IsRanked table.now.edition table.now.trip k found.old }
+    ensures { IsRanked table.now.edition table.now.trip k found.new }
+{
+    let _sectors = table.trip().count();
+    let front = dived_front(table, homing, OPEN_PARTS);
+    if front.parts().is_empty() {
+        return;
+    }
+    let ahead = ahead_of(table, homing, &front, stack_of(table, homing, &front));
+    let stage = Stage {
+        table,
+        homing,
+        front: &front,
+        ahead: &ahead,
+    };
+    let all = Wanted {
+        count: k,
+        limit: PRICE_LIMIT,
+    };
     walk(&stage, all, found)
+}
+
+/// Walks over all constructions up to a limit, under a ceiling where there is one.
+fn walk_under(
+    table: &Table,
+    homing: &Homing,
+    ceiling: Option<u64>,
+    wanted: Wanted,
+    found: &mut BestList,
+)
+    requires homing { AreHomingsOf table.now.edition table.now.trip homing.now }
+    requires some { 1 ≤ wanted.count }
+    requires few { wanted.count ≤ MOST_BEST }
+    ensures { IsWalk table.now.edition table.now.trip wanted.count wanted.limit (Completes []) found.old found.new }
+{
+    if ceiling.is_some() {
+        return walk_all(table, &homing_of(table, ceiling), wanted, found);
+    }
+    walk_all(table, homing, wanted, found)
+}
+
+/// Walks over all constructions, by what is behind the points of the trip.
+fn walk_all(table: &Table, homing: &Homing, wanted: Wanted, found: &mut BestList)
+    requires homing { AreHomingsOf table.now.edition table.now.trip homing.now }
+    requires some { 1 ≤ wanted.count }
+    requires few { wanted.count ≤ MOST_BEST }
+    ensures { IsWalk table.now.edition table.now.trip wanted.count wanted.limit (Completes []) found.old found.new }
+{
+    let _sectors = table.trip().count();
+    let none = Partial::new();
+    let ahead = ahead_of(table, homing, &none, stack_of(table, homing, &none));
+    let stage = Stage {
+        table,
+        homing,
+        front: &none,
+        ahead: &ahead,
+    };
+    walk(&stage, wanted, found)
 }
 
 /// A law: at most one list is First k, so `first_k` has one answer.

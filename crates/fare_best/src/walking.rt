@@ -128,7 +128,8 @@ fn follow(stage: &Stage, wanted: Wanted, part: Part, floor: Option<u64>, found: 
     requires few { wanted.count ≤ MOST_BEST }
     requires rises { next_start stage.now.table.now.trip stage.now.front.now < part.end }
     requires within { part.end ≤ count stage.now.table.now.trip }
-    requires floor { IsFloorAnswer stage.now.table.now.edition stage.now.table.now.trip (stage.now.front.now ++ part ∷ []) floor }
+    requires floor { IsFloorAnswer stage.now.table.now.edition stage.now.table.now.trip
+        (stage.now.front.now ++ part ∷ []) floor }
     ensures { IsWalk stage.now.table.now.edition stage.now.table.now.trip wanted.count wanted.limit
         (GoesOn stage.now.front.now (IsPart part)) found.old found.new }
 {

@@ -1,5 +1,5 @@
 -- A dive before a walk, and what it goes through.
-use Rattle.std.proofs.Common.{◌≡◌, ℕ, ◌<◌, ◌≤◌, List, [], ◌∷◌, ◌++◌, Option, Some, None, ap, sym, subst, ◌∙◌, inl, inr}
+use Rattle.std.proofs.Common.{◌≡◌, ℕ, ◌<◌, ◌≤◌, ◌⊎◌, List, [], ◌∷◌, ◌++◌, Option, Some, None, ap, sym, subst, ◌∙◌, inl, inr}
 use Rattle.std.specs.Prelude.{slice_get}
 use Rattle.fare_trip.specs.Itinerary.{Itinerary}
 use Rattle.fare_tariff.specs.Tariff.{Tariff}
@@ -8,24 +8,56 @@ use Rattle.fare_rules.specs.Completion.{first_part_choices}
 use Rattle.fare_component.specs.Table.{Pricing}
 use Rattle.fare_units.specs.Walk.{Completes, IsList}
 use Rattle.fare_branch.specs.declared.pieces.Piece.{Piece}
-use Rattle.fare_branch.specs.Dive.{GoesFrom, StartsIn, IsDived, IsNoList}
+use Rattle.fare_branch.specs.Dive.{GoesFrom, IsAnyOf, StartsIn, IsDived}
 use Rattle.fare_branch.specs.Floors.{IsMadeWith}
 use Rattle.fare_branch.specs.Search.{BeginsIn}
 use Rattle.fare_branch.specs.Walked.{IsWalk}
-use Rattle.fare_branch.proofs.WalkedLemmas.{walk_then}
+use Rattle.fare_branch.proofs.WalkedLemmas.{walk_fallen, walk_nothing, walk_then, walk_within}
 
 abbrev Found : Type 0
 Found = Option (List Part × ℕ)
 
 module _ (tariff : Tariff) (trip : Itinerary) (piece : Piece) where
-  -- a walk over a piece from what a dive came to is one from nothing
-  pub dived_walked : (a b c : ℕ) (middle found : Found) → IsDived tariff trip piece a b middle → IsWalk tariff trip (BeginsIn tariff trip piece) b middle c found → IsWalk tariff trip (BeginsIn tariff trip piece) a None c found
-  dived_walked a b c middle found (inl none) walk =
-      walk_then tariff trip IsNoList (BeginsIn tariff trip piece) (BeginsIn tariff trip piece) a b c None middle found none walk
-      (λ parts d. inr d) (λ parts e. absurd e) (λ parts d. d)
-  dived_walked a b c middle found (inr dive) walk =
-      walk_then tariff trip (IsList dive.0) (BeginsIn tariff trip piece) (BeginsIn tariff trip piece) a b c None middle found dive.2 walk
-      (λ parts d. inr d) (λ parts e. subst (BeginsIn tariff trip piece) (sym e) dive.1) (λ parts d. d)
+  any_left : (lists more : List (List Part)) (parts : List Part) → IsAnyOf lists parts → IsAnyOf (lists ++ more) parts
+  any_left [] more parts is = absurd is
+  any_left (one ∷ lists) more parts (inl e) = inl e
+  any_left (one ∷ lists) more parts (inr is) = inr (any_left lists more parts is)
+
+  any_right : (lists more : List (List Part)) (parts : List Part) → IsAnyOf more parts → IsAnyOf (lists ++ more) parts
+  any_right [] more parts is = is
+  any_right (one ∷ lists) more parts is = inr (any_right lists more parts is)
+
+  any_either : (lists more : List (List Part)) (parts : List Part) → IsAnyOf (lists ++ more) parts → IsAnyOf lists parts ⊎ IsAnyOf more parts
+  any_either [] more parts is = inr is
+  any_either (one ∷ lists) more parts (inl e) = inl (inl e)
+  any_either (one ∷ lists) more parts (inr is) = elim (any_either lists more parts is) [ inl first ↦ inl (inr first) | inr second ↦ inr second ]
+
+  -- no dive
+  pub dived_none : (least : ℕ) (best : Found) → IsDived tariff trip piece least best least best
+  dived_none least best = ([], (λ parts is. absurd is), walk_nothing tariff trip (IsAnyOf []) least best (λ parts price l is. is))
+
+  -- one dive
+  pub dived_one : (parts : List Part) (a b : ℕ) (best found : Found) → BeginsIn tariff trip piece parts → IsWalk tariff trip (IsList parts) a best b found → IsDived tariff trip piece a best b found
+  dived_one parts a b best found begins walk = (
+    parts ∷ [],
+    (λ other is. elim is [ inl e ↦ subst (BeginsIn tariff trip piece) (sym e) begins | inr none ↦ absurd none ]),
+    walk_within tariff trip (IsAnyOf (parts ∷ [])) (IsList parts) a b best found walk (λ other price l is. elim is [ inl e ↦ e | inr none ↦ absurd none ]) (λ other e. inl e),
+  )
+
+  -- dives after others, from a least price that has fallen
+  pub dived_then : (a b low c : ℕ) (best middle found : Found) → low ≤ b → IsDived tariff trip piece a best b middle → IsDived tariff trip piece low middle c found → IsDived tariff trip piece a best c found
+  dived_then a b low c best middle found fallen first second = (
+    first.0 ++ second.0,
+    (λ parts is. elim (any_either first.0 second.0 parts is) [ inl one ↦ first.1 parts one | inr two ↦ second.1 parts two ]),
+    walk_then tariff trip (IsAnyOf first.0) (IsAnyOf second.0) (IsAnyOf (first.0 ++ second.0)) a b c best middle found first.2 (walk_fallen tariff trip (IsAnyOf second.0) b low c middle found fallen second.2)
+        (λ parts is. any_either first.0 second.0 parts is) (λ parts is. any_left first.0 second.0 parts is) (λ parts is. any_right first.0 second.0 parts is),
+  )
+
+  -- a walk over a piece from what dives came to is one from where they began
+  pub dived_walked : (a b low c : ℕ) (best middle found : Found) → low ≤ b → IsDived tariff trip piece a best b middle → IsWalk tariff trip (BeginsIn tariff trip piece) low middle c found → IsWalk tariff trip (BeginsIn tariff trip piece) a best c found
+  dived_walked a b low c best middle found fallen dive walk =
+      walk_then tariff trip (IsAnyOf dive.0) (BeginsIn tariff trip piece) (BeginsIn tariff trip piece) a b c best middle found dive.2 (walk_fallen tariff trip (BeginsIn tariff trip piece) b low c middle found fallen walk)
+      (λ parts d. inr d) (λ parts is. dive.1 parts is) (λ parts d. d)
 
   -- what goes on from a list that begins in a piece begins there too
   pub begins_longer : (front longer : List Part) → BeginsIn tariff trip piece front → Completes front longer → BeginsIn tariff trip piece longer

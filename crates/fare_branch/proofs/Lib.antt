@@ -35,3 +35,4 @@ pub mod NeedLemmas
 pub mod CrowdingLemmas
 pub mod AddedLemmas
 pub mod AheadLemmas
+pub mod CircleLemmas

@@ -23,7 +23,7 @@ use Rattle.fare_branch.proofs.TrueCostLemmas.{back_costs, entry, entry_there}
 module _ (table : Pricing) (homing : Homing) (front : List Part) (u : ℕ) (high : suc u ≤ greatest_unit front (places front)) (behind : List (Option ℕ)) (known : AreOver table homing front u behind) (opened : Open) (is : IsOpenUnit table front (suc u) opened) (homes row : List (Option ℕ))
     (are_homes : AreHomes table.edition table.trip (end_of front (length front)) opened.start opened.closes behind homes) (over_row : AreOverLasts table front (suc u) opened.must homes behind row) where
   over_next : AreOver table homing front (suc u) row
-  over_next rest price i cost lawful low most over = by_behind (own_behind table.edition table.trip front rest (suc u)) refl
+  over_next rest price i cost lawful cheap low most over = by_behind (own_behind table.edition table.trip front rest (suc u)) refl
     where
       unit_has : (x : ℕ) × (xs : List ℕ) × (own front (suc u) ≡ x ∷ xs)
       unit_has = has_first_in table.edition table.trip front rest price lawful (suc u) (omega arith) high (own front (suc u)) refl
@@ -46,7 +46,7 @@ module _ (table : Pricing) (homing : Homing) (front : List Part) (u : ℕ) (high
 
       by_behind : (ys : List ℕ) → own_behind table.edition table.trip front rest (suc u) ≡ ys → IsUpTo cost (rest_at row i)
       by_behind [] none =
-          let up : IsUpTo cost (rest_at behind i) = known rest price i cost lawful low most (over.1 (stays table.edition table.trip front rest price lawful (suc u) (omega arith) high x xs e none)) in
+          let up : IsUpTo cost (rest_at behind i) = known rest price i cost lawful cheap low most (over.1 (stays table.edition table.trip front rest price lawful (suc u) (omega arith) high x xs e none)) in
           elim (cases_Bool opened.must) [
             | inl t ↦ absurd (by_must none t)
             | inr f ↦ over_row.whole f i cost up
@@ -70,7 +70,7 @@ module _ (table : Pricing) (homing : Homing) (front : List Part) (u : ℕ) (high
           let sum : c.0 + c.1 ≤ cost = c.2 in
           let begins : i ≤ start_of table.trip (front ++ rest) (last_of (own (front ++ rest) (suc u))) = c.5.begins in
           let costs : true_cost table.edition table.trip (front ++ rest) (last_of (own (front ++ rest) (suc u))) ≤ c.0 = c.5.costs in
-          let then = known rest price (end_of (front ++ rest) (last_of (own (front ++ rest) (suc u)))) c.1 lawful within_home.0 within_home.1 c.4 in
+          let then = known rest price (end_of (front ++ rest) (last_of (own (front ++ rest) (suc u)))) c.1 lawful cheap within_home.0 within_home.1 c.4 in
           let b : then.0 ≤ c.1 = then.2 in
           let there : rest_at homes (end_of (front ++ rest) (last_of (own (front ++ rest) (suc u)))) ≡ rest_at behind (end_of (front ++ rest) (last_of (own (front ++ rest) (suc u)))) = are_homes (end_of (front ++ rest) (last_of (own (front ++ rest) (suc u)))) within_home.0 within_home.1 may_here in
           let own_last : last_of (own (front ++ rest) (unit_of (front ++ rest) (last_of (own (front ++ rest) (suc u))))) ≡ last_of (own (front ++ rest) (suc u)) = ap (λ v. last_of (own (front ++ rest) v)) g.last_own in
@@ -94,5 +94,5 @@ over_lasts_unit table homing front unit low high behind known opened is homes ro
 -- what is under both of two rows is under the greater of them
 pub over_both : (table : Pricing) (homing : Homing) (front : List Part) (unit : ℕ) (a b row : List (Option ℕ)) → AreOver table homing front unit a → AreOver table homing front unit b
     → ((i most : ℕ) → IsUpTo most (rest_at a i) → IsUpTo most (rest_at b i) → IsUpTo most (rest_at row i)) → AreOver table homing front unit row
-over_both table homing front unit a b row first second both rest price i cost lawful low most over =
-    both i cost (first rest price i cost lawful low most over) (second rest price i cost lawful low most over)
+over_both table homing front unit a b row first second both rest price i cost lawful cheap low most over =
+    both i cost (first rest price i cost lawful cheap low most over) (second rest price i cost lawful cheap low most over)

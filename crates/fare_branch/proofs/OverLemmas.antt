@@ -21,8 +21,11 @@ use Rattle.fare_rules.proofs.LawfulLemmas.{kept}
 use Rattle.fare_rules.proofs.NumberLemmas.{any_next}
 use Rattle.fare_units.proofs.NextLemmas.{front_unit, greatest_same}
 use Rattle.fare_component.specs.Table.{entries_of}
+use Rattle.fare_homing.specs.declared.ceiling.Ceiling.{Ceiling}
+use Rattle.fare_homing.specs.Ceiling.{IsCeiling, IsWithin, below_ceiling}
 use Rattle.fare_homing.specs.Homing.{IsUpTo, homing_at, is_same_city, may_end_at, may_go_on, back_cost, between_cost, heads_to}
 use Rattle.fare_homing.specs.HomingRows.{AreHomings}
+use Rattle.fare_branch.proofs.CircleLemmas.{below_every}
 use Rattle.fare_branch.proofs.CostLemmas.{member_place, unit_from_one}
 use Rattle.fare_branch.proofs.UnitLemmas.{all, own_has, unit_in, alone_in, holds_none}
 use Rattle.fare_branch.proofs.GoesOnLemmas.{first_member, going_on, goes_not, goes_on_from, on_same, none_above, home_behind, own_first, own_last, own_two, two_ends}
@@ -147,7 +150,7 @@ module _ (tariff : Tariff) (trip : Itinerary) (parts : List Part) (price : ℕ) 
       either j last (inl home) = either_left (bytes_eq (point trip (end_of parts last)) (point trip (start_of trip parts j))) (lie_together tariff (point trip (end_of parts last)) (point trip (start_of trip parts j))) home
       either j last (inr near) = either_right (bytes_eq (point trip (end_of parts last)) (point trip (start_of trip parts j))) (lie_together tariff (point trip (end_of parts last)) (point trip (start_of trip parts j))) near
 
-  module _ (closing jaw : ℕ → ℕ → ℕ → Option ℕ) (whole : ℕ → ℕ → Option ℕ) (left : ℕ → Option ℕ) (are : AreHomings tariff trip closing jaw whole left) where
+  module _ (ceiling : Option Ceiling) (alike : IsCeiling tariff trip ceiling) (cheap : IsWithin ceiling price) (closing jaw : ℕ → ℕ → ℕ → Option ℕ) (whole : ℕ → ℕ → Option ℕ) (left : ℕ → Option ℕ) (are : AreHomings tariff trip ceiling closing jaw whole left) where
     abbrev Stands : ℕ → ℕ → ℕ → ℕ → Type 0
     Stands k u i cost = IsOver tariff trip closing jaw left parts k u i cost
 
@@ -269,7 +272,7 @@ module _ (tariff : Tariff) (trip : Itinerary) (parts : List Part) (price : ℕ) 
         alone_over : Stands k (greatest_unit parts (places parts)) (point_behind parts k) (true_cost tariff trip parts (k + 1) + behind)
         alone_over =
             let up : IsUpTo (true_cost tariff trip parts (k + 1)) (whole (point_behind parts k) (end_of parts (k + 1))) = alone_under are (point_behind parts k) (end_of parts (k + 1)) (entry tariff trip parts price lawful (k + 1)) (true_cost tariff trip parts (k + 1)) contained (alone_cost tariff trip parts price lawful (k + 1) (omega arith) high way) in
-            step_over tariff trip closing jaw whole left are parts k (greatest_unit parts (places parts)) (point_behind parts k) (end_of parts (k + 1)) (true_cost tariff trip parts (k + 1)) behind rises within up (λ v low most t. home_and_stand v (alone_same v) t) alone_behind
+            step_over tariff trip ceiling closing jaw whole left are parts k (greatest_unit parts (places parts)) (point_behind parts k) (end_of parts (k + 1)) (true_cost tariff trip parts (k + 1)) behind rises within up (λ v low most t. home_and_stand v (alone_same v) t) alone_behind
 
       -- a half round trip stands first, between or last in its unit
       module _ (way : is_ow tariff parts (k + 1) ≡ false) where
@@ -410,7 +413,7 @@ module _ (tariff : Tariff) (trip : Itinerary) (parts : List Part) (price : ℕ) 
             let rise : point_behind parts k < end_of parts (k + 1) = rises in
             let past : end_of parts (k + 1) < home_at parts (unit_of parts (k + 1)) = h.0 in
             let o : Stands k (unit_of parts (k + 1) - 1) (point_behind parts k) ((true_cost tariff trip parts (k + 1) + c.0) + c.1) =
-            step_over tariff trip closing jaw whole left are parts k (unit_of parts (k + 1) - 1) (point_behind parts k) (home_at parts (unit_of parts (k + 1))) (true_cost tariff trip parts (k + 1) + c.0) c.1 (omega arith) h.1 up
+            step_over tariff trip ceiling closing jaw whole left are parts k (unit_of parts (k + 1) - 1) (point_behind parts k) (home_at parts (unit_of parts (k + 1))) (true_cost tariff trip parts (k + 1) + c.0) c.1 (omega arith) h.1 up
             (λ v low most t. (home_behind tariff trip parts price lawful k v low high (omega arith) first less (other_same v (λ e. omega arith) ∙ t), stand_low tariff trip parts price lawful k v t)) (under_same (home_at parts (unit_of parts (k + 1))) c.1 c.4) in
             let here : goes_on parts k (unit_of parts (k + 1)) ≡ false = goes_not parts k (unit_of parts (k + 1)) (λ a b. omega arith) in
             let m : Stands k (greatest_unit parts (places parts)) (point_behind parts k) ((true_cost tariff trip parts (k + 1) + c.0) + c.1) =
@@ -428,8 +431,8 @@ module _ (tariff : Tariff) (trip : Itinerary) (parts : List Part) (price : ℕ) 
             let closes : IsUpTo c.0 (closing (end_of parts (k + 1)) (end_of parts (k + 1)) (home_at parts (unit_of parts (k + 1)))) = at_city (end_of parts (k + 1)) (begins_at trip parts (unit_of parts (k + 1))) (end_of parts (k + 1)) (home_at parts (unit_of parts (k + 1))) c.0 city (home_from less) in
             let home : ℕ = home_at parts (unit_of parts (k + 1)) in
             let origin_there : point trip home ≡ point trip (begins_at trip parts (unit_of parts (k + 1))) = (bytes_eq-Decides (point trip home) (point trip (begins_at trip parts (unit_of parts (k + 1))))).0 city in
-            let C : ℕ → Type 0 = λ a. between_cost (heads_to tariff trip a (end_of parts (k + 1)) home) (entry tariff trip parts price lawful (k + 1)) ≡ Some (true_cost tariff trip parts (k + 1)) in
-            let cost : C (begin_after trip (point_behind parts k)) = subst C (sym (begins_next k high)) (between_costs tariff trip parts price lawful (k + 1) (omega arith) high way less home origin_there) in
+            let C : ℕ → Type 0 = λ a. below_ceiling tariff trip ceiling a home (end_of parts (k + 1)) (between_cost (heads_to tariff trip a (end_of parts (k + 1)) home)) (entry tariff trip parts price lawful (k + 1)) ≡ Some (true_cost tariff trip parts (k + 1)) in
+            let cost : C (begin_after trip (point_behind parts k)) = subst C (sym (begins_next k high)) (below_every tariff trip parts price lawful (k + 1) (omega arith) high none_ow long less ceiling alike cheap home origin_there (between_cost (heads_to tariff trip (start_of trip parts (k + 1)) (end_of parts (k + 1)) home)) (entry tariff trip parts price lawful (k + 1)) refl (true_cost tariff trip parts (k + 1)) (between_costs tariff trip parts price lawful (k + 1) (omega arith) high way less home origin_there)) in
             let stand : ℕ = stand_of parts k (unit_of parts (k + 1)) in
             let elsewhere : is_same_city trip home (end_of parts (k + 1)) ≡ false = ends_apart (unit_of parts (k + 1)) (k + 1) mine_low mine_high long (own_has tariff trip parts price lawful (k + 1) (omega arith) high) less city in
             let up : IsUpTo (true_cost tariff trip parts (k + 1) + c.0) (closing stand (point_behind parts k) home) =
@@ -518,12 +521,12 @@ module _ (tariff : Tariff) (trip : Itinerary) (front rest : List Part) (price : 
       omega arith)
 
 -- what the parts behind the first parts of a lawful construction cost is over the units of these that go on
-pub behind_is_over : (tariff : Tariff) (trip : Itinerary) (closing jaw : ℕ → ℕ → ℕ → Option ℕ) (whole : ℕ → ℕ → Option ℕ) (left : ℕ → Option ℕ) → AreHomings tariff trip closing jaw whole left
-    → (front rest : List Part) (price : ℕ) → IsLawful tariff trip (front ++ rest) price
+pub behind_is_over : (tariff : Tariff) (trip : Itinerary) (ceiling : Option Ceiling) → IsCeiling tariff trip ceiling → (closing jaw : ℕ → ℕ → ℕ → Option ℕ) (whole : ℕ → ℕ → Option ℕ) (left : ℕ → Option ℕ) → AreHomings tariff trip ceiling closing jaw whole left
+    → (front rest : List Part) (price : ℕ) → IsLawful tariff trip (front ++ rest) price → IsWithin ceiling price
     → IsOver tariff trip closing jaw left (front ++ rest) (length front) (greatest_unit front (places front)) (end_of front (length front)) (sum_by (true_cost tariff trip (front ++ rest)) (range_with_len (length front + 1) (length rest)))
-behind_is_over tariff trip closing jaw whole left are front rest price lawful =
+behind_is_over tariff trip ceiling alike closing jaw whole left are front rest price lawful cheap =
     let n : length (front ++ rest) ≡ length front + length rest = length-append front rest in
-    let o = all_over tariff trip (front ++ rest) price lawful closing jaw whole left are (length rest) (length front) (sym n) in
+    let o = all_over tariff trip (front ++ rest) price lawful ceiling alike cheap closing jaw whole left are (length rest) (length front) (sym n) in
     let P : ℕ → Type 0 = λ i. IsOver tariff trip closing jaw left (front ++ rest) (length front) (greatest_unit (front ++ rest) (places (front ++ rest))) i (sum_by (true_cost tariff trip (front ++ rest)) (range_with_len (length front + 1) (length rest))) in
     over_down tariff trip closing jaw left (front ++ rest) (length front) (greatest_unit front (places front)) (greatest_unit (front ++ rest) (places (front ++ rest))) (end_of front (length front)) (sum_by (true_cost tariff trip (front ++ rest)) (range_with_len (length front + 1) (length rest)))
     (fewer tariff trip front rest price lawful) (λ v low high. none_new tariff trip front rest price lawful v low) (subst P (behind_front front rest) o)

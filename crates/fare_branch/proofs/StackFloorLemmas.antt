@@ -1,9 +1,9 @@
 -- What is behind the first parts of a lawful construction, over one unit more of these.
 use Rattle.std.proofs.Common.{◌≡◌, ℕ, suc, ◌+◌, ◌-◌, ◌<◌, ◌≤◌, Bool, true, false, ◌&&◌, cond, leb, not, List, [], ◌∷◌, ◌++◌, length, refl, ap, sym, subst, ◌∙◌, inl, inr, arith}
-use Rattle.std.specs.Prelude.{Option, Some, None, bytes_eq, nat_lt, nat_le, option_map, sum_by}
+use Rattle.std.specs.Prelude.{IfSome, Option, Some, None, bytes_eq, nat_lt, nat_le, option_map, sum_by}
 use Rattle.std.specs.List.{range_with_len}
 use Rattle.std.proofs.Math.ListN.{length-append}
-use Rattle.std.proofs.lemmas.Bool.{cases_Bool, or_cases, not-true, lt-ltb, le-leb, ltb-true, leb-true, eqb-true}
+use Rattle.std.proofs.lemmas.Bool.{cases_Bool, or_cases, not-true, lt-ltb, le-leb, ltb-true, leb-true, eqb-true, cases_lt}
 use Rattle.std.proofs.lemmas.List.{append-nil}
 use Rattle.std.proofs.lemmas.Option.{same_Some}
 use Rattle.fare_trip.specs.Itinerary.{Itinerary, count}
@@ -25,6 +25,8 @@ use Rattle.fare_homing.specs.declared.homing.Homing.{Homing}
 use Rattle.fare_branch.specs.declared.stacking.Open.{Open}
 use Rattle.fare_branch.specs.Costs.{part_least, true_cost, units_floor}
 use Rattle.fare_homing.specs.Floor.{capped_sum}
+use Rattle.fare_homing.specs.declared.ceiling.Ceiling.{Ceiling}
+use Rattle.fare_homing.specs.Ceiling.{IsWithin}
 use Rattle.fare_homing.specs.Homing.{IsUpTo, homing_at}
 use Rattle.fare_branch.specs.Ending.{needs_more}
 use Rattle.fare_branch.specs.Floors.{IsFloorAnswer}
@@ -216,13 +218,13 @@ module _ (table : Pricing) (homing : Homing) (front : List Part) (u : ℕ) (high
   NeverGoes = (rest : List Part) (price : ℕ) (lawful : IsLawful table.edition table.trip (front ++ rest) price) (x : ℕ) (xs : List ℕ) → own front (suc u) ≡ x ∷ xs → (k : ℕ) (more : List ℕ) → own_behind table.edition table.trip front rest (suc u) ≡ k ∷ more → ⊥
 
   stays_by : NeverGoes → AreOver table homing front (suc u) behind
-  stays_by never rest price i cost lawful low most over = by_behind (own_behind table.edition table.trip front rest (suc u)) refl
+  stays_by never rest price i cost lawful cheap low most over = by_behind (own_behind table.edition table.trip front rest (suc u)) refl
     where
       unit_has : (x : ℕ) × (xs : List ℕ) × (own front (suc u) ≡ x ∷ xs)
       unit_has = has_first_in table.edition table.trip front rest price lawful (suc u) (omega arith) high (own front (suc u)) refl
 
       by_behind : (ys : List ℕ) → own_behind table.edition table.trip front rest (suc u) ≡ ys → IsUpTo cost (rest_at behind i)
-      by_behind [] none = known rest price i cost lawful low most (over.1 (stays table.edition table.trip front rest price lawful (suc u) (omega arith) high unit_has.0 unit_has.1 unit_has.2 none))
+      by_behind [] none = known rest price i cost lawful cheap low most (over.1 (stays table.edition table.trip front rest price lawful (suc u) (omega arith) high unit_has.0 unit_has.1 unit_has.2 none))
       by_behind (k ∷ more) some = absurd (never rest price lawful unit_has.0 unit_has.1 unit_has.2 k more some)
 
   over_shut : is_shut_unit table.edition table.trip front (suc u) ≡ true → AreOver table homing front (suc u) behind
@@ -240,7 +242,7 @@ module _ (table : Pricing) (homing : Homing) (front : List Part) (u : ℕ) (high
       (firsts table.edition table.trip front rest price lawful (suc u) (omega arith) high x xs e) (in_two table.edition table.trip front rest price lawful (suc u) (omega arith) high x xs e) (subst P e must)
 
   over_none : (row : List (Option ℕ)) → is_stuck table.trip front (suc u) ≡ true → needs_more table.edition table.trip front (own front (suc u)) ≡ true → AreOver table homing front (suc u) row
-  over_none row stuck must rest price i cost lawful low most over =
+  over_none row stuck must rest price i cost lawful cheap low most over =
       let unit_has = has_first_in table.edition table.trip front rest price lawful (suc u) (omega arith) high (own front (suc u)) refl in
       let goes_on_by = goes_by rest price lawful unit_has.0 unit_has.1 unit_has.2 must in
       absurd (not_stuck table.edition table.trip front rest price lawful (suc u) (omega arith) high unit_has.0 unit_has.1 unit_has.2 goes_on_by.0 goes_on_by.1 goes_on_by.2 stuck)
@@ -250,7 +252,7 @@ module _ (table : Pricing) (homing : Homing) (front : List Part) (u : ℕ) (high
     homes = over_row.0
 
     over_open : AreOver table homing front (suc u) row
-    over_open rest price i cost lawful low most over = by_behind (own_behind table.edition table.trip front rest (suc u)) refl
+    over_open rest price i cost lawful cheap low most over = by_behind (own_behind table.edition table.trip front rest (suc u)) refl
       where
         unit_has : (x : ℕ) × (xs : List ℕ) × (own front (suc u) ≡ x ∷ xs)
         unit_has = has_first_in table.edition table.trip front rest price lawful (suc u) (omega arith) high (own front (suc u)) refl
@@ -287,7 +289,7 @@ module _ (table : Pricing) (homing : Homing) (front : List Part) (u : ℕ) (high
 
         by_behind : (ys : List ℕ) → own_behind table.edition table.trip front rest (suc u) ≡ ys → IsUpTo cost (rest_at row i)
         by_behind [] none =
-            let up : IsUpTo cost (rest_at behind i) = known rest price i cost lawful low most (over.1 (stays table.edition table.trip front rest price lawful (suc u) (omega arith) high x xs e none)) in
+            let up : IsUpTo cost (rest_at behind i) = known rest price i cost lawful cheap low most (over.1 (stays table.edition table.trip front rest price lawful (suc u) (omega arith) high x xs e none)) in
             elim (cases_Bool opened.must) [
               | inl t ↦ absurd (by_must none t)
               | inr f ↦ here.whole f cost up
@@ -310,7 +312,7 @@ module _ (table : Pricing) (homing : Homing) (front : List Part) (u : ℕ) (high
             let V : ℕ → Type 0 = λ s. IsUpTo c.0 (homing_at table.trip (closing_from homing s) (jaw_from homing s) (start_of table.trip (front ++ rest) (first_of (own (front ++ rest) (suc u)))) i (end_of (front ++ rest) (last_of (own (front ++ rest) (suc u))))) in
             let U : ℕ → Type 0 = λ a. IsUpTo c.0 (homing_at table.trip (closing_from homing opened.stands) (jaw_from homing opened.stands) a i (end_of (front ++ rest) (last_of (own (front ++ rest) (suc u))))) in
             let until = subst U begins (subst V stands c.3) in
-            let then = known rest price (end_of (front ++ rest) (last_of (own (front ++ rest) (suc u)))) c.1 lawful within_home.0 within_home.1 c.4 in
+            let then = known rest price (end_of (front ++ rest) (last_of (own (front ++ rest) (suc u)))) c.1 lawful cheap within_home.0 within_home.1 c.4 in
             let there : rest_at over_row.0 (end_of (front ++ rest) (last_of (own (front ++ rest) (suc u)))) ≡ rest_at behind (end_of (front ++ rest) (last_of (own (front ++ rest) (suc u)))) = over_row.1 (end_of (front ++ rest) (last_of (own (front ++ rest) (suc u)))) within_home.0 within_home.1 may_here in
             let least = here.home (end_of (front ++ rest) (last_of (own (front ++ rest) (suc u)))) within_home.0 within_home.1 until.0 then.0 until.1 (there ∙ then.1) in
             let a : until.0 ≤ c.0 = until.2 in
@@ -388,12 +390,12 @@ module _ (tariff : Tariff) (trip : Itinerary) (front rest : List Part) (price : 
 module _ (table : Pricing) (homing : Homing) (are : AreHomingsOf table.edition table.trip homing) (front : List Part) (within : end_of front (length front) ≤ count table.trip) (behind : List (Option ℕ))
     (over : AreOver table homing front (greatest_unit front (places front)) behind) (found : Option ℕ) (sum : IsUnderSum (Some (units_floor table.edition table.trip front)) (rest_at behind (end_of front (length front))) found) where
   -- what the units cost at least, with what is behind, is no more than the price of a completion
-  found_up : (parts : List Part) (price : ℕ) → IsCompletion table.edition table.trip front parts price → IsUpTo price found
-  found_up parts price c =
+  found_up : (parts : List Part) (price : ℕ) → IsCompletion table.edition table.trip front parts price → IsWithin homing.ceiling price → IsUpTo price found
+  found_up parts price c cheap =
       let P : List Part → Type 0 = λ xs. IsLawful table.edition table.trip xs price in
       let lawful : IsLawful table.edition table.trip (front ++ c.begins.0) price = subst P c.begins.1 c.lawful in
-      let least = over c.begins.0 price (end_of front (length front)) (sum_by (true_cost table.edition table.trip (front ++ c.begins.0)) (range_with_len (length front + 1) (length c.begins.0))) lawful (omega arith) within
-      (behind_is_over table.edition table.trip (closing_from homing) (jaw_from homing) (cell homing.whole) (rest_at homing.rest) are.known front c.begins.0 price lawful) in
+      let least = over c.begins.0 price (end_of front (length front)) (sum_by (true_cost table.edition table.trip (front ++ c.begins.0)) (range_with_len (length front + 1) (length c.begins.0))) lawful cheap (omega arith) within
+      (behind_is_over table.edition table.trip homing.ceiling are.ceiling (closing_from homing) (jaw_from homing) (cell homing.whole) (rest_at homing.rest) are.known front c.begins.0 price lawful cheap) in
       let spent : units_floor table.edition table.trip front + sum_by (true_cost table.edition table.trip (front ++ c.begins.0)) (range_with_len (length front + 1) (length c.begins.0)) ≤ price = spent_up table.edition table.trip front c.begins.0 price lawful in
       let low : least.0 ≤ sum_by (true_cost table.edition table.trip (front ++ c.begins.0)) (range_with_len (length front + 1) (length c.begins.0)) = least.2 in
       up_more (units_floor table.edition table.trip front + least.0) price found (omega arith) (sum (units_floor table.edition table.trip front) least.0 refl least.1)
@@ -404,12 +406,31 @@ paid_under paid spent behind found low is x y e f =
     let same : spent ≡ x = same_Some spent x e in
     (capped_sum paid y, is ∙ ap (option_map (capped_sum paid)) f, omega arith)
 
+-- what is under the prices under a ceiling, and no more than the number above it, is a floor
+pub within_is_floor : (table : Pricing) (ceiling : Option Ceiling) (front : List Part) (found : Option ℕ) → ((parts : List Part) (price : ℕ) → IsCompletion table.edition table.trip front parts price → IsWithin ceiling price → IsUpTo price found)
+    → IfSome ceiling (λ known. IsUpTo (known.price + 1) found) → IsFloorAnswer table.edition table.trip front found
+within_is_floor table ceiling front found under above = as_floor found (λ parts price c. up_to parts price c ceiling under above)
+  where
+    up_to : (parts : List Part) (price : ℕ) → IsCompletion table.edition table.trip front parts price → (known : Option Ceiling) → ((parts : List Part) (price : ℕ) → IsCompletion table.edition table.trip front parts price → IsWithin known price → IsUpTo price found)
+        → IfSome known (λ one. IsUpTo (one.price + 1) found) → IsUpTo price found
+    up_to parts price c None known past = known parts price c tt
+    up_to parts price c (Some one) known past =
+        elim (cases_lt one.price price) [
+          | inl dear ↦ up_more (one.price + 1) price found (omega arith) past
+          | inr cheap ↦ known parts price c (omega arith)
+        ]
+
+    as_floor : (floor : Option ℕ) → ((parts : List Part) (price : ℕ) → IsCompletion table.edition table.trip front parts price → IsUpTo price floor) → IsFloorAnswer table.edition table.trip front floor
+    as_floor None known = λ parts price c. let up = known parts price c in none_some up.0 up.1
+    as_floor (Some floor) known = λ parts price c.
+        let up = known parts price c in
+        let low : up.0 ≤ price = up.2 in
+        let same : floor ≡ up.0 = same_Some floor up.0 up.1 in
+        omega arith
+
 -- so it is a floor
 pub stack_is_floor : (table : Pricing) (homing : Homing) → AreHomingsOf table.edition table.trip homing → (front : List Part) → end_of front (length front) ≤ count table.trip → (behind : List (Option ℕ)) → AreOver table homing front (greatest_unit front (places front)) behind
-    → (found : Option ℕ) → IsUnderSum (Some (units_floor table.edition table.trip front)) (rest_at behind (end_of front (length front))) found → IsFloorAnswer table.edition table.trip front found
-stack_is_floor table homing are front within behind over None sum = λ parts price c. let up = found_up table homing are front within behind over None sum parts price c in none_some up.0 up.1
-stack_is_floor table homing are front within behind over (Some floor) sum = λ parts price c.
-    let up = found_up table homing are front within behind over (Some floor) sum parts price c in
-    let low : up.0 ≤ price = up.2 in
-    let same : floor ≡ up.0 = same_Some floor up.0 up.1 in
-    omega arith
+    → (found lowered : Option ℕ) → IsUnderSum (Some (units_floor table.edition table.trip front)) (rest_at behind (end_of front (length front))) found → ((most : ℕ) → IsUpTo most found → IsUpTo most lowered) → IfSome homing.ceiling (λ known. IsUpTo (known.price + 1) lowered)
+    → IsFloorAnswer table.edition table.trip front lowered
+stack_is_floor table homing are front within behind over found lowered sum kept above =
+    within_is_floor table homing.ceiling front lowered (λ parts price c cheap. kept price (found_up table homing are front within behind over found sum parts price c cheap)) above

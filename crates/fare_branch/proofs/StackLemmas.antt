@@ -6,6 +6,7 @@ use Rattle.fare_trip.specs.Itinerary.{Itinerary, count}
 use Rattle.fare_tariff.specs.Tariff.{Tariff}
 use Rattle.fare_rules.specs.declared.part.Part.{Part}
 use Rattle.fare_rules.specs.Construction.{start_of, end_of, own, first_of, last_of}
+use Rattle.fare_homing.specs.declared.ceiling.Ceiling.{Ceiling}
 use Rattle.fare_homing.specs.Homing.{IsUpTo, homing_at, is_same_city}
 use Rattle.fare_homing.specs.HomingRows.{AreHomings}
 use Rattle.fare_branch.specs.Costs.{true_cost}
@@ -120,7 +121,7 @@ module _ (tariff : Tariff) (trip : Itinerary) (closing jaw : ℕ → ℕ → ℕ
       let P : ℕ → Type 0 = λ w. Over k w (home_at parts (suc u)) y in
       over_open k u i x y t up (subst P e o) last
 
-module _ (tariff : Tariff) (trip : Itinerary) (closing jaw : ℕ → ℕ → ℕ → Option ℕ) (whole : ℕ → ℕ → Option ℕ) (left : ℕ → Option ℕ) (are : AreHomings tariff trip closing jaw whole left) where
+module _ (tariff : Tariff) (trip : Itinerary) (ceiling : Option Ceiling) (closing jaw : ℕ → ℕ → ℕ → Option ℕ) (whole : ℕ → ℕ → Option ℕ) (left : ℕ → Option ℕ) (are : AreHomings tariff trip ceiling closing jaw whole left) where
   -- a number for what is nested with one for what is behind it
   nested : (c start i b j w x : ℕ) → c ≤ i → i < b → b < j → b ≤ count trip → IsUpTo w (whole i b) → IsUpTo x (homing_at trip (closing c) (jaw c) start b j) → IsUpTo (w + x) (homing_at trip (closing c) (jaw c) start i j)
   nested c start i b j w x stands low less high up more =

@@ -13,6 +13,7 @@ use Rattle.fare_branch.specs.declared.ahead.Ahead.{Ahead}
 use Rattle.fare_homing.specs.declared.homing.Homing.{Homing}
 use Rattle.fare_branch.specs.Costs.{part_least, AreUnitFloors}
 use Rattle.fare_branch.specs.Floors.{IsMadeWith}
+use Rattle.fare_homing.specs.Ceiling.{IsWithin}
 use Rattle.fare_homing.specs.Homing.{IsUpTo, may_end_at}
 use Rattle.fare_homing.specs.Rows.{cell, closing_from, jaw_from, AreHomingsOf}
 use Rattle.fare_branch.specs.Stack.{AreHomes, IsOver, IsOverOpen}
@@ -24,17 +25,17 @@ IsBehindNext table first part rest price spent behind =
     IsUpTo price (option_map (λ more. spent
     + part_least table.edition table.trip (first ++ part ∷ rest) (length first + 1) + more) behind)
 
--- what is known of the next part after some first parts: in every lawful construction that begins with them what is
--- behind it, as a one way fare by the point where it ends, and as a half round trip by its unit and that point; and of
--- the first parts what each of their units costs at least
+-- what is known of the next part after some first parts: in every lawful construction that begins with them, and is
+-- under the ceiling, what is behind it, as a one way fare by the point where it ends, and as a half round trip by its
+-- unit and that point; and of the first parts what each of their units costs at least
 pub record AreAhead (table : Pricing) (first : List Part) (ahead : Ahead) : Type 0 where
   pub floors : AreUnitFloors table.edition table.trip first ahead.floors
   pub alone : (part : Part) (rest : List Part) (price : ℕ)
-      → IsLawful table.edition table.trip (first ++ part ∷ rest) price
+      → IsLawful table.edition table.trip (first ++ part ∷ rest) price → IsWithin ahead.ceiling price
       → is_ow table.edition (first ++ part ∷ rest) (length first + 1) ≡ true
       → IsBehindNext table first part rest price ahead.spent (rest_at ahead.alone part.end)
   pub half : (part : Part) (rest : List Part) (price : ℕ)
-      → IsLawful table.edition table.trip (first ++ part ∷ rest) price
+      → IsLawful table.edition table.trip (first ++ part ∷ rest) price → IsWithin ahead.ceiling price
       → is_ow table.edition (first ++ part ∷ rest) (length first + 1) ≡ false
       → IsBehindNext table first part rest price ahead.spent (cell ahead.half part.unit part.end)
 
@@ -43,7 +44,7 @@ pub record AreAhead (table : Pricing) (first : List Part) (ahead : Ahead) : Type
 abbrev pub AreBehindHalf : Pricing → Homing → List Part → ℕ → List (Option ℕ) → Type 0
 AreBehindHalf table homing first unit numbers =
     (part : Part) (rest : List Part) (price cost : ℕ)
-    → IsLawful table.edition table.trip (first ++ part ∷ rest) price → part.unit ≡ unit
+    → IsLawful table.edition table.trip (first ++ part ∷ rest) price → IsWithin homing.ceiling price → part.unit ≡ unit
     → is_ow table.edition (first ++ part ∷ rest) (length first + 1) ≡ false
     → IsOver table.edition table.trip (closing_from homing) (jaw_from homing) (rest_at homing.rest)
     (first ++ part ∷ rest) (length first + 1) (greatest_unit (first ++ part ∷ rest) (places (first ++ part ∷ rest)))

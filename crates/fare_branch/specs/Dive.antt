@@ -1,11 +1,11 @@
 -- What a dive goes through: first parts that go on from others, or begin in a piece.
-use Rattle.std.specs.Prelude.{ℕ, ◌⊎◌, List, Option, None}
+use Rattle.std.specs.Prelude.{◌≡◌, ℕ, ◌⊎◌, List, [], ◌∷◌, Option}
 use Rattle.fare_trip.specs.Itinerary.{Itinerary}
 use Rattle.fare_tariff.specs.Tariff.{Tariff}
 use Rattle.fare_rules.specs.declared.part.Part.{Part}
 use Rattle.fare_rules.specs.Best.{IsLawful}
 use Rattle.fare_component.specs.Table.{Pricing}
-use Rattle.fare_units.specs.Walk.{Completes, IsList}
+use Rattle.fare_units.specs.Walk.{Completes}
 use Rattle.fare_branch.specs.declared.pieces.Piece.{Piece}
 use Rattle.fare_branch.specs.Floors.{IsMadeWith}
 use Rattle.fare_branch.specs.Search.{BeginsIn}
@@ -26,13 +26,14 @@ pub record IsLanded (table : Pricing) (piece : Piece) (found : List Part × ℕ)
   pub begins : BeginsIn table.edition table.trip piece found.0
   pub lawful : IsLawful table.edition table.trip found.0 found.1
 
--- no list
-abbrev pub IsNoList : List Part → Type 0
-IsNoList parts = ⊥
+-- a list is one of some
+abbrev pub IsAnyOf : List (List Part) → List Part → Type 0
+IsAnyOf [] parts = ⊥
+IsAnyOf (one ∷ more) parts = (parts ≡ one) ⊎ IsAnyOf more parts
 
--- a dive into a piece came to what it found: a list that begins in the piece was taken where it is lawful, or none was
-abbrev pub IsDived : Tariff → Itinerary → Piece → ℕ → ℕ → Option (List Part × ℕ) → Type 0
-IsDived tariff trip piece before after found =
-    IsWalk tariff trip IsNoList before None after found
-    ⊎ ((parts : List Part) × BeginsIn tariff trip piece parts
-    × IsWalk tariff trip (IsList parts) before None after found)
+-- from a least price and a best, dives into a piece came to others: some lists that begin in the piece were taken,
+-- where they are lawful
+abbrev pub IsDived : Tariff → Itinerary → Piece → ℕ → Option (List Part × ℕ) → ℕ → Option (List Part × ℕ) → Type 0
+IsDived tariff trip piece before best after found =
+    (lists : List (List Part)) × ((parts : List Part) → IsAnyOf lists parts → BeginsIn tariff trip piece parts)
+    × IsWalk tariff trip (IsAnyOf lists) before best after found

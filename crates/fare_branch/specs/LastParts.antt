@@ -1,6 +1,7 @@
 -- LastParts: which part may be the last of a unit that goes on behind some first parts, and what it costs at least with
 -- what is behind it.
-use Rattle.std.specs.Prelude.{◌≡◌, ℕ, ◌+◌, ◌-◌, ◌<◌, ◌≤◌, Bool, true, false, not, ◌&&◌, List, [], ◌∷◌, ◌++◌, length, Option}
+use Rattle.std.specs.Prelude.{◌≡◌, ℕ, ◌+◌, ◌-◌, ◌<◌, ◌≤◌, Bool, true, false, not, ◌&&◌}
+use Rattle.std.specs.Prelude.{List, [], ◌∷◌, ◌++◌, length, Option}
 use Rattle.std.specs.Prelude.{Some, Contains}
 use Rattle.std.specs.List.{list_any}
 use Rattle.fare_codes.specs.Day.{day_number}
@@ -46,7 +47,8 @@ IsUnderLast table front unit s home behind entry least =
 abbrev pub IsUnderLasts : Pricing → List Part → ℕ → List (Option ℕ) → ℕ → Option ℕ → Type 0
 IsUnderLasts table front unit homes s least =
     (home behind : ℕ) (entry : Entry) → rest_at homes home ≡ Some behind
-    → Contains (entries_of table.edition table.trip s home) entry → IsUnderLast table front unit s home behind entry least
+    → Contains (entries_of table.edition table.trip s home) entry
+    → IsUnderLast table front unit s home behind entry least
 
 -- numbers are under what the last part of a unit costs that begins at each point or behind it
 abbrev pub AreLasts : Pricing → List Part → ℕ → ℕ → List (Option ℕ) → List (Option ℕ) → Type 0
@@ -55,7 +57,8 @@ AreLasts table front unit from homes lasts =
 
 -- numbers are over a unit that goes on by what its last part costs, or, where it need not go on, by what is behind each
 -- point without it
-pub record AreOverLasts (table : Pricing) (front : List Part) (unit : ℕ) (must : Bool) (homes behind row : List (Option ℕ)) :
+pub record AreOverLasts (table : Pricing) (front : List Part) (unit : ℕ) (must : Bool)
+    (homes behind row : List (Option ℕ)) :
     Type 0 where
   pub lasts : AreLasts table front unit (end_of front (length front)) homes row
   pub whole : must ≡ false → (i cost : ℕ) → IsUpTo cost (rest_at behind i) → IsUpTo cost (rest_at row i)

@@ -11,10 +11,11 @@ use Rattle.fare_component.specs.Table.{Pricing}
 use Rattle.fare_bounds.specs.Covers.{rest_at}
 use Rattle.fare_homing.specs.declared.homing.Homing.{Homing}
 use Rattle.fare_branch.specs.declared.stacking.Open.{Open}
-use Rattle.fare_branch.specs.declared.stacking.Stack.{Stack}
+use Rattle.fare_branch.specs.declared.stack.Stack.{Stack}
 use Rattle.fare_branch.specs.Costs.{true_cost, units_floor, AreUnitFloors}
 use Rattle.fare_branch.specs.Ending.{needs_more}
 use Rattle.fare_branch.specs.Floors.{IsFloorAnswer}
+use Rattle.fare_homing.specs.Ceiling.{IsWithin}
 use Rattle.fare_homing.specs.Homing.{IsUpTo, may_end_at, is_same_city, homing_at}
 use Rattle.fare_homing.specs.Rows.{closing_from, jaw_from}
 
@@ -49,11 +50,11 @@ IsOver tariff trip closing jaw left parts k (suc u) i cost =
     × (goes_on parts k (suc u) ≡ false → IsOver tariff trip closing jaw left parts k u i cost)
 
 -- numbers are under what is behind each point from the end of some first parts on, over the units up to a number, in
--- every construction that begins with the parts
+-- every construction that begins with the parts and is under the ceiling
 abbrev pub AreOver : Pricing → Homing → List Part → ℕ → List (Option ℕ) → Type 0
 AreOver table homing first unit numbers =
     (rest : List Part) (price i cost : ℕ) → IsLawful table.edition table.trip (first ++ rest) price
-    → end_of first (length first) ≤ i → i ≤ count table.trip
+    → IsWithin homing.ceiling price → end_of first (length first) ≤ i → i ≤ count table.trip
     → IsOver table.edition table.trip (closing_from homing) (jaw_from homing) (rest_at homing.rest) (first ++ rest)
     (length first) unit i cost → IsUpTo cost (rest_at numbers i)
 
@@ -108,7 +109,8 @@ AreOverOpen table homing from opened behind row =
 -- rows are over the units of some first parts, by the number up to which they are counted
 abbrev pub AreOverUnits : Pricing → Homing → List Part → List (List (Option ℕ)) → Type 0
 AreOverUnits table homing front rows =
-    (unit : ℕ) → unit ≤ greatest_unit front (places front) → AreOver table homing front unit (slice_index_or rows unit [])
+    (unit : ℕ) → unit ≤ greatest_unit front (places front)
+    → AreOver table homing front unit (slice_index_or rows unit [])
 
 -- what is known of some first parts by their units: what each costs at least, and no more than all do, what is behind
 -- each point over the units up to each number, and a floor

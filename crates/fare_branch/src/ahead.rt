@@ -2,7 +2,7 @@
 //! fare, or a half round trip of one of the units. So most parts that cost too much are passed over before the longer
 //! list is made.
 
-ghost use Rattle.std.specs.Prelude.{◌≡◌, ℕ, ◌+◌, ◌-◌, ◌≤◌, ◌++◌, ◌∷◌, [], Some, is_some, if◌then◌else◌};
+ghost use Rattle.std.specs.Prelude.{◌≡◌, ℕ, ◌+◌, ◌-◌, ◌≤◌, ◌++◌, ◌∷◌, [], IfSome, Some, is_some, if◌then◌else◌};
 ghost use Rattle.fare_trip.specs.Itinerary.{count};
 ghost use Rattle.fare_rules.specs.Construction.{end_of, first_of, greatest_unit, own, places, start_of};
 ghost use Rattle.fare_component.specs.Table.{IsInBounds};
@@ -16,11 +16,13 @@ ghost use Rattle.fare_homing.specs.Rows.{cell, AreHomingsOf};
 ghost use Rattle.fare_branch.specs.Stack.{AreOver, IsStack};
 
 use crate::costs::{MOST_UNITS, entry_least};
+use crate::floors::lowered_to;
 use crate::joining::{first_place, is_stuck};
 use crate::partial::Partial;
-use crate::stacking::{Open, Stack, homes_of, may_come_to, over_point};
+use crate::stack::Stack;
+use crate::stacking::{Open, homes_of, may_come_to, over_point};
 use fare_component::{Entry, Table};
-use fare_homing::{Floor, Homing, NOTHING, number_at, paid_with};
+use fare_homing::{Ceiling, Floor, Homing, NOTHING, number_at, paid_with};
 use fare_rules::{MOST_POINTS, Part};
 use fare_units::{is_shut_unit, start_of};
 
@@ -35,6 +37,8 @@ pub struct Ahead {
     pub alone: [Floor; MOST_POINTS],
     /// What is behind a half round trip, by its unit and the point where it ends.
     pub half: [[Floor; MOST_POINTS]; MOST_UNITS],
+    /// The ceiling under which that holds.
+    pub ceiling: Option<Ceiling>,
 }
 
 /// Whether a unit that begins at a point must go on behind a half round trip that ends at another: this is its first
@@ -145,6 +149,7 @@ pub fn ahead_of(table: &Table, homing: &Homing, front: &Partial, stack: Stack) -
         spent: stack.spent,
         alone: stack.over[greatest],
         half,
+        ceiling: homing.ceiling,
     }
 }
 
@@ -166,12 +171,16 @@ fn behind_of(ahead: &Ahead, entry: &Entry, part: Part) -> Floor
 /// What some first parts cost at least with a part of an entry and what is behind that.
 pub fn floor_with(ahead: &Ahead, entry: &Entry, part: Part) -> Option<u64>
     requires { IsInBounds entry.now }
-    ensures { (behind : ℕ) → (if is_some entry.now.single then rest_at ahead.now.alone part.end
+    ensures up { (behind : ℕ) → (if is_some entry.now.single then rest_at ahead.now.alone part.end
         else cell ahead.now.half part.unit part.end) ≡ Some behind
         → IsUpTo (ahead.now.spent + or_nothing (least_cost entry.now) + behind) result }
+    ensures above { IfSome ahead.now.ceiling (λ ceiling. IsUpTo (ceiling.price + 1) result) }
 {
     let paid = ahead.spent.saturating_add(entry_least(entry));
-    paid_with(paid, behind_of(ahead, entry, part))
+    lowered_to(
+        ahead.ceiling,
+        paid_with(paid, behind_of(ahead, entry, part)),
+    )
 }
 
 /// A number that is at most the price of every completion of some first parts with one more at their end; nothing only

@@ -9,7 +9,7 @@ ghost use Rattle.fare_branch.specs.Search.{BeginsIn};
 
 use crate::diving::{first_step, least_step};
 use crate::partial::Partial;
-use crate::pieces::Piece;
+use crate::pieces::{Piece, choices};
 use fare_component::Table;
 use fare_homing::Homing;
 use fare_units::lawful_price_by;
@@ -90,4 +90,35 @@ pub(crate) fn dive(table: &Table, homing: &Homing, piece: Piece) -> Landing
         }
     }
     None
+}
+
+/// The first parts of some, without as many of their last ones as are left out.
+fn front_of(table: &Table, whole: &Partial, left_out: usize) -> Partial
+    ensures { IsMadeWith table.now result }
+{
+    let parts = whole.parts();
+    let mut front = Partial::new();
+    for i in 0..parts.len().saturating_sub(left_out) {
+        let Some(longer) = front.next(table, parts[i]) else {
+            return front;
+        };
+        front = longer;
+    }
+    front
+}
+
+/// The first parts of a construction that a dive comes to, without some of its last parts; no parts where it finds none.
+pub fn dived_front(table: &Table, homing: &Homing, left_out: usize) -> Partial
+    requires homing { AreHomingsOf table.now.edition table.now.trip homing.now }
+    ensures { IsMadeWith table.now result }
+{
+    let _sectors = table.trip().count();
+    let all = Piece {
+        first: 0,
+        past: choices(table),
+    };
+    match dive(table, homing, all) {
+        None => Partial::new(),
+        Some((whole, _price)) => front_of(table, &whole, left_out),
+    }
 }

@@ -16,7 +16,7 @@ use crate::barred::is_barred;
 use crate::crowding::is_crowded;
 use crate::partial::Partial;
 use crate::pieces::{Counts, Piece, choice, choices, counts_of};
-use crate::stacking::{stack_after, stack_of};
+use crate::stack::{stack_after, stack_of};
 use crate::stage::Stage;
 use fare_component::{Entry, Table};
 use fare_homing::Homing;

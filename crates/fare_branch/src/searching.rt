@@ -6,20 +6,19 @@ ghost use Rattle.fare_branch.specs.Ahead.{IsStage};
 ghost use Rattle.fare_branch.specs.Beginnings.{AreCounts};
 ghost use Rattle.fare_homing.specs.Rows.{AreHomingsOf};
 ghost use Rattle.fare_branch.specs.Search.{IsLeastPrice, BeginsIn, BeginsBy, IsSearched, kept_at};
-ghost use Rattle.fare_branch.specs.Dive.{IsDived};
 ghost use Rattle.fare_branch.specs.Walked.{IsWalk, IsUnderAll};
 
 use crate::ahead::{ahead_of, floor_ahead};
 use crate::bound::Bound;
-use crate::descent::dive;
+use crate::opening::{dives, raised};
 use crate::partial::Partial;
 use crate::pieces::{Counts, Piece, choice, choices, counts_of};
-use crate::stacking::stack_of;
+use crate::stack::stack_of;
 use crate::stage::Stage;
-use crate::walking::{Found, follow, keep};
+use crate::walking::{Found, follow};
 use fare_bounds::Rest;
 use fare_component::Table;
-use fare_homing::{Homing, homing_of};
+use fare_homing::Homing;
 use fare_rules::Part;
 use fare_units::Construction;
 
@@ -36,8 +35,9 @@ pub fn search<B: Bound>(
     ensures fixed { B.fixed bound.new ≡ B.fixed bound.old }
     ensures searched { IsSearched table.now.edition table.now.trip piece (B.least bound.new) result }
 {
-    let homing = homing_of(table);
-    let first = try_dive(table, &homing, piece, bound);
+    let (homing, first) = dives(table, piece, bound);
+    let known = bound.seen();
+    let homing = raised(table, homing, known);
     let found = walk_piece(table, &homing, piece, first, bound);
     let least = bound.seen();
     kept_at(found, least)
@@ -50,19 +50,6 @@ fn kept_at(found: Found, least: u64) -> Found
     match found {
         Some((parts, price)) if price <= least => Some((parts, price)),
         _ => None,
-    }
-}
-
-/// Takes what a dive comes to, where that is lawful.
-fn try_dive<B: Bound>(table: &Table, homing: &Homing, piece: Piece, bound: &mut B) -> Found
-    requires homing { AreHomingsOf table.now.edition table.now.trip homing.now }
-    requires under { IsUnderAll table.now.edition table.now.trip (B.fixed bound.old) }
-    ensures fixed { B.fixed bound.new ≡ B.fixed bound.old }
-    ensures dived { IsDived table.now.edition table.now.trip piece (B.least bound.old) (B.least bound.new) result }
-{
-    match dive(table, homing, piece) {
-        None => None,
-        Some((front, price)) => keep(table, &front, price, None, bound),
     }
 }
 
@@ -110,8 +97,8 @@ fn walk_choice<B: Bound>(
     requires under { IsUnderAll stage.now.table.now.edition stage.now.table.now.trip (B.fixed bound.old) }
     ensures fixed { B.fixed bound.new ≡ B.fixed bound.old }
     ensures walk { IsWalk stage.now.table.now.edition stage.now.table.now.trip
-        (BeginsBy stage.now.table.now.edition stage.now.table.now.trip number) (B.least bound.old) best (B.least bound.new)
-        result }
+        (BeginsBy stage.now.table.now.edition stage.now.table.now.trip number) (B.least bound.old) best
+        (B.least bound.new) result }
 {
     let table = stage.table;
     let _sectors = table.trip().count();

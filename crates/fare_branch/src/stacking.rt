@@ -1,43 +1,29 @@
-//! What first parts cost at least, with all that may follow: their open units come home one inside the other, and what
-//! begins behind them must end too.
+//! What is behind each point at least over the units of first parts: the open ones come home one inside the other, and
+//! what begins behind them must end too.
 
 ghost use Rattle.std.specs.Prelude.{◌≡◌, ℕ, ◌+◌, ◌-◌, ◌≤◌, true, false, length};
 ghost use Rattle.fare_trip.specs.Itinerary.{count};
 ghost use Rattle.fare_bounds.specs.Covers.{rest_at};
 ghost use Rattle.fare_rules.specs.Construction.{end_of, first_of, greatest_unit, own, places};
 ghost use Rattle.fare_units.specs.Advance.{Advances};
-ghost use Rattle.fare_branch.specs.Costs.{AreFloorsBefore, AreUnitFloors};
 ghost use Rattle.fare_branch.specs.Floors.{IsMadeWith};
 ghost use Rattle.fare_homing.specs.Homing.{homing_at};
 ghost use Rattle.fare_homing.specs.Rows.{AreHomingsOf, closing_from, jaw_from};
-ghost use Rattle.fare_branch.specs.Stack.{AreOver, AreOverUnits, AreHomes, IsUntilHome, IsOverOpen, IsStack};
+ghost use Rattle.fare_branch.specs.Stack.{AreOver, AreOverUnits, AreHomes, IsUntilHome, IsOverOpen};
 ghost use Rattle.fare_branch.specs.Stack.{IsOpenUnit, may_come_to};
 
-use crate::costs::{MOST_UNITS, floors_after, floors_of, spent_on};
+use crate::costs::MOST_UNITS;
 use crate::ending::needs_more;
 use crate::joining::{first_place, is_stuck, part_count, standing_point};
 use crate::lasting::{Going, greater_of, over_lasts};
 use crate::partial::Partial;
 use fare_component::Table;
 use fare_homing::{
-    Floor, Homing, NOTHING, added, closing_from, jaw_from, lesser, lie_near, number_at, paid_with,
+    Floor, Homing, NOTHING, added, closing_from, jaw_from, lesser, lie_near, number_at,
 };
 use fare_rules::{MOST_POINTS, Part};
 use fare_trip::Trip;
 use fare_units::{MOST_PARTS, is_shut_unit, start_of};
-
-/// What is known of first parts by their units.
-#[derive(Drop)]
-pub struct Stack {
-    /// What each unit costs at least, by its number, in NUC hundredths.
-    pub floors: [u64; MOST_UNITS],
-    /// What the first parts cost at least, in NUC hundredths.
-    pub spent: u64,
-    /// What is behind each point at least over the units up to each number.
-    pub over: [[Floor; MOST_POINTS]; MOST_UNITS],
-    /// A number that is at most the price of every completion, in NUC hundredths; nothing only where there is none.
-    pub floor: Option<u64>,
-}
 
 /// A unit of first parts that is open: parts may come to it.
 #[derive(Clone, Copy)]
@@ -251,7 +237,7 @@ pub(crate) fn over_unit(
 }
 
 /// What is behind each point at least over the units of first parts, by the number up to which they are counted.
-fn over_units(
+pub(crate) fn over_units(
     table: &Table,
     homing: &Homing,
     partial: &Partial,
@@ -267,53 +253,4 @@ fn over_units(
         over[unit] = over_unit(table, homing, partial, unit, &over[unit - 1]);
     }
     over
-}
-
-/// What is known of first parts by what each of their units costs at least.
-fn stack_with(table: &Table, homing: &Homing, partial: &Partial, floors: [u64; MOST_UNITS]) -> Stack
-    requires homing { AreHomingsOf table.now.edition table.now.trip homing.now }
-    requires made { IsMadeWith table.now partial.now }
-    requires floors { AreUnitFloors table.now.edition table.now.trip partial.now floors }
-    ensures { IsStack table.now homing.now partial.now result }
-{
-    let _sectors = table.trip().count();
-    let greatest = partial.greatest_unit();
-    let spent = spent_on(&floors, greatest);
-    let over = over_units(table, homing, partial);
-    let floor = paid_with(spent, number_at(&over[greatest], partial.end()));
-    Stack {
-        floors,
-        spent,
-        over,
-        floor,
-    }
-}
-
-/// What is known of first parts by their units: what begins must end, so each open unit comes home, one inside the
-/// other, and so does each that begins behind.
-pub fn stack_of(table: &Table, homing: &Homing, partial: &Partial) -> Stack
-    requires homing { AreHomingsOf table.now.edition table.now.trip homing.now }
-    requires made { IsMadeWith table.now partial.now }
-    ensures { IsStack table.now homing.now partial.now result }
-{
-    let _sectors = table.trip().count();
-    let floors = floors_of(table, partial.parts());
-    stack_with(table, homing, partial, floors)
-}
-
-/// The same by what is known of the parts without their last one: its unit alone is priced anew.
-pub fn stack_after(
-    table: &Table,
-    homing: &Homing,
-    partial: &Partial,
-    before: &[u64; MOST_UNITS],
-) -> Stack
-    requires homing { AreHomingsOf table.now.edition table.now.trip homing.now }
-    requires made { IsMadeWith table.now partial.now }
-    requires before { AreFloorsBefore table.now.edition table.now.trip partial.now before.now }
-    ensures { IsStack table.now homing.now partial.now result }
-{
-    let _sectors = table.trip().count();
-    let floors = floors_after(table, partial.parts(), before);
-    stack_with(table, homing, partial, floors)
 }

@@ -17,7 +17,7 @@ use crate::barred::is_barred;
 use crate::bound::Bound;
 use crate::crowding::is_crowded;
 use crate::partial::Partial;
-use crate::stacking::stack_after;
+use crate::stack::stack_after;
 use crate::stage::Stage;
 use fare_component::{Entry, Table};
 use fare_rules::Part;
@@ -166,8 +166,8 @@ fn walk_units<B: Bound>(
     requires bounds { IsInBounds entry.now }
     requires under { IsUnderAll stage.now.table.now.edition stage.now.table.now.trip (B.fixed bound.old) }
     ensures fixed { B.fixed bound.new ≡ B.fixed bound.old }
-    ensures walk { IsWalk stage.now.table.now.edition stage.now.table.now.trip (GoesOn stage.now.front.now (HasFare end entry.now.fare))
-        (B.least bound.old) best (B.least bound.new) result }
+    ensures walk { IsWalk stage.now.table.now.edition stage.now.table.now.trip
+        (GoesOn stage.now.front.now (HasFare end entry.now.fare)) (B.least bound.old) best (B.least bound.new) result }
 {
     let sectors = stage.table.trip().count();
     prove!(end <= sectors);
@@ -196,11 +196,12 @@ pub(crate) fn follow<B: Bound>(
     requires stage { IsStage stage.now.table.now stage.now.homing.now stage.now.front.now stage.now.ahead.now }
     requires rises { next_start stage.now.table.now.trip stage.now.front.now < part.end }
     requires within { part.end ≤ count stage.now.table.now.trip }
-    requires floor { IsFloorAnswer stage.now.table.now.edition stage.now.table.now.trip (stage.now.front.now ++ part ∷ []) floor }
+    requires floor { IsFloorAnswer stage.now.table.now.edition stage.now.table.now.trip
+        (stage.now.front.now ++ part ∷ []) floor }
     requires under { IsUnderAll stage.now.table.now.edition stage.now.table.now.trip (B.fixed bound.old) }
     ensures fixed { B.fixed bound.new ≡ B.fixed bound.old }
-    ensures walk { IsWalk stage.now.table.now.edition stage.now.table.now.trip (GoesOn stage.now.front.now (IsPart part))
-        (B.least bound.old) best (B.least bound.new) result }
+    ensures walk { IsWalk stage.now.table.now.edition stage.now.table.now.trip
+        (GoesOn stage.now.front.now (IsPart part)) (B.least bound.old) best (B.least bound.new) result }
 {
     let Some(least) = floor else {
         return best;
@@ -219,8 +220,8 @@ fn enter<B: Bound>(stage: &Stage, part: Part, best: Found, bound: &mut B) -> Fou
     requires within { part.end ≤ count stage.now.table.now.trip }
     requires under { IsUnderAll stage.now.table.now.edition stage.now.table.now.trip (B.fixed bound.old) }
     ensures fixed { B.fixed bound.new ≡ B.fixed bound.old }
-    ensures walk { IsWalk stage.now.table.now.edition stage.now.table.now.trip (GoesOn stage.now.front.now (IsPart part))
-        (B.least bound.old) best (B.least bound.new) result }
+    ensures walk { IsWalk stage.now.table.now.edition stage.now.table.now.trip
+        (GoesOn stage.now.front.now (IsPart part)) (B.least bound.old) best (B.least bound.new) result }
 {
     let (table, homing) = (stage.table, stage.homing);
     let Some(longer) = stage.front.next(table, part) else {

@@ -1,6 +1,6 @@
 -- The numbers of homing from a trip's end back, one point on.
 use Rattle.std.proofs.Common.{◌≡◌, ℕ, zero, suc, ◌+◌, ◌<◌, ◌≤◌, Bool, true, false, List, [], ◌∷◌, length, replicate, refl, sym, subst, ◌∙◌, inl, inr, arith}
-use Rattle.std.specs.Prelude.{Option, Some, None, is_some, slice_index_or}
+use Rattle.std.specs.Prelude.{Option, Some, None, is_some, slice_index_or, if◌then◌else◌}
 use Rattle.std.proofs.lemmas.Bool.{cases_Bool, cases_lt}
 use Rattle.std.proofs.lemmas.Option.{none-some}
 use Rattle.fare_trip.specs.Itinerary.{Itinerary, count, point}
@@ -13,11 +13,13 @@ use Rattle.fare_component.specs.declared.table.entry.Entry.{Entry}
 use Rattle.fare_component.specs.Table.{entries_of}
 use Rattle.fare_component.proofs.LawLemmas.{entry_is_of_fare}
 use Rattle.fare_bounds.specs.Covers.{lesser, rest_at}
+use Rattle.fare_homing.specs.declared.ceiling.Ceiling.{Ceiling}
+use Rattle.fare_homing.specs.Ceiling.{below_ceiling}
 use Rattle.fare_homing.specs.Homing.{IsUpTo, back_cost, between_cost, first_cost, heads_to, homing_at, is_same_city}
 use Rattle.fare_homing.specs.HomingRows.{AreClosings, AreJaws, AreWholes, IsBetween, IsPart, IsUnderBoth}
 use Rattle.fare_homing.specs.Floor.{added}
 use Rattle.fare_homing.specs.Least.{IsUnderEach}
-use Rattle.fare_homing.specs.Rows.{country_at, heads_in, step_to, AreCountries}
+use Rattle.fare_homing.specs.Rows.{country_at, heads_in, AreCountries}
 use Rattle.fare_homing.proofs.ReachLemmas.{added_up, up_first, up_more, up_second}
 
 true_false : true ≡ false → ⊥
@@ -49,7 +51,7 @@ not_there (Some y) n none up = true_false none
 pub both_up : (a b found : Option ℕ) → found ≡ added a b → (x y : ℕ) → IsUpTo x a → IsUpTo y b → IsUpTo (x + y) found
 both_up a b found is x y up more =
     let low : up.0 ≤ x = up.2 in
-    let then : more.0 ≤ y = more.2 in
+    let rest : more.0 ≤ y = more.2 in
     up_more (up.0 + more.0) (x + y) found (omega arith) (added_up a b found is up.0 more.0 up.1 more.1)
 
 -- the lesser of a least number and a sum is up to either
@@ -72,24 +74,24 @@ module _ (tariff : Tariff) (trip : Itinerary) where
       let low : i ≤ begin_after trip i = begins_later trip i in
       (omega (arith, is.rises), is.within)
 
-  -- a part between costs no less than what is told of it by the countries of the trip's points
-  pub step_up : (countries : List (Option Country)) (a b home x : ℕ) (first last : ℕ → Option ℕ) → AreCountries tariff trip countries → a ≤ count trip → b ≤ count trip → home ≤ count trip
-      → IsUnderEach first_cost (entries_of tariff trip a b) (first b) → IsUnderEach back_cost (entries_of tariff trip a b) (last b) → IsBetween tariff trip a home b x → IsUpTo x (step_to countries a first last home b)
+  -- a part between heads home where the countries of the trip's points say so
+  pub between_same : (countries : List (Option Country)) (ceiling : Option Ceiling) (a b home x : ℕ) → AreCountries tariff trip countries → a ≤ count trip → b ≤ count trip → home ≤ count trip → IsBetween tariff trip ceiling a home b x
+      → IsPart tariff trip (below_ceiling tariff trip ceiling a home b (between_cost (heads_in countries a b home))) a b x
+  between_same countries ceiling a b home x are low mid high part =
+      let P : Bool → Type 0 = λ heads. IsPart tariff trip (below_ceiling tariff trip ceiling a home b (between_cost heads)) a b x in
+      subst P (heads_same tariff trip countries a b home are low mid high) part
+
+  -- without a ceiling it costs no less than the least of the parts of its way
+  pub step_up : (countries : List (Option Country)) (a b home x : ℕ) (first last : Option ℕ) → AreCountries tariff trip countries → a ≤ count trip → b ≤ count trip → home ≤ count trip
+      → IsUnderEach first_cost (entries_of tariff trip a b) first → IsUnderEach back_cost (entries_of tariff trip a b) last → IsBetween tariff trip None a home b x
+      → IsUpTo x (if heads_in countries a b home then last else first)
   step_up countries a b home x first last are low mid high outs backs part =
-      let same : heads_to tariff trip a b home ≡ heads_in countries a b home = heads_same tariff trip countries a b home are low mid high in
-      elim (cases_Bool (heads_to tariff trip a b home)) [
-        | inl t ↦
-            let heads : heads_in countries a b home ≡ true = sym same ∙ t in
-            let back : IsPart tariff trip back_cost a b x = by_way true t part in
-            rw heads (backs x back)
-        | inr f ↦
-            let heads : heads_in countries a b home ≡ false = sym same ∙ f in
-            let out : IsPart tariff trip first_cost a b x = by_way false f part in
-            rw heads (outs x out)
-      ]
+      let here : IsPart tariff trip (between_cost (heads_in countries a b home)) a b x = between_same countries None a b home x are low mid high part in
+      by_way (heads_in countries a b home) here
     where
-      by_way : (way : Bool) → heads_to tariff trip a b home ≡ way → IsBetween tariff trip a home b x → IsPart tariff trip (between_cost way) a b x
-      by_way way e p = let P : Bool → Type 0 = λ h. IsPart tariff trip (between_cost h) a b x in subst P e p
+      by_way : (way : Bool) → IsPart tariff trip (between_cost way) a b x → IsUpTo x (if way then last else first)
+      by_way true p = backs x p
+      by_way false p = outs x p
 
 -- whether a last part may begin at a point of a trip is told by the countries of its points
 pub lies_there : (tariff : Tariff) (trip : Itinerary) (countries : List (Option Country)) (a b : ℕ) → AreCountries tariff trip countries → a ≤ count trip → b ≤ count trip
@@ -117,13 +119,13 @@ under_same : (whole new_whole : ℕ → Option ℕ) (stays new_stays : ℕ → �
 under_same whole new_whole stays new_stays i row new wholes same here are b j x y low less up more =
     subst (IsUpTo (x + y)) (sym (here j)) (are b j x y low less (subst (IsUpTo x) (wholes b) up) (subst (IsUpTo y) (same b j low) more))
 
-pub closings_same : (tariff : Tariff) (trip : Itinerary) (after new_after : ℕ → ℕ → Option ℕ) (whole new_whole : ℕ → Option ℕ) (stays new_stays : ℕ → ℕ → Option ℕ) (stand i : ℕ) (row new : ℕ → Option ℕ)
+pub closings_same : (tariff : Tariff) (trip : Itinerary) (ceiling : Option Ceiling) (after new_after : ℕ → ℕ → Option ℕ) (whole new_whole : ℕ → Option ℕ) (stays new_stays : ℕ → ℕ → Option ℕ) (stand i : ℕ) (row new : ℕ → Option ℕ)
     → ((b j : ℕ) → i < b → new_after b j ≡ after b j) → ((j : ℕ) → new_whole j ≡ whole j) → ((b j : ℕ) → i < b → new_stays b j ≡ stays b j) → ((j : ℕ) → new j ≡ row j)
-    → AreClosings tariff trip after whole stays stand i row → AreClosings tariff trip new_after new_whole new_stays stand i new
-closings_same tariff trip after new_after whole new_whole stays new_stays stand i row new afters wholes same here are = record {
+    → AreClosings tariff trip ceiling after whole stays stand i row → AreClosings tariff trip ceiling new_after new_whole new_stays stand i new
+closings_same tariff trip ceiling after new_after whole new_whole stays new_stays stand i row new afters wholes same here are = record {
   last = λ j x near part. subst (IsUpTo x) (sym (here j)) (are.last j x near part);
   between = λ b j x y city part less apart within up.
-      let rises = part_after tariff trip (between_cost (heads_to tariff trip (begin_after trip i) b j)) i b x part in
+      let rises = part_after tariff trip (below_ceiling tariff trip ceiling (begin_after trip i) j b (between_cost (heads_to tariff trip (begin_after trip i) b j))) i b x part in
       subst (IsUpTo (x + y)) (sym (here j)) (are.between b j x y city part less apart within (subst (IsUpTo y) (afters b j rises.0) up));
   nested = under_same whole new_whole stays new_stays i row new wholes same here are.nested;
 }

@@ -1,6 +1,7 @@
 -- What is no more than what each of some entries costs, by one entry more.
-use Rattle.std.proofs.Common.{◌≡◌, ℕ, ◌≤◌, List, [], ◌∷◌, ◌++◌, ◌∙◌, ap, inl, inr, arith}
-use Rattle.std.specs.Prelude.{Option, option_map}
+use Rattle.std.proofs.Common.{◌≡◌, ℕ, ◌≤◌, List, [], ◌∷◌, ◌++◌, ◌∙◌, ap, sym, inl, inr, arith}
+use Rattle.std.specs.Prelude.{Option, None, option_map}
+use Rattle.std.proofs.lemmas.Option.{none-some}
 use Rattle.std.proofs.lemmas.List.Elements.{Contains-push_cases}
 use Rattle.fare_component.specs.declared.table.entry.Entry.{Entry}
 use Rattle.fare_bounds.specs.Covers.{lesser}
@@ -24,4 +25,12 @@ cost_more cost_of entries d least number is known cost h =
     elim (Contains-push_cases entries d h.entry h.there) [
       | inl before ↦ up_first least number cost (known cost (record { entry = h.entry; there = before; costs = h.costs }))
       | inr here ↦ up_second least number cost (capped_up (cost_of d) number cost is (cost, ap cost_of here ∙ h.costs, omega arith))
+    ]
+
+-- an entry that costs nothing that is known changes nothing
+pub cost_skip : (cost_of : Entry → Option ℕ) (entries : List Entry) (d : Entry) (least : Option ℕ) → cost_of d ≡ None → IsUnderEach cost_of entries least → IsUnderEach cost_of (entries ++ d ∷ []) least
+cost_skip cost_of entries d least none known cost h =
+    elim (Contains-push_cases entries d h.entry h.there) [
+      | inl before ↦ known cost (record { entry = h.entry; there = before; costs = h.costs })
+      | inr here ↦ absurd (none-some cost (sym none ∙ ap cost_of here ∙ h.costs))
     ]

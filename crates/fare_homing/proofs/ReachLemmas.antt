@@ -1,12 +1,12 @@
 -- The lesser and the sum of two amounts, and the numbers of a row.
-use Rattle.std.proofs.Common.{◌≡◌, refl, ℕ, ◌+◌, ◌<◌, ◌≤◌, min, List, length, set, sym, subst, ◌∙◌, inl, inr, arith, get_or}
+use Rattle.std.proofs.Common.{◌≡◌, refl, ℕ, ◌+◌, ◌<◌, ◌≤◌, min, max, List, length, set, sym, subst, ◌∙◌, inl, inr, arith, get_or}
 use Rattle.std.specs.Prelude.{Option, Some, None}
 use Rattle.std.proofs.lemmas.Bool.{cases_eq}
 use Rattle.std.proofs.lemmas.Option.{none-some, same_Some}
 use Rattle.std.proofs.lemmas.List.{get_or-set_same, get_or-set_other}
 use Rattle.fare_bounds.specs.Covers.{lesser, rest_at}
 use Rattle.fare_homing.specs.Homing.{IsUpTo}
-use Rattle.fare_homing.specs.Floor.{added, capped}
+use Rattle.fare_homing.specs.Floor.{added, capped, greater}
 
 -- the lesser of two amounts is no more than either
 pub lesser_first : (a b : Option ℕ) (amount : ℕ) → a ≡ Some amount → IsUpTo amount (lesser a b)
@@ -62,3 +62,14 @@ row_put Before After row p number within before goes here j =
           subst Q (sym same) (subst (After p) (sym (get_or-set_same row p number None within)) here)
       | inr other ↦ subst (After j) (sym (get_or-set_other row p j number None other)) (goes j (rest_at row j) other (before j))
     ]
+
+-- what is under both of two amounts is under the greater of them
+pub greater_up : (a b found : Option ℕ) (most : ℕ) → found ≡ greater a b → IsUpTo most a → IsUpTo most b → IsUpTo most found
+greater_up None b found most is up more = absurd (none-some up.0 up.1)
+greater_up (Some x) None found most is up more = absurd (none-some more.0 more.1)
+greater_up (Some x) (Some y) found most is up more =
+    let first : x ≡ up.0 = same_Some x up.0 up.1 in
+    let second : y ≡ more.0 = same_Some y more.0 more.1 in
+    let low : up.0 ≤ most = up.2 in
+    let high : more.0 ≤ most = more.2 in
+    (max x y, is, omega arith)

@@ -6,12 +6,14 @@ use Rattle.fare_tariff.specs.Tariff.{Tariff}
 use Rattle.fare_rules.specs.Construction.{begin_after}
 use Rattle.fare_component.specs.declared.table.entry.Entry.{Entry}
 use Rattle.fare_component.specs.Table.{entries_of}
+use Rattle.fare_homing.specs.declared.ceiling.Ceiling.{Ceiling}
+use Rattle.fare_homing.specs.Ceiling.{below_ceiling}
 use Rattle.fare_homing.specs.Homing.{IsUpTo, single_cost, first_cost, between_cost, back_cost, heads_to, may_end_at, may_go_on, is_same_city, homing_at}
 use Rattle.fare_homing.specs.HomingRows.{AreHomings, IsBetween, IsPart}
 use Rattle.fare_homing.specs.Pairs.{HasPair}
 use Rattle.fare_homing.proofs.HomingRowLemmas.{part_after}
 
-module _ {tariff : Tariff} {trip : Itinerary} {closing jaw : ℕ → ℕ → ℕ → Option ℕ} {whole : ℕ → ℕ → Option ℕ} {left : ℕ → Option ℕ} (are : AreHomings tariff trip closing jaw whole left) where
+module _ {tariff : Tariff} {trip : Itinerary} {ceiling : Option Ceiling} {closing jaw : ℕ → ℕ → ℕ → Option ℕ} {whole : ℕ → ℕ → Option ℕ} {left : ℕ → Option ℕ} (are : AreHomings tariff trip ceiling closing jaw whole left) where
   pub alone_under : (i j : ℕ) (entry : Entry) (cost : ℕ) → Contains (entries_of tariff trip (begin_after trip i) j) entry → entry.single ≡ Some cost → IsUpTo cost (whole i j)
   alone_under i j entry cost there e =
       let part : IsPart tariff trip single_cost (begin_after trip i) j cost = record { entry = entry; there = there; costs = e } in
@@ -26,10 +28,10 @@ module _ {tariff : Tariff} {trip : Itinerary} {closing jaw : ℕ → ℕ → ℕ
       (are.wholes i (omega (arith, after.0, after.1))).first b j cost behind all ends part less later sum pair
 
   pub between_under : (c i b j : ℕ) (entry : Entry) (cost behind : ℕ) → c ≤ i → is_same_city trip c (begin_after trip i) ≡ true → Contains (entries_of tariff trip (begin_after trip i) b) entry
-      → between_cost (heads_to tariff trip (begin_after trip i) b j) entry ≡ Some cost → b < j → j ≤ count trip → is_same_city trip j b ≡ false → IsUpTo behind (closing b b j) → IsUpTo (cost + behind) (closing c i j)
+      → below_ceiling tariff trip ceiling (begin_after trip i) j b (between_cost (heads_to tariff trip (begin_after trip i) b j)) entry ≡ Some cost → b < j → j ≤ count trip → is_same_city trip j b ≡ false → IsUpTo behind (closing b b j) → IsUpTo (cost + behind) (closing c i j)
   between_under c i b j entry cost behind low stands there e less within apart later =
-      let part : IsBetween tariff trip (begin_after trip i) j b cost = record { entry = entry; there = there; costs = e } in
-      let after = part_after tariff trip (between_cost (heads_to tariff trip (begin_after trip i) b j)) i b cost part in
+      let part : IsBetween tariff trip ceiling (begin_after trip i) j b cost = record { entry = entry; there = there; costs = e } in
+      let after = part_after tariff trip (below_ceiling tariff trip ceiling (begin_after trip i) j b (between_cost (heads_to tariff trip (begin_after trip i) b j))) i b cost part in
       (are.closes c i low (omega (arith, after.0, after.1))).between b j cost behind stands part less apart within later
 
   pub last_closes_under : (c i j : ℕ) (entry : Entry) (cost : ℕ) → c ≤ i → may_go_on tariff trip c (begin_after trip i) ≡ true → Contains (entries_of tariff trip (begin_after trip i) j) entry → back_cost entry ≡ Some cost → IsUpTo cost (closing c i j)

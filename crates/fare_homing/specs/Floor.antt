@@ -1,5 +1,5 @@
 -- Floor: amounts that are kept in 32 bits, and the sum of two.
-use Rattle.std.specs.Prelude.{ℕ, ◌+◌, ◌-◌, ◌^◌, ◌==◌, min, Option, Some, None, if◌then◌else◌}
+use Rattle.std.specs.Prelude.{ℕ, ◌+◌, ◌-◌, ◌^◌, ◌==◌, min, max, Option, Some, None, if◌then◌else◌}
 
 -- the number that stands for nothing
 abbrev pub no_hundredths : ℕ
@@ -23,6 +23,12 @@ abbrev pub added : Option ℕ → Option ℕ → Option ℕ
 added None b = None
 added (Some a) None = None
 added (Some a) (Some b) = Some (capped (a + b))
+
+-- the greater of two amounts, where there are both
+abbrev pub greater : Option ℕ → Option ℕ → Option ℕ
+greater None b = None
+greater (Some a) None = None
+greater (Some a) (Some b) = Some (max a b)
 
 -- the sum of two numbers, at most the greatest of 64 bits
 abbrev pub capped_sum : ℕ → ℕ → ℕ

@@ -5,6 +5,8 @@ use Rattle.fare_tariff.specs.Tariff.{Tariff}
 use Rattle.fare_rules.specs.Construction.{begin_after}
 use Rattle.fare_component.specs.declared.table.entry.Entry.{Entry}
 use Rattle.fare_component.specs.Table.{entries_of}
+use Rattle.fare_homing.specs.declared.ceiling.Ceiling.{Ceiling}
+use Rattle.fare_homing.specs.Ceiling.{below_ceiling}
 use Rattle.fare_homing.specs.Homing.{single_cost, first_cost, between_cost, back_cost, heads_to, may_end_at}
 use Rattle.fare_homing.specs.Homing.{IsUpTo, homing_at, is_same_city, may_go_on}
 use Rattle.fare_homing.specs.Least.{IsCost}
@@ -14,9 +16,11 @@ use Rattle.fare_homing.specs.Pairs.{HasPair}
 abbrev pub IsPart : Tariff → Itinerary → (Entry → Option ℕ) → ℕ → ℕ → ℕ → Type 0
 IsPart tariff trip cost_of a b = IsCost cost_of (entries_of tariff trip a b)
 
--- what a part between from a point costs by where it ends, in a unit that closes at another point
-abbrev pub IsBetween : Tariff → Itinerary → ℕ → ℕ → ℕ → ℕ → Type 0
-IsBetween tariff trip a home b = IsPart tariff trip (between_cost (heads_to tariff trip a b home)) a b
+-- what a part between from a point costs by where it ends, in a unit that closes at another point, where it isn't too
+-- dear for a ceiling
+abbrev pub IsBetween : Tariff → Itinerary → Option Ceiling → ℕ → ℕ → ℕ → ℕ → Type 0
+IsBetween tariff trip ceiling a home b =
+    IsPart tariff trip (below_ceiling tariff trip ceiling a home b (between_cost (heads_to tariff trip a b home))) a b
 
 -- numbers are under what one unit costs that begins behind a point, by the point where it ends: a part alone in it; or
 -- the unit's first and last part, which may pair, with all that is between them, from the city where the first ends
@@ -36,12 +40,13 @@ IsUnderBoth steps behind i row =
 -- numbers are under what is behind a point until a unit that stands in the city of another closes, by the point where
 -- that is: its last part, from there or behind a gap in one country; one between, from there, with what is behind that
 -- until the unit closes elsewhere than where the part ends; or one whole unit that comes before
-pub record AreClosings (tariff : Tariff) (trip : Itinerary) (after : ℕ → ℕ → Option ℕ) (whole : ℕ → Option ℕ)
-    (stays : ℕ → ℕ → Option ℕ) (stand i : ℕ) (row : ℕ → Option ℕ) : Type 0 where
+pub record AreClosings (tariff : Tariff) (trip : Itinerary) (ceiling : Option Ceiling) (after : ℕ → ℕ → Option ℕ)
+    (whole : ℕ → Option ℕ) (stays : ℕ → ℕ → Option ℕ) (stand i : ℕ) (row : ℕ → Option ℕ) : Type 0 where
   pub last : (j x : ℕ) → may_go_on tariff trip stand (begin_after trip i) ≡ true
       → IsPart tariff trip back_cost (begin_after trip i) j x → IsUpTo x (row j)
   pub between : (b j x y : ℕ) → is_same_city trip stand (begin_after trip i) ≡ true
-      → IsBetween tariff trip (begin_after trip i) j b x → b < j → is_same_city trip j b ≡ false → j ≤ count trip
+      → IsBetween tariff trip ceiling (begin_after trip i) j b x → b < j → is_same_city trip j b ≡ false
+      → j ≤ count trip
       → IsUpTo y (after b j) → IsUpTo (x + y) (row j)
   pub nested : IsUnderBoth whole stays i row
 
@@ -61,11 +66,11 @@ IsOnward trip whole rests i rest =
 -- numbers are what the parts behind each point cost at least: `closing c i j` from i on until a unit that stands in the
 -- city of c closes at j, `jaw c i j` until it ends there as an open jaw, `whole i j` where one unit begins behind i and
 -- ends at j, `rest i` up to the trip's end where no unit is open
-pub record AreHomings (tariff : Tariff) (trip : Itinerary) (closing jaw : ℕ → ℕ → ℕ → Option ℕ)
-    (whole : ℕ → ℕ → Option ℕ) (rest : ℕ → Option ℕ) : Type 0 where
+pub record AreHomings (tariff : Tariff) (trip : Itinerary) (ceiling : Option Ceiling)
+    (closing jaw : ℕ → ℕ → ℕ → Option ℕ) (whole : ℕ → ℕ → Option ℕ) (rest : ℕ → Option ℕ) : Type 0 where
   pub wholes : (i : ℕ) → i < count trip → AreWholes tariff trip closing jaw i (whole i)
   pub closes : (c i : ℕ) → c ≤ i → i < count trip
-      → AreClosings tariff trip (λ b. closing b b) (whole i) (closing c) c i (closing c i)
+      → AreClosings tariff trip ceiling (λ b. closing b b) (whole i) (closing c) c i (closing c i)
   pub ends : (c i : ℕ) → c ≤ i → i < count trip → AreJaws tariff trip (whole i) (jaw c) c i (jaw c i)
   pub onward : (i : ℕ) → i < count trip → IsOnward trip (whole i) rest i (rest i)
   pub nothing : rest (count trip) ≡ Some 0

@@ -1,5 +1,6 @@
 pub use Rattle.fare_component.specs.Table
 pub use Rattle.fare_bounds.specs.Covers
+pub mod Ceiling
 pub mod Floor
 pub mod Homing
 pub mod Least

@@ -14,8 +14,8 @@ use Rattle.fare_homing.specs.Homing.{IsUpTo, back_cost, first_cost}
 abbrev pub days_between : Itinerary → ℕ → ℕ → ℕ
 days_between trip a b = day_number (first_day trip b) - day_number (first_day trip a)
 
--- two fares may be the first and the last of a unit of so many days: they combine in a unit, and the rule of each allows
--- the stay
+-- two fares may be the first and the last of a unit of so many days: they combine in a unit, and the rule of each
+-- allows the stay
 abbrev pub may_pair : Tariff → ℕ → ℕ → ℕ → Bool
 may_pair tariff days one other =
     rules_pass (unit_ok tariff) (fare_at tariff one) (fare_at tariff other)

@@ -8,6 +8,7 @@ use Rattle.fare_rules.specs.Shape.{is_same_country}
 use Rattle.fare_bounds.specs.Covers.{rest_at}
 use Rattle.fare_homing.specs.declared.homing.Homing.{Homing}
 use Rattle.fare_homing.specs.declared.homing.Standing.{Standing}
+use Rattle.fare_homing.specs.Ceiling.{IsCeiling}
 use Rattle.fare_homing.specs.HomingRows.{AreHomings}
 use Rattle.fare_homing.specs.Lonely.{AreLonely}
 
@@ -32,12 +33,14 @@ abbrev pub AreCountries : Tariff → Itinerary → List (Option Country) → Typ
 AreCountries tariff trip countries =
     (i : ℕ) → i ≤ count trip → slice_index_or countries i None ≡ country tariff (point trip i)
 
--- the numbers of a trip are no more than what its parts cost, its countries are those of its points, and its lonely
--- fares have rules that combine with no fare of their own
+-- the numbers of a trip are no more than what its parts cost under a ceiling that is one of it, its countries are those
+-- of its points, and its lonely fares have rules that combine with no fare of their own
 pub record AreHomingsOf (tariff : Tariff) (trip : Itinerary) (homing : Homing) : Type 0 where
-  pub known : AreHomings tariff trip (closing_from homing) (jaw_from homing) (cell homing.whole) (rest_at homing.rest)
+  pub known : AreHomings tariff trip homing.ceiling (closing_from homing) (jaw_from homing) (cell homing.whole)
+      (rest_at homing.rest)
   pub countries : AreCountries tariff trip homing.countries
   pub lonely : AreLonely tariff homing.lonely
+  pub ceiling : IsCeiling tariff trip homing.ceiling
 
 -- the country of a point among those of a trip's points
 abbrev pub country_at : List (Option Country) → ℕ → Option Country
@@ -48,8 +51,3 @@ abbrev pub heads_in : List (Option Country) → ℕ → ℕ → ℕ → Bool
 heads_in countries a b home =
     is_same_country (country_at countries b) (country_at countries home)
     && not (is_same_country (country_at countries a) (country_at countries home))
-
--- what a part between costs by where it ends, in a unit that closes at a point: as a last part where it heads home, and
--- else as a first one
-abbrev pub step_to : List (Option Country) → ℕ → (ℕ → Option ℕ) → (ℕ → Option ℕ) → ℕ → ℕ → Option ℕ
-step_to countries a first last home b = if heads_in countries a b home then last b else first b

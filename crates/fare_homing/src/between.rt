@@ -1,22 +1,26 @@
 //! Parts between the first and the last of a unit: what is behind a point until a unit closes, by one that comes next.
 
-ghost use Rattle.std.specs.Prelude.{◌≡◌, ℕ, ◌+◌, ◌<◌, ◌≤◌, false};
+ghost use Rattle.std.specs.Prelude.{◌≡◌, ℕ, ◌+◌, ◌<◌, ◌≤◌, Some, false};
 ghost use Rattle.fare_trip.specs.Itinerary.{count};
 ghost use Rattle.fare_bounds.specs.Covers.{rest_at};
-ghost use Rattle.fare_homing.specs.Homing.{IsUpTo, is_same_city};
+ghost use Rattle.fare_component.specs.Table.{entries_of};
+ghost use Rattle.fare_homing.specs.Ceiling.{below_ceiling};
+ghost use Rattle.fare_homing.specs.Homing.{IsUpTo, between_cost, is_same_city};
+ghost use Rattle.fare_homing.specs.HomingRows.{IsBetween};
+ghost use Rattle.fare_homing.specs.Least.{IsUnderEach};
 ghost use Rattle.fare_rules.specs.Shape.{is_same_country};
 ghost use Rattle.fare_rules.specs.Construction.{begin_after};
 ghost use Rattle.fare_homing.specs.Legs.{AreLegsBehind, AreLegsOf};
-ghost use Rattle.fare_homing.specs.Rows.{closing_from, country_at, heads_in, step_to, AreCountries};
+ghost use Rattle.fare_homing.specs.Rows.{closing_from, country_at, heads_in, AreCountries};
 
+use crate::ceiling::{Ceiling, is_too_dear};
 use crate::floor::{Floor, NOTHING, added, lesser, number_at};
 use crate::homing::{Homing, closing_from};
-use crate::legs::LegRows;
+use crate::legs::{LegRows, half_cost};
 use fare_bounds::begin_after;
 use fare_codes::Country;
-use fare_component::Table;
+use fare_component::{Entry, Table};
 use fare_rules::MOST_POINTS;
-use fare_trip::Trip;
 use fare_units::is_same_country;
 
 /// A point where parts begin, with what they cost at least.
@@ -72,14 +76,55 @@ fn heads_in(countries: &[Option<Country>; MOST_POINTS], a: usize, b: usize, home
     lie_together(countries, b, home) && !lie_together(countries, a, home)
 }
 
-/// What a part between costs at least that ends at a point, where its unit closes at another.
-fn step_to(start: &Start, home: usize, b: usize) -> Floor
-    requires point { start.now.point < MOST_POINTS }
-    requires home { home < MOST_POINTS }
-    requires end { b < MOST_POINTS }
-    ensures { result ≡ step_to start.now.countries.now start.now.point (rest_at start.now.legs.now.first)
-        (rest_at start.now.legs.now.last) home b }
+/// What a part between costs with an entry.
+fn between_cost(entry: &Entry, heads: bool) -> Option<u64>
+    ensures { result ≡ between_cost heads entry.now }
 {
+    if heads {
+        half_cost(entry, &entry.back)
+    } else {
+        half_cost(entry, &entry.out)
+    }
+}
+
+/// What a part between costs at least that ends at a point, where its unit closes at another, of the parts that aren't
+/// too dear for a ceiling.
+fn least_below(table: &Table, ceiling: Ceiling, start: &Start, home: usize, b: usize) -> Floor
+    requires start { start.now.point < MOST_POINTS }
+    requires rises { start.now.point < b }
+    requires end { b ≤ count table.now.trip }
+    requires home { home ≤ count table.now.trip }
+    ensures { IsUnderEach (below_ceiling table.now.edition table.now.trip (Some ceiling) start.now.point home b
+        (between_cost (heads_in start.now.countries.now start.now.point b home)))
+        (entries_of table.now.edition table.now.trip start.now.point b) result }
+{
+    let sectors = table.trip().count();
+    prove!(b <= sectors);
+    let heads = heads_in(start.countries, start.point, b, home);
+    let mut least = NOTHING;
+    for entry in table.entries(start.point, b) {
+        if is_too_dear(table, ceiling, start.point, home, b, entry.fare) {
+            continue;
+        }
+        least = lesser(least, Floor::of(between_cost(entry, heads)));
+    }
+    least
+}
+
+/// What a part between costs at least that ends at a point, where its unit closes at another.
+fn step_to(table: &Table, ceiling: Option<Ceiling>, start: &Start, home: usize, b: usize) -> Floor
+    requires point { start.now.point < b }
+    requires end { b ≤ count table.now.trip }
+    requires home { home ≤ count table.now.trip }
+    requires countries { AreCountries table.now.edition table.now.trip start.now.countries.now }
+    requires legs { AreLegsOf table.now.edition table.now.trip start.now.point start.now.legs.now }
+    ensures { (x : ℕ) → IsBetween table.now.edition table.now.trip ceiling start.now.point home b x
+        → IsUpTo x result }
+{
+    let _sectors = table.trip().count();
+    if let Some(ceiling) = ceiling {
+        return least_below(table, ceiling, start, home, b);
+    }
     if heads_in(start.countries, start.point, b, home) {
         number_at(&start.legs.last, b)
     } else {
@@ -89,51 +134,55 @@ fn step_to(start: &Start, home: usize, b: usize) -> Floor
 
 /// The least of all parts between that end before a point, elsewhere than in its city, with what is behind them until
 /// their unit closes there.
-fn reach_between(trip: &Trip, homing: &Homing, start: &Start, i: usize, home: usize) -> Floor
-    requires point { start.now.point < MOST_POINTS }
-    requires rises { i < home }
-    requires within { home ≤ count trip.now }
-    ensures { (b x y : ℕ) → i < b → b < home → is_same_city trip.now home b ≡ false
-        → IsUpTo x (step_to start.now.countries.now start.now.point (rest_at start.now.legs.now.first)
-        (rest_at start.now.legs.now.last) home b) → IsUpTo y (closing_from homing.now b b home)
-        → IsUpTo (x + y) result }
+fn reach_between(table: &Table, homing: &Homing, start: &Start, home: usize) -> Floor
+    requires inside { start.now.point ≤ count table.now.trip }
+    requires within { home ≤ count table.now.trip }
+    requires countries { AreCountries table.now.edition table.now.trip start.now.countries.now }
+    requires legs { AreLegsOf table.now.edition table.now.trip start.now.point start.now.legs.now }
+    ensures { (b x y : ℕ) → start.now.point < b → b < home → is_same_city table.now.trip home b ≡ false
+        → IsBetween table.now.edition table.now.trip homing.now.ceiling start.now.point home b x
+        → IsUpTo y (closing_from homing.now b b home) → IsUpTo (x + y) result }
 {
+    let trip = table.trip();
     let sectors = trip.count();
     prove!(home <= sectors);
+    prove!(start.point <= sectors);
     let mut least = NOTHING;
-    for b in i + 1..home {
+    for b in start.point + 1..home {
         if trip.point(b).is(trip.point(home)) {
             continue;
         }
         let behind = closing_from(homing, b, b, home);
-        least = lesser(least, added(step_to(start, home, b), behind));
+        least = lesser(
+            least,
+            added(step_to(table, homing.ceiling, start, home, b), behind),
+        );
     }
     least
 }
 
 /// A row by the points where a unit closes, lowered to the parts between that may come next.
 pub(crate) fn with_between(
-    trip: &Trip,
+    table: &Table,
     homing: &Homing,
     start: &Start,
     i: usize,
     row: &[Floor; MOST_POINTS],
 ) -> [Floor; MOST_POINTS]
-    requires point { start.now.point < MOST_POINTS }
-    requires rises { i < count trip.now }
+    requires inside { start.now.point ≤ count table.now.trip }
+    requires rises { i < count table.now.trip }
+    requires countries { AreCountries table.now.edition table.now.trip start.now.countries.now }
+    requires legs { AreLegsOf table.now.edition table.now.trip start.now.point start.now.legs.now }
     ensures kept { (j most : ℕ) → IsUpTo most (rest_at row.now j) → IsUpTo most (rest_at result j) }
-    ensures between { (b j x y : ℕ) → i < b → b < j → j ≤ count trip.now → is_same_city trip.now j b ≡ false
-        → IsUpTo x (step_to start.now.countries.now start.now.point (rest_at start.now.legs.now.first)
-        (rest_at start.now.legs.now.last) j b) → IsUpTo y (closing_from homing.now b b j)
-        → IsUpTo (x + y) (rest_at result j) }
+    ensures between { (b j x y : ℕ) → i < j → start.now.point < b → b < j → j ≤ count table.now.trip
+        → is_same_city table.now.trip j b ≡ false
+        → IsBetween table.now.edition table.now.trip homing.now.ceiling start.now.point j b x
+        → IsUpTo y (closing_from homing.now b b j) → IsUpTo (x + y) (rest_at result j) }
 {
-    let count = trip.count();
+    let count = table.trip().count();
     let mut least = *row;
     for j in i + 1..count + 1 {
-        least[j] = lesser(
-            number_at(&least, j),
-            reach_between(trip, homing, start, i, j),
-        );
+        least[j] = lesser(number_at(&least, j), reach_between(table, homing, start, j));
     }
     least
 }

@@ -1,9 +1,8 @@
 //! A floor: what something costs at least. It is small, since a trip has thousands of them.
 
-ghost use Rattle.std.specs.Prelude.{◌≡◌, ℕ, None, is_some, not, option_map};
+ghost use Rattle.std.specs.Prelude.{◌≡◌, None, is_some, not, option_map};
 ghost use Rattle.fare_bounds.specs.Covers.{lesser, rest_at};
-ghost use Rattle.fare_homing.specs.Floor.{added, capped, capped_sum};
-ghost use Rattle.fare_homing.specs.Homing.{IsUpTo};
+ghost use Rattle.fare_homing.specs.Floor.{added, capped, capped_sum, greater};
 
 use fare_rules::MOST_POINTS;
 use std::marker::Model;
@@ -92,9 +91,9 @@ pub fn added(a: Floor, b: Floor) -> Floor
     }
 }
 
-/// The greater of two floors that are both under a cost; nothing where one of them isn't there.
+/// The greater of two floors; nothing where one of them isn't there.
 pub fn greater(a: Floor, b: Floor) -> Floor
-    ensures { (most : ℕ) → IsUpTo most a → IsUpTo most b → IsUpTo most result }
+    ensures { result ≡ greater a b }
 {
     Floor {
         hundredths: a.hundredths.max(b.hundredths),

@@ -1,12 +1,13 @@
 //! Homing: what the parts behind a point of a trip cost at least until a unit comes home, at each later point.
 
-ghost use Rattle.std.specs.Prelude.{◌≡◌, ◌<◌, ◌≤◌, Some, slice_index_or};
+ghost use Rattle.std.specs.Prelude.{◌≡◌, ◌<◌, ◌≤◌, IfSome, Some, slice_index_or};
 ghost use Rattle.fare_trip.specs.Itinerary.{count, point};
 ghost use Rattle.fare_bounds.specs.Covers.{rest_at};
 ghost use Rattle.fare_homing.specs.Homing.{are_near};
 ghost use Rattle.fare_homing.specs.Rows.{cell, closing_from, jaw_from, no_standing, AreHomingsOf};
 
 use crate::between::{lie_together, start_at};
+use crate::ceiling::{Ceiling, ceiling_of};
 use crate::floor::{Floor, NOTHING, number_at};
 use crate::legs::legs_behind;
 use crate::lonely::{MOST_LONELY, lonely_fares};
@@ -42,6 +43,8 @@ pub struct Homing {
     /// The record number of one fare of each rule that doesn't combine end on end with itself, of the one way fares: of
     /// as many rules as are told apart; 0 at the places that are free.
     pub lonely: [u32; MOST_LONELY],
+    /// The ceiling under which the numbers hold: of what costs more they say nothing.
+    pub ceiling: Option<Ceiling>,
 }
 
 /// A number by its two points.
@@ -111,10 +114,12 @@ fn unknown(
     count: usize,
     countries: [Option<Country>; MOST_POINTS],
     lonely: [u32; MOST_LONELY],
+    ceiling: Option<Ceiling>,
 ) -> Homing
     requires { count < MOST_POINTS }
     ensures end { rest_at result.rest count ≡ Some 0 }
     ensures countries { result.countries ≡ countries }
+    ensures ceiling { result.ceiling ≡ ceiling }
     ensures lonely { result.lonely ≡ lonely }
 {
     let rows = [[NOTHING; MOST_POINTS]; MOST_POINTS];
@@ -130,17 +135,20 @@ fn unknown(
         rest,
         countries,
         lonely,
+        ceiling,
     }
 }
 
-/// The homing of the trip of a table.
-pub fn homing_of(table: &Table) -> Homing
-    ensures { AreHomingsOf table.now.edition table.now.trip result }
+/// The homing of the trip of a table, under a ceiling where a price is given.
+pub fn homing_of(table: &Table, price: Option<u64>) -> Homing
+    ensures homings { AreHomingsOf table.now.edition table.now.trip result }
+    ensures ceiling { IfSome result.ceiling (λ ceiling. price ≡ Some ceiling.price) }
 {
     let trip = table.trip();
     let count = trip.count();
     let legs = legs_behind(table);
-    let mut homing = unknown(count, countries_of(table), lonely_fares(table));
+    let ceiling = ceiling_of(table, price);
+    let mut homing = unknown(count, countries_of(table), lonely_fares(table), ceiling);
     for c in (0..count).rev() {
         let start = start_at(table, &legs, &homing.countries, c);
         let whole = wholes_at(table, &homing, &start, c);

@@ -5,6 +5,7 @@
 //! - `nearness`: which cities lie near each other, and the countries of a trip's points;
 //! - `reaching`: the least by which a point is reached, over steps to the points before it;
 //! - `legs`: what the parts from a point cost at least, by what a part is in its unit;
+//! - `ceiling`: a price above which nothing is wanted, and which parts make a circle minimum greater;
 //! - `pairs`: what the first and the last part of a unit cost at least together;
 //! - `whole`: what one unit costs at least that begins behind a point;
 //! - `between`: what is behind a point until a unit closes, by a part between its first and its last;
@@ -16,6 +17,7 @@
 #![tactic(auto)]
 
 mod between;
+mod ceiling;
 mod floor;
 mod homing;
 mod legs;
@@ -26,6 +28,7 @@ mod reaching;
 mod standing;
 mod whole;
 
+pub use ceiling::Ceiling;
 pub use floor::{Floor, GREATEST_FLOOR, NOTHING, added, greater, lesser, number_at, paid_with};
 pub use homing::{Homing, Standing, cell, closing_from, homing_of, jaw_from, lie_near};
 pub use lonely::{MOST_LONELY, is_rule_of, rule_at};

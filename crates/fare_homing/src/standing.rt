@@ -71,7 +71,7 @@ fn closings_at(
     requires rises { unit.i < count table.now.trip }
     requires countries { AreCountries table.now.edition table.now.trip start.now.countries.now }
     requires legs { AreLegsOf table.now.edition table.now.trip start.now.point start.now.legs.now }
-    ensures { AreClosings table.now.edition table.now.trip (λ b. closing_from homing.now b b)
+    ensures { AreClosings table.now.edition table.now.trip homing.now.ceiling (λ b. closing_from homing.now b b)
         (cell homing.now.whole unit.i) (cell stays.now) unit.stand unit.i (rest_at result) }
 {
     let trip = table.trip();
@@ -82,7 +82,7 @@ fn closings_at(
         start,
     );
     if trip.point(start.point).is(trip.point(unit.stand)) {
-        let within = with_between(trip, homing, start, unit.i, &last);
+        let within = with_between(table, homing, start, unit.i, &last);
         return lowered_by(&within, &homing.whole[unit.i], stays, unit.i);
     }
     lowered_by(&last, &homing.whole[unit.i], stays, unit.i)
@@ -122,9 +122,9 @@ pub(crate) fn standing_at(
     requires within { stand < count table.now.trip }
     requires countries { AreCountries table.now.edition table.now.trip countries.now }
     requires legs { AreLegsBehind table.now.edition table.now.trip legs.now }
-    ensures closes { (i : ℕ) → stand ≤ i → i < count table.now.trip → AreClosings table.now.edition table.now.trip
-        (λ b. closing_from homing.now b b) (cell homing.now.whole i) (cell result.closing) stand i
-        (cell result.closing i) }
+    ensures closes { (i : ℕ) → stand ≤ i → i < count table.now.trip
+        → AreClosings table.now.edition table.now.trip homing.now.ceiling (λ b. closing_from homing.now b b)
+        (cell homing.now.whole i) (cell result.closing) stand i (cell result.closing i) }
     ensures ends { (i : ℕ) → stand ≤ i → i < count table.now.trip → AreJaws table.now.edition table.now.trip
         (cell homing.now.whole i) (cell result.jaw) stand i (cell result.jaw i) }
 {

@@ -95,7 +95,7 @@ walk_units-follow-requires t c = (
           c.requires.rises,
           (
             c.requires.within,
-            floor_of_entry c.args.stage.now.table.now c.args.stage.now.front.now c.args.stage.now.ahead.now c.requires.stage.next (record { end = c.args.end; unit = c.loop-unit.unit; fare = c.args.entry.now.fare }) c.args.entry.now c.requires.there refl c.floor_with-floor.result c.floor_with-floor.ensures,
+            floor_of_entry c.args.stage.now.table.now c.args.stage.now.front.now c.args.stage.now.ahead.now c.requires.stage.next (record { end = c.args.end; unit = c.loop-unit.unit; fare = c.args.entry.now.fare }) c.args.entry.now c.requires.there refl c.floor_with-floor.result c.floor_with-floor.ensures.up c.floor_with-floor.ensures.above,
           ),
         ),
       ),

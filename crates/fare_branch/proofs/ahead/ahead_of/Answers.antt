@@ -38,7 +38,7 @@ returns c =
     let P : ℕ → Type 0 = λ u. AreOver c.args.table.now c.args.homing.now c.args.front.now (greatest_unit c.args.front.now (places c.args.front.now)) (slice_index_or c.args.stack.over u []) in
     let Q : ℕ → Type 0 = λ u. AreBehindHalf c.args.table.now c.args.homing.now c.args.front.now u c.new_row.result in
     ahead_is c.args.table.now c.args.homing.now c.requires.homing c.args.front.now
-    (record { floors = c.args.stack.floors; spent = c.args.stack.spent; alone = alone; half = set c.loop-unit.half (c.greatest_unit-greatest.result + 1) c.new_row.result }) c.requires.stack.floors c.requires.stack.spent
+    (record { floors = c.args.stack.floors; spent = c.args.stack.spent; alone = alone; half = set c.loop-unit.half (c.greatest_unit-greatest.result + 1) c.new_row.result; ceiling = c.args.homing.now.ceiling }) c.requires.stack.floors c.requires.stack.spent refl
     (subst P (sym new) (c.requires.stack.over (greatest_unit c.args.front.now (places c.args.front.now)) (omega arith)))
     (λ unit low high.
     rows_put (AreBehindHalf c.args.table.now c.args.homing.now c.args.front.now) c.loop-unit.half (c.greatest_unit-greatest.result + 1) c.new_row.result (omega (arith, c.loop-unit.invariant.long))

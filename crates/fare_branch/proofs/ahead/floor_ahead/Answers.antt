@@ -13,7 +13,7 @@ returns-then-entry-part c =
     let P : List Entry → Type 0 = λ es. Contains es c.entry-item.result in
     floor_of_entry c.args.table.now c.args.front.now c.args.ahead.now c.requires.ahead c.args.part c.entry-item.result
     (subst P (c.entries-entries.ensures.entries ∙ ap (λ n. entries_of c.args.table.now.edition c.args.table.now.trip n c.args.part.end) start) there)
-    c.if-entry-part.true c.floor_with.result c.floor_with.ensures
+    c.if-entry-part.true c.floor_with.result c.floor_with.ensures.up c.floor_with.ensures.above
 
 pub returns : goal.returns
 returns c = λ parts price completes. omega arith

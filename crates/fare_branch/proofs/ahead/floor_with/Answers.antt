@@ -5,7 +5,11 @@ use Rattle.fare_branch.specs.Costs.{or_nothing}
 use Rattle.fare_homing.specs.Floor.{capped_sum}
 use Rattle.fare_branch.proofs.ahead.floor_with.Goals as goal
 
-pub returns : goal.returns
-returns c behind e =
+pub returns-clause-up : goal.returns-clause-up
+returns-clause-up c behind e =
     let least : c.entry_least.result ≡ or_nothing (least_cost c.args.entry.now) = c.entry_least.ensures.value in
+    c.lowered_to.ensures.kept (c.args.ahead.now.spent + or_nothing (least_cost c.args.entry.now) + behind)
     (capped_sum c.saturating_add-paid.result behind, c.paid_with.ensures ∙ ap (option_map (capped_sum c.saturating_add-paid.result)) (c.behind_of.ensures ∙ e), omega arith)
+
+pub returns-clause-above : goal.returns-clause-above
+returns-clause-above c = c.lowered_to.ensures.above

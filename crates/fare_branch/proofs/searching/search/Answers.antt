@@ -1,4 +1,4 @@
-use Rattle.std.proofs.Common.{ℕ, List, Option, sym, subst, arith}
+use Rattle.std.proofs.Common.{ℕ, List, Option, None, sym, subst, arith}
 use Rattle.fare_rules.specs.declared.part.Part.{Part}
 use Rattle.fare_branch.specs.Search.{IsSearched}
 use Rattle.fare_branch.proofs.DiveLemmas.{dived_walked}
@@ -7,8 +7,14 @@ use Rattle.fare_branch.proofs.searching.search.Goals as goal
 
 pub returns-clause-searched : goal.returns-clause-searched
 returns-clause-searched g c =
-    let P : Option (List Part × ℕ) → Type 0 = λ found. IsSearched c.args.table.now.edition c.args.table.now.trip c.args.piece c.seen-least.result found in
-    let Q : ℕ → Type 0 = λ least. IsSearched c.args.table.now.edition c.args.table.now.trip c.args.piece least c.kept_at.result in
+    let tariff = c.args.table.now.edition in
+    let trip = c.args.table.now.trip in
+    let least : ℕ = g.B.Bound.least c.args.bound.now in
+    let dived : ℕ = g.B.Bound.least c.dives-homing.new.bound in
+    let known : ℕ = g.B.Bound.least c.seen-known.new.self in
+    let walked : ℕ = g.B.Bound.least c.walk_piece-found.new.bound in
+    let P : Option (List Part × ℕ) → Type 0 = λ found. IsSearched tariff trip c.args.piece c.seen-least.result found in
+    let Q : ℕ → Type 0 = λ seen. IsSearched tariff trip c.args.piece seen c.kept_at.result in
     subst Q (sym c.seen-least.ensures.least) (subst P (sym c.kept_at.ensures)
-    (searched c.args.table.now.edition c.args.table.now.trip c.args.piece (g.B.Bound.least c.args.bound.now) (g.B.Bound.least c.walk_piece-found.new.bound) c.seen-least.result c.walk_piece-found.result (omega arith)
-    (dived_walked c.args.table.now.edition c.args.table.now.trip c.args.piece (g.B.Bound.least c.args.bound.now) (g.B.Bound.least c.try_dive-first.new.bound) (g.B.Bound.least c.walk_piece-found.new.bound) c.try_dive-first.result c.walk_piece-found.result c.try_dive-first.ensures.dived c.walk_piece-found.ensures.walk)))
+    (searched tariff trip c.args.piece least walked c.seen-least.result c.walk_piece-found.result (omega arith)
+    (dived_walked tariff trip c.args.piece least dived known walked None c.dives-homing.result.1 c.walk_piece-found.result (omega arith) c.dives-homing.ensures.dived c.walk_piece-found.ensures.walk)))

@@ -15,7 +15,7 @@ loop-unit-init c = record {
   over = λ unit less.
       let none : 0 ≡ unit = omega arith in
       let P : ℕ → Type 0 = λ u. AreOver c.args.table.now c.args.homing.now c.args.partial.now u (slice_index_or (set (replicate 18 (replicate 17 None)) 0 c.args.homing.now.rest) u []) in
-      subst P none (λ rest price i cost lawful low most over. over);
+      subst P none (λ rest price i cost lawful cheap low most over. over);
 }
 
 pub loop-unit-preserved : goal.loop-unit-preserved

@@ -166,7 +166,7 @@ walk_units-follow-best-requires g t c κs within = (
         (
           c.requires.within,
           (
-            floor_of_entry c.args.stage.now.table.now c.args.stage.now.front.now c.args.stage.now.ahead.now c.requires.stage.next (record { end = c.args.end; unit = c.loop-unit.unit; fare = c.args.entry.now.fare }) c.args.entry.now c.requires.there refl c.floor_with-floor.result c.floor_with-floor.ensures,
+            floor_of_entry c.args.stage.now.table.now c.args.stage.now.front.now c.args.stage.now.ahead.now c.requires.stage.next (record { end = c.args.end; unit = c.loop-unit.unit; fare = c.args.entry.now.fare }) c.args.entry.now c.requires.there refl c.floor_with-floor.result c.floor_with-floor.ensures.up c.floor_with-floor.ensures.above,
             λ parts price l. let least : g.B.Bound.fixed c.args.bound.now ≤ price = c.requires.under parts price l in let same : g.B.Bound.fixed c.loop-unit.bound ≡ g.B.Bound.fixed c.args.bound.now = c.loop-unit.invariant.fixed in omega arith,
           ),
         ),

@@ -1,7 +1,8 @@
 use Rattle.std.proofs.Common.{rules, ◌≡◌, ◌+◌, ◌-◌, ℕ, sym, subst, ◌∙◌, ap, arith, length-set}
-use Rattle.std.specs.Prelude.{Some}
+use Rattle.std.specs.Prelude.{IfSome, Some}
 use Rattle.fare_trip.specs.Itinerary.{count}
 use Rattle.fare_bounds.specs.Covers.{rest_at}
+use Rattle.fare_homing.specs.Ceiling.{IsCeiling}
 use Rattle.fare_homing.specs.Lonely.{AreLonely}
 use Rattle.fare_homing.specs.Rows.{AreCountries}
 use Rattle.fare_homing.proofs.HomingLemmas.{AreHomingsFrom, all_homings, no_homings, put_homings}
@@ -18,6 +19,8 @@ loop-c-init c =
       known = subst P (sym last) (no_homings c.args.table.now.edition c.args.table.now.trip c.unknown-homing.result (subst (λ n. rest_at c.unknown-homing.result.rest n ≡ Some 0) last c.unknown-homing.ensures.end));
       countries = subst (AreCountries c.args.table.now.edition c.args.table.now.trip) (sym c.unknown-homing.ensures.countries) c.countries_of.ensures;
       lonely = subst (AreLonely c.args.table.now.edition) (sym c.unknown-homing.ensures.lonely) c.lonely_fares.ensures;
+      ceiling = subst (IsCeiling c.args.table.now.edition c.args.table.now.trip) (sym c.unknown-homing.ensures.ceiling) c.ceiling_of-ceiling.ensures.ceiling;
+      price = subst (λ ceiling. IfSome ceiling (λ known. c.args.price ≡ Some known.price)) (sym c.unknown-homing.ensures.ceiling) c.ceiling_of-ceiling.ensures.value;
     }
 
 pub loop-c-preserved : goal.loop-c-preserved
@@ -39,14 +42,20 @@ loop-c-preserved c =
           c.wholes_at-whole.ensures (λ b x y past within up more. c.least_onward.ensures b x y past (omega arith) up more) c.standing_at-standing.ensures.closes c.standing_at-standing.ensures.ends;
       countries = known.countries;
       lonely = known.lonely;
+      ceiling = known.ceiling;
+      price = known.price;
     }
 
-pub returns : goal.returns
-returns c =
+pub returns-clause-homings : goal.returns-clause-homings
+returns-clause-homings c =
     let done : c.loop-c.c ≡ 0 = omega arith in
     let P : ℕ → Type 0 = λ first. AreHomingsFrom c.args.table.now.edition c.args.table.now.trip first c.loop-c.homing in
     record {
       known = all_homings c.args.table.now.edition c.args.table.now.trip c.loop-c.homing (subst P done c.loop-c.invariant.known);
       countries = c.loop-c.invariant.countries;
       lonely = c.loop-c.invariant.lonely;
+      ceiling = c.loop-c.invariant.ceiling;
     }
+
+pub returns-clause-ceiling : goal.returns-clause-ceiling
+returns-clause-ceiling c = c.loop-c.invariant.price

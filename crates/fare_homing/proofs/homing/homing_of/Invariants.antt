@@ -1,5 +1,7 @@
 -- the numbers are known from this point on
 use Rattle.std.proofs.Common.{◌≡◌, length}
+use Rattle.std.specs.Prelude.{IfSome, Some}
+use Rattle.fare_homing.specs.Ceiling.{IsCeiling}
 use Rattle.fare_homing.specs.Lonely.{AreLonely}
 use Rattle.fare_homing.specs.Rows.{AreCountries}
 use Rattle.fare_homing.proofs.HomingLemmas.{AreHomingsFrom}
@@ -13,4 +15,6 @@ invariant-loop-c l = record {
   known : AreHomingsFrom l.table.edition l.table.trip l.c l.homing;
   countries : AreCountries l.table.edition l.table.trip l.homing.countries;
   lonely : AreLonely l.table.edition l.homing.lonely;
+  ceiling : IsCeiling l.table.edition l.table.trip l.homing.ceiling;
+  price : IfSome l.homing.ceiling (λ known. l.fn.price ≡ Some known.price);
 }

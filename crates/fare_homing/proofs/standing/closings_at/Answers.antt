@@ -1,11 +1,13 @@
-use Rattle.std.proofs.Common.{◌≡◌, ℕ, ◌+◌, ◌≤◌, true, false, sym, subst, ◌∙◌, ap}
+use Rattle.std.proofs.Common.{◌≡◌, ℕ, ◌+◌, ◌<◌, ◌≤◌, true, false, sym, subst, ◌∙◌, ap, arith}
 use Rattle.std.proofs.lemmas.Bool.{both_ways}
 use Rattle.fare_trip.specs.Itinerary.{count}
 use Rattle.fare_rules.specs.Construction.{begin_after}
 use Rattle.fare_bounds.specs.Covers.{rest_at}
+use Rattle.fare_component.proofs.LawLemmas.{entry_is_of_fare}
+use Rattle.fare_homing.specs.Ceiling.{below_ceiling}
 use Rattle.fare_homing.specs.Homing.{back_cost, between_cost, heads_to, is_same_city, may_go_on}
 use Rattle.fare_homing.specs.HomingRows.{IsBetween, IsPart}
-use Rattle.fare_homing.proofs.HomingRowLemmas.{part_after, step_up}
+use Rattle.fare_homing.proofs.HomingRowLemmas.{part_after}
 use Rattle.fare_homing.proofs.standing.closings_at.Goals as goal
 
 pub returns-then-is : goal.returns-then-is
@@ -23,11 +25,11 @@ returns-then-is c =
           let A : ℕ → Type 0 = λ a. IsPart tariff trip back_cost a j x in
           c.lowered_by.ensures.kept j x (c.with_between-within.ensures.kept j x (c.last_row-last.ensures (may ∙ subst M begins near) j x (c.requires.legs.last j x (subst A begins part))));
       between = λ b j x y city part less apart within up.
-          let rises = part_after tariff trip (between_cost (heads_to tariff trip (begin_after trip i) b j)) i b x part in
-          let A : ℕ → Type 0 = λ a. IsBetween tariff trip a j b x in
-          let step = step_up tariff trip start.countries.now start.point b j x (rest_at start.legs.now.first) (rest_at start.legs.now.last) c.requires.countries c.requires.inside rises.1 within
-          (c.requires.legs.first b) (c.requires.legs.last b) (subst A begins part) in
-          c.lowered_by.ensures.kept j (x + y) (c.with_between-within.ensures.between b j x y rises.0 less (subst (λ t. j ≤ count t) (sym c.trip-trip.ensures) within) (subst (λ t. is_same_city t j b ≡ false) (sym c.trip-trip.ensures) apart) step up);
+          let rises = part_after tariff trip (below_ceiling tariff trip c.args.homing.now.ceiling (begin_after trip i) j b (between_cost (heads_to tariff trip (begin_after trip i) b j))) i b x part in
+          let is = entry_is_of_fare tariff trip (begin_after trip i) b part.entry part.there in
+          let A : ℕ → Type 0 = λ a. IsBetween tariff trip c.args.homing.now.ceiling a j b x in
+          let L : ℕ → Type 0 = λ a. a < b in
+          c.lowered_by.ensures.kept j (x + y) (c.with_between-within.ensures.between b j x y (omega (arith, rises.0)) (subst L begins is.rises) less within apart (subst A begins part) up);
       nested = c.lowered_by.ensures.under;
     }
 

@@ -42,10 +42,10 @@ loop-i-preserved c =
       long_jaw = length-set jaw place new_jaw ∙ known.long_jaw;
       closes = λ i low high. elim (cases_eq i place) [
         | inl same ↦
-            let P : ℕ → Type 0 = λ k. AreClosings tariff trip After (cell homing.whole k) (cell (set closing place new)) stand k (cell (set closing place new) k) in
-            subst P (sym same) (closings_same tariff trip After After (cell homing.whole place) (cell homing.whole place) (cell closing) (cell (set closing place new)) stand place (rest_at new) (cell (set closing place new) place)
+            let P : ℕ → Type 0 = λ k. AreClosings tariff trip homing.ceiling After (cell homing.whole k) (cell (set closing place new)) stand k (cell (set closing place new) k) in
+            subst P (sym same) (closings_same tariff trip homing.ceiling After After (cell homing.whole place) (cell homing.whole place) (cell closing) (cell (set closing place new)) stand place (rest_at new) (cell (set closing place new) place)
             (λ b j past. refl) (λ j. refl) (λ b j past. other_row closing new b j (λ e. omega arith)) (λ j. this_row closing new j (omega (arith, known.long_closing))) c.closings_at-closing.ensures)
-        | inr other ↦ closings_same tariff trip After After (cell homing.whole i) (cell homing.whole i) (cell closing) (cell (set closing place new)) stand i (cell closing i) (cell (set closing place new) i)
+        | inr other ↦ closings_same tariff trip homing.ceiling After After (cell homing.whole i) (cell homing.whole i) (cell closing) (cell (set closing place new)) stand i (cell closing i) (cell (set closing place new) i)
             (λ b j past. refl) (λ j. refl) (λ b j past. other_row closing new b j (λ e. omega arith)) (λ j. other_row closing new i j other) (known.closes i (omega arith) high)
       ];
       ends = λ i low high. elim (cases_eq i place) [

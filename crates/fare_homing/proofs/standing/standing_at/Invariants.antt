@@ -9,6 +9,6 @@ abbrev pub invariant-loop-i : goal.invariant-loop-i
 invariant-loop-i l = record {
   long_closing : length l.standing.closing ≡ 17;
   long_jaw : length l.standing.jaw ≡ 17;
-  closes : (i : ℕ) → l.i ≤ i → i < count l.table.trip → AreClosings l.table.edition l.table.trip (λ b. closing_from l.homing b b) (cell l.homing.whole i) (cell l.standing.closing) l.stand i (cell l.standing.closing i);
+  closes : (i : ℕ) → l.i ≤ i → i < count l.table.trip → AreClosings l.table.edition l.table.trip l.homing.ceiling (λ b. closing_from l.homing b b) (cell l.homing.whole i) (cell l.standing.closing) l.stand i (cell l.standing.closing i);
   ends : (i : ℕ) → l.i ≤ i → i < count l.table.trip → AreJaws l.table.edition l.table.trip (cell l.homing.whole i) (cell l.standing.jaw) l.stand i (cell l.standing.jaw i);
 }

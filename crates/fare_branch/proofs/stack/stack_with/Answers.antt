@@ -8,14 +8,14 @@ use Rattle.fare_rules.specs.Numbers.{numbers}
 use Rattle.fare_branch.specs.Costs.{unit_floor, units_floor}
 use Rattle.fare_branch.specs.Stack.{IsUnderSum}
 use Rattle.fare_branch.proofs.StackFloorLemmas.{paid_under, stack_is_floor}
-use Rattle.fare_branch.proofs.stacking.stack_with.Goals as goal
+use Rattle.fare_branch.proofs.stack.stack_with.Goals as goal
 
 pub returns : goal.returns
 returns c =
     let front = c.args.partial.now in
     let greatest : ℕ = greatest_unit front (places front) in
     let total : ℕ = units_floor c.args.table.now.edition c.args.table.now.trip front in
-    let floor = c.paid_with-floor.result in
+    let floor = c.paid_with.result in
     let over = c.over_units-over.result in
     let last : c.greatest_unit-greatest.result ≡ greatest = c.greatest_unit-greatest.ensures.value in
     let n : c.count-sectors.result ≡ count c.args.table.now.trip = c.count-sectors.ensures.value ∙ ap count c.trip.ensures in
@@ -32,6 +32,6 @@ returns c =
       floors = c.requires.floors;
       spent = spent;
       over = c.over_units-over.ensures;
-      floor = stack_is_floor c.args.table.now c.args.homing.now c.requires.homing front (c.requires.made.advances.ends (length front)) (slice_index_or over greatest []) (c.over_units-over.ensures greatest (omega arith)) floor
-          (subst End c.end.ensures.value (subst Row last (paid_under c.spent_on-spent.result total (rest_at (slice_index_or over c.greatest_unit-greatest.result []) c.end.result) floor spent (c.paid_with-floor.ensures ∙ ap (option_map (capped_sum c.spent_on-spent.result)) c.number_at.ensures))));
+      floor = stack_is_floor c.args.table.now c.args.homing.now c.requires.homing front (c.requires.made.advances.ends (length front)) (slice_index_or over greatest []) (c.over_units-over.ensures greatest (omega arith)) floor c.lowered_to-floor.result
+          (subst End c.end.ensures.value (subst Row last (paid_under c.spent_on-spent.result total (rest_at (slice_index_or over c.greatest_unit-greatest.result []) c.end.result) floor spent (c.paid_with.ensures ∙ ap (option_map (capped_sum c.spent_on-spent.result)) c.number_at-behind.ensures)))) c.lowered_to-floor.ensures.kept c.lowered_to-floor.ensures.above;
     }

@@ -1,0 +1,97 @@
+//! What a search begins with: dives for a price, and what is behind each point of the trip under a ceiling just below
+//! it, where it is far above what all costs at least. Such a price is one that a circle minimum has raised.
+
+ghost use Rattle.std.specs.Prelude.{◌≡◌, ◌≤◌, ◌<◌, None};
+ghost use Rattle.fare_branch.specs.Dive.{IsDived};
+ghost use Rattle.fare_branch.specs.Walked.{IsUnderAll};
+ghost use Rattle.fare_homing.specs.Rows.{AreHomingsOf};
+
+use crate::bound::{Bound, NO_PRICE};
+use crate::descent::dive;
+use crate::pieces::Piece;
+use crate::walking::{Found, keep};
+use fare_component::Table;
+use fare_homing::{Homing, homing_of};
+
+/// How many times what all costs at least a price is from which a ceiling is worth its time.
+const FAR: u64 = 2;
+
+/// Under how many ceilings a search dives.
+const MOST_CEILINGS: u32 = 4;
+
+/// Takes what a dive comes to, where that is lawful and before the best that was found.
+fn try_dive<B: Bound>(
+    table: &Table,
+    homing: &Homing,
+    piece: Piece,
+    best: Found,
+    bound: &mut B,
+) -> Found
+    requires homing { AreHomingsOf table.now.edition table.now.trip homing.now }
+    requires under { IsUnderAll table.now.edition table.now.trip (B.fixed bound.old) }
+    ensures fixed { B.fixed bound.new ≡ B.fixed bound.old }
+    ensures dived { IsDived table.now.edition table.now.trip piece (B.least bound.old) best (B.least bound.new) result }
+{
+    match dive(table, homing, piece) {
+        None => best,
+        Some((front, price)) => keep(table, &front, price, best, bound),
+    }
+}
+
+/// Whether a price is so far above what all costs at least that a ceiling is worth its time: a circle minimum may have
+/// raised it.
+pub fn is_far(homing: &Homing, price: u64) -> bool {
+    match homing.rest[0].amount() {
+        None => false,
+        Some(floor) => price != NO_PRICE && price / FAR >= floor,
+    }
+}
+
+/// The ceiling under which the next dive looks: just below the price known, where that is far above what all costs at
+/// least and no dive was made under it yet.
+fn next_ceiling(homing: &Homing, least: u64) -> Option<u64> {
+    if !is_far(homing, least) {
+        return None;
+    }
+    match homing.ceiling {
+        Some(ceiling) if ceiling.price < least => None,
+        _ => Some(least.saturating_sub(1)),
+    }
+}
+
+/// What dives come to in a piece, with what is behind each point under the last ceiling.
+pub(crate) fn dives<B: Bound>(table: &Table, piece: Piece, bound: &mut B) -> (Homing, Found)
+    requires under { IsUnderAll table.now.edition table.now.trip (B.fixed bound.old) }
+    ensures homing { AreHomingsOf table.now.edition table.now.trip result.0 }
+    ensures fixed { B.fixed bound.new ≡ B.fixed bound.old }
+    ensures dived { IsDived table.now.edition table.now.trip piece (B.least bound.old) None (B.least bound.new)
+        result.1 }
+{
+    let mut homing = homing_of(table, None);
+    let mut best = try_dive(table, &homing, piece, None, bound);
+    for _ceiling in 0..MOST_CEILINGS {
+        let least = bound.seen();
+        let Some(price) = next_ceiling(&homing, least) else {
+            return (homing, best);
+        };
+        homing = homing_of(table, Some(price));
+        if homing.ceiling.is_none() {
+            return (homing, best);
+        }
+        best = try_dive(table, &homing, piece, best, bound);
+    }
+    (homing, best)
+}
+
+/// What is behind each point under a ceiling that the price known is under, unless there is nothing below it.
+pub(crate) fn raised(table: &Table, homing: Homing, least: u64) -> Homing
+    requires homing { AreHomingsOf table.now.edition table.now.trip homing }
+    ensures homing { AreHomingsOf table.now.edition table.now.trip result }
+{
+    match homing.ceiling {
+        Some(ceiling) if ceiling.price < least && !homing.rest[0].is_nothing() => {
+            homing_of(table, Some(least))
+        }
+        _ => homing,
+    }
+}
