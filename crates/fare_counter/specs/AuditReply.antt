@@ -1,5 +1,5 @@
--- The reply to a line that is presented for a trip, plain or in JSON: the text first, then the edition for the trip, and
--- the verdict.
+-- The reply to a line that is presented for a trip, plain or in JSON: the text first, then the edition for the trip,
+-- and the verdict.
 use Rattle.std.specs.Prelude.{◌≡◌, ℕ, List, Ok, Err, MatchResult}
 use Rattle.fare_trip.specs.Itinerary.{Itinerary}
 use Rattle.fare_tariff.specs.Tariff.{Tariff}

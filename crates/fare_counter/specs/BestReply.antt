@@ -1,5 +1,5 @@
--- The reply to a trip whose first constructions are asked for, plain or in JSON: the parameter first, then the itinerary,
--- then the trip.
+-- The reply to a trip whose first constructions are asked for, plain or in JSON: the parameter first, then the
+-- itinerary, then the trip.
 use Rattle.std.specs.Prelude.{◌≡◌, ℕ, List, length, drop, Option, Some, None, Result, codes, MatchResult}
 use Rattle.fare_codes.specs.Numbers.{read_number}
 use Rattle.fare_trip.specs.Itinerary.{Itinerary}

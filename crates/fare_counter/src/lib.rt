@@ -1,8 +1,8 @@
 //! What a counter answers besides what its desk does: the first ten lawful constructions over a book of editions, the
-//! audit of a presented line, and what would make a trip cheaper, each plain or in JSON; every fault of a tariff text, and
-//! what changed between two editions. The routes are defined in `specs/` (`Routes`), and so are the replies (`BestReply`,
-//! `AuditReply`, `WhyReply`, `CheckReply`, `DiffReply`), and what a counter does (`Counter`). The text of the first ten is
-//! that of `fare_answers`, handed on here.
+//! audit of a presented line, and what would make a trip cheaper, each plain or in JSON; every fault of a tariff text,
+//! and what changed between two editions. The routes are defined in `specs/` (`Routes`), and so are the replies
+//! (`BestReply`, `AuditReply`, `WhyReply`, `CheckReply`, `DiffReply`), and what a counter does (`Counter`). The text of
+//! the first ten is that of `fare_answers`, handed on here.
 //!
 //! - `routes`: the counter's own routes; `reasoner`: what finds the reasons of a trip;
 //! - `best_replies`, `audit_replies`, `why_replies`, `tariff_replies`: the replies of these routes;

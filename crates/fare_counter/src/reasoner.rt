@@ -18,8 +18,8 @@ use std::thread::Threads;
 
 /// A quoter that finds the reasons of a trip as well: what would make it cheaper.
 pub trait Reasoner: Quoter {
-    /// The reasons of a trip over a book: their text as `fare_why::why_text` answers it, or the JSON answer, or why there
-    /// is none.
+    /// The reasons of a trip over a book: their text as `fare_why::why_text` answers it, or the JSON answer, or why
+    /// there is none.
     fn reasons<R: Threads + Sync>(
         &self,
         rt: &R,

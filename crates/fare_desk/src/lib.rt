@@ -1,6 +1,6 @@
 //! The desk: what a book of published editions answers to the requests of clients, plain or in JSON. The routes of
-//! requests are defined in `specs/` (`Routes`), and so is what is answered without a change (`Viewing`, by `Quoting` and
-//! `Batching`), and what a desk does (`Publishing`). The texts are those of `fare_answers` and `fare_json`.
+//! requests are defined in `specs/` (`Routes`), and so is what is answered without a change (`Viewing`, by `Quoting`
+//! and `Batching`), and what a desk does (`Publishing`). The texts are those of `fare_answers` and `fare_json`.
 //!
 //! - `routes`: the routes of requests; `replies`: the forms of replies, and refusals;
 //! - `editions`: the replies that show editions; `clerk`: what answers itineraries in one form;

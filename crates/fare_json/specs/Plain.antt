@@ -88,7 +88,8 @@ plain_part_line place part =
 -- the line of a fare and its filed amount
 unfoldable pub plain_filed_line : Data → Data → List ℕ
 plain_filed_line fare filed =
-    codes "FARE " ++ digits (at (codes "record") fare) ++ codes " " ++ plain_tag fare ++ codes " " ++ said filed ++ codes "\n"
+    codes "FARE " ++ digits (at (codes "record") fare) ++ codes " " ++ plain_tag fare ++ codes " " ++ said filed
+    ++ codes "\n"
 
 -- the line of a component amount
 unfoldable pub plain_amount_line : Data → List ℕ
@@ -185,9 +186,10 @@ plain_amount words (Some value) = words ++ said value
 -- the numbers of a verdict, by those of its members that are there
 unfoldable pub plain_verdict : Data → List ℕ
 plain_verdict verdict =
-    said (at (codes "name") verdict) ++ plain_after (get (codes "sector") verdict) ++ plain_after (get (codes "part") verdict)
-    ++ plain_after (get (codes "rule") verdict) ++ plain_after (get (codes "place") verdict)
-    ++ plain_amount (codes " ") (get (codes "price") verdict) ++ plain_amount (codes " OVER ") (get (codes "over") verdict) ++ codes "\n"
+    said (at (codes "name") verdict) ++ plain_after (get (codes "sector") verdict)
+    ++ plain_after (get (codes "part") verdict) ++ plain_after (get (codes "rule") verdict)
+    ++ plain_after (get (codes "place") verdict) ++ plain_amount (codes " ") (get (codes "price") verdict)
+    ++ plain_amount (codes " OVER ") (get (codes "over") verdict) ++ codes "\n"
 
 -- the plain text of an audit
 unfoldable pub plain_audit : Data → List ℕ

@@ -1,5 +1,5 @@
--- The JSON value that answers a quotation. The members of each object stand in the order of their names, and all of them
--- are there; money, rates and days are strings in the form of the plain text.
+-- The JSON value that answers a quotation. The members of each object stand in the order of their names, and all of
+-- them are there; money, rates and days are strings in the form of the plain text.
 use Rattle.std.specs.Prelude.{ℕ, ◌+◌, List, Option, Some, None, map, codes}
 use Rattle.serde_json.specs.Data.{Data, null, boolean, number, unsigned, string, array, object, no_members, member}
 use Rattle.serde_json.specs.View.{items_of}

@@ -9,8 +9,8 @@ use Rattle.serde_json.specs.Written.{compact_text, outline}
 abbrev pub IsReadBack : Data → Type 0
 IsReadBack value = read (compact_text value) ≡ Some value
 
--- a value can be read back: its members stand in the order that a reader gives them, its numbers are numbers, and it nests
--- at most so deep
+-- a value can be read back: its members stand in the order that a reader gives them, its numbers are numbers, and it
+-- nests at most so deep
 pub record IsReadable (most : ℕ) (value : Data) : Type 0 where
   pub reads : of_json (outline value) ≡ Some value
   pub numbers : tree.HasNumbers (outline value)

@@ -60,7 +60,8 @@ array_json piece all = codes "[" ++ listed_json piece all ++ codes "]"
 -- an edition
 unfoldable pub edition_json : Tariff → List ℕ
 edition_json tariff =
-    codes "{\"effective\":" ++ string_json tariff.effective ++ codes ",\"number\":" ++ decimal tariff.number ++ codes "}"
+    codes "{\"effective\":" ++ string_json tariff.effective ++ codes ",\"number\":" ++ decimal tariff.number
+    ++ codes "}"
 
 -- a rule
 abbrev pub rule_json : Option RuleId → List ℕ
@@ -84,8 +85,8 @@ fare_json place fare = fare_front_json fare.carrier fare.class fare.kind ++ fare
 -- a pair in fare direction and its base
 unfoldable pub pair_json : City → City → Nuc → List ℕ
 pair_json from to base =
-    codes "{\"amount\":" ++ money_json base ++ codes ",\"from\":" ++ string_json from ++ codes ",\"to\":" ++ string_json to
-    ++ codes "}"
+    codes "{\"amount\":" ++ money_json base ++ codes ",\"from\":" ++ string_json from ++ codes ",\"to\":"
+    ++ string_json to ++ codes "}"
 
 -- a higher intermediate point
 abbrev pub higher_json : Option (City × City × Nuc) → List ℕ
@@ -193,7 +194,8 @@ construction_rest_json tariff trip parts =
 
 -- a lawful construction
 abbrev pub construction_json : Tariff → Itinerary → List Part → List ℕ
-construction_json tariff trip parts = construction_front_json tariff trip parts ++ construction_rest_json tariff trip parts
+construction_json tariff trip parts =
+    construction_front_json tariff trip parts ++ construction_rest_json tariff trip parts
 
 -- the best construction, or none
 abbrev pub best_json : Tariff → Itinerary → Option (List Part) → List ℕ

@@ -8,8 +8,8 @@
 //!   sheets;
 //! - `quoting`, `first`, `listed`, `batches`, `audits`, `fault_answer`: an answer each.
 //!
-//! `laws` has what follows of every answer (`Plain`): the plain text is made of its members, and a batch that is written
-//! item after item is the text of its value; `reading_back` has that each is read back as its value.
+//! `laws` has what follows of every answer (`Plain`): the plain text is made of its members, and a batch that is
+//! written item after item is the text of its value; `reading_back` has that each is read back as its value.
 //!
 //! The refusals and the words of faults are those of `fare_sentences`, handed on here.
 #![tactic(auto)]

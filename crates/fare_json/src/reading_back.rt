@@ -1,5 +1,6 @@
 //! Laws of the answers: each is read back from its text as its value. What they ask of counts holds of each value of
-//! code, by the types of its numbers; they walk over the parts, the units and the editions to see it, and change nothing.
+//! code, by the types of its numbers; they walk over the parts, the units and the editions to see it, and change
+//! nothing.
 
 ghost use Rattle.std.specs.Prelude.{◌≡◌, ◌<◌, ℕ, List, None, Some, All, length};
 ghost use Rattle.serde_json.specs.Data.{Data};

@@ -10,8 +10,8 @@ use arrayvec::ArrayString;
 use fare_codes::Nuc;
 use fare_outside::NoMemory;
 
-/// Appends a string: the bytes between quotation marks, each as JSON spells it. After want of memory the text may hold a
-/// part of it.
+/// Appends a string: the bytes between quotation marks, each as JSON spells it. After want of memory the text may hold
+/// a part of it.
 #[tactic(auto, unfolding(crate::specs::Spelled::string_json))]
 pub fn push_string(text: &mut Vec<u8>, bytes: &[u8]) -> Result<(), NoMemory>
     ensures { OnOk result (text.new.items ≡ text.old.items ++ string_json bytes.now) }

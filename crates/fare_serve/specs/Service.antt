@@ -45,7 +45,8 @@ room_of count most state = min most (count - taken state)
 module _ {H : Type 0} (step : H → List ℕ → List ℕ → List ℕ → Option Reply → H → Type 0) (count most : ℕ) where
   -- one round more: the first connections to come were taken, in order, what was sent has grown by the bytes of each,
   -- and each one's end is counted, as is each read and write that failed. The door listens where it did. The round has
-  -- no more connections than it may, and, where the door tells what waits and doesn't fail, as many as it may and as wait
+  -- no more connections than it may, and, where the door tells what waits and doesn't fail, as many as it may and
+  -- as wait
   pub record IsNextRound (old new : Standing H) (round : List Exchanged) : Type 0 where
     pub exchanges : IsRound step old.handler old.handler round new.handler
     pub failed : RoseBy (failures_of round) old.door.cuts new.door.cuts
@@ -83,7 +84,8 @@ summary served cut = codes "SERVED " ++ decimal served ++ codes " CUT " ++ decim
 
 module _ {H : Type 0} (step : H → List ℕ → List ℕ → List ℕ → Option Reply → H → Type 0) (count most port : ℕ)
     (first last : H) (before after : DoorState) where
-  -- all connections that were asked for were taken at this port, or none waits, and this is the summary of how they ended
+  -- all connections that were asked for were taken at this port, or none waits, and this is the summary of how
+  -- they ended
   pub record ServesAll (text : List ℕ) : Type 0 where
     pub served : ℕ
     pub cut : ℕ

@@ -1,6 +1,6 @@
 //! A first answer by as little as serves: the itinerary on the first line of standard input, a short line or JSON, is
-//! quoted in the tariff behind it by the same calls as under every command. It has no words, no store and no door, so it
-//! compiles in less than half the time that `fares` takes; its refusals are one line each.
+//! quoted in the tariff behind it by the same calls as under every command. It has no words, no store and no door, so
+//! it compiles in less than half the time that `fares` takes; its refusals are one line each.
 #![tactic(auto)]
 
 use fare_answers::{QuoteFault, quote_text};

@@ -48,7 +48,8 @@ fn printed_line(
     print_line(alloc, &line_by(&Sheets::of(&one)))
 }
 
-/// The first rule that a construction breaks in the edition, where it is lawful and cheaper without a kind of condition.
+/// The first rule that a construction breaks in the edition, where it is lawful and cheaper without a kind of
+/// condition.
 #[tactic(auto, using(crate::proofs::Known::first_of_refused))]
 fn broken_rule(asked: &Asked<'_>, term: Term, construction: &Construction, price: u64) -> Broken
     requires lawful { lawful_price (relax term asked.now.edition.now) asked.now.trip.now construction.now ≡ Ok price }
@@ -72,8 +73,8 @@ fn total_is_of_one(asked: &Asked<'_>, term: Term, made: &Edition, total: u64)
     rules_are_in_range(asked.edition);
 }
 
-/// The best construction of the edition without a kind of condition. What costs more than the best of the edition itself
-/// is left out from the start.
+/// The best construction of the edition without a kind of condition. What costs more than the best of the edition
+/// itself is left out from the start.
 fn best_without(
     alloc: Global,
     asked: &Asked<'_>,

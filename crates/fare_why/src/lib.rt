@@ -1,9 +1,10 @@
 //! What would make a trip cheaper: for each kind of condition that a rule can ask, the best construction of the edition
-//! without that kind, where it costs less, with what it saves and the rule that bars it. The relaxed editions, the kinds
-//! and the laws between an edition and a relaxed one are those of fare_relaxed, passed on from here.
+//! without that kind, where it costs less, with what it saves and the rule that bars it. The relaxed editions, the
+//! kinds and the laws between an edition and a relaxed one are those of fare_relaxed, passed on from here.
 //!
 //! - `reason`, `explanation`: a reason, and the price of the best with all reasons (`Explanation`), as values;
-//! - `prices`, `asked`: the price of the best beside that of an alternative, and what is asked of each search (`Asked`);
+//! - `prices`, `asked`: the price of the best beside that of an alternative, and what is asked of each search
+//!   (`Asked`);
 //! - `alternative`: what is cheaper without one kind of condition;
 //! - `searching`, `gathering`: the searches side by side, and the reasons among what they found;
 //! - `explaining`: the reasons of a trip in an edition (`Reasons`);

@@ -14,8 +14,8 @@ use std::alloc::Global;
 use std::thread;
 use std::thread::Threads;
 
-/// What finds the best construction of a trip, and how many of the searches for the best without a kind of condition run
-/// side by side, which changes no answer.
+/// What finds the best construction of a trip, and how many of the searches for the best without a kind of condition
+/// run side by side, which changes no answer.
 #[derive(Clone, Copy)]
 pub struct Searches<'q, Q> {
     /// What finds the best construction of the edition itself.

@@ -16,7 +16,8 @@ plain_saved saved = said saved
 -- the broken rule with its place
 abbrev pub plain_broken : Data → List ℕ
 plain_broken broken =
-    codes "BROKEN " ++ digits (at (codes "rule") broken) ++ codes " " ++ digits (at (codes "place") broken) ++ codes "\n"
+    codes "BROKEN " ++ digits (at (codes "rule") broken) ++ codes " " ++ digits (at (codes "place") broken)
+    ++ codes "\n"
 
 -- a reason
 unfoldable pub plain_reason : Data → List ℕ
