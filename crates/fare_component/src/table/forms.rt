@@ -14,7 +14,7 @@ use fare_trip::Trip;
 use std::alloc::Global;
 
 /// So many forms are kept at once; a trip whose fares have more is priced with some references looked up again.
-const MOST_FORMS: usize = 64;
+const MOST_FORMS: usize = 256;
 
 /// The references of the forms that came so far, all of one day, and the place of the form that is expected next: the
 /// fares of a span mostly have the forms of those of the span before, in the same order.
