@@ -1,3 +1,4 @@
+pub mod HashedKeys
 pub mod SharedSlots
 pub mod Halved
 pub mod Passed

@@ -12,14 +12,18 @@ abbrev pub slot_count : Slots → ℕ
 slot_count (Hashed slots) = slots
 slot_count (Ranked hashes) = length hashes.items + 1
 
--- the slot of a key by its hash, among so many: the last bits of its hash
-abbrev pub hashed_slot : ℕ → Key → ℕ
-hashed_slot slots key = bit_and (hash_of key) (slots - 1)
+-- the slot of a hash, among so many: its last bits
+abbrev pub hashed_slot : ℕ → ℕ → ℕ
+hashed_slot slots hash = bit_and hash (slots - 1)
 
--- the slot of a key: by the last bits of its hash, or the place of its hash among hashes
-unfoldable pub slot_of : Slots → Key → ℕ
-slot_of (Hashed slots) key = hashed_slot slots key
-slot_of (Ranked hashes) key = rank hashes.items (hash_of key)
+-- the slot of a hash: its last bits, or its place among hashes
+unfoldable pub slot_by : Slots → ℕ → ℕ
+slot_by (Hashed slots) hash = hashed_slot slots hash
+slot_by (Ranked hashes) hash = rank hashes.items hash
+
+-- the slot of a key is that of its hash
+abbrev pub slot_of : Slots → Key → ℕ
+slot_of slots key = slot_by slots (hash_of key)
 
 -- a key has a slot
 abbrev pub has_slot : Slots → ℕ → Key → Bool

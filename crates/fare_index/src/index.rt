@@ -1,13 +1,16 @@
-ghost use Rattle.std.specs.Prelude.{◌≡◌, ◌+◌, ◌<◌, IfOk, length, drop, slice_index_or};
+ghost use Rattle.std.specs.Prelude.{◌≡◌, ◌+◌, ◌<◌, IfOk, length, drop, map, slice_index_or};
 ghost use Rattle.std.specs.List.{position_from};
 ghost use Rattle.fare_index.specs.declared.key.Key.{Key};
+ghost use Rattle.fare_index.specs.Hashed.{hash_of};
 ghost use Rattle.fare_index.specs.Key.{same_key};
 
+use crate::hashed::{hash_each, hash_side_by_side};
 use crate::key::Key;
 use crate::places::{Places, places_of, seek};
 use fare_outside::NoMemory;
 use std::alloc::Global;
-use std::marker::Model;
+use std::marker::{Model, Sync};
+use std::thread::Threads;
 
 /// The places of equal keys in a list of keys. It is seen as that list.
 #[derive(Drop)]
@@ -33,7 +36,28 @@ impl Index {
     pub fn of(alloc: Global, keys: Vec<Key>) -> Result<Index, NoMemory>
         ensures { IfOk result (λ index. index ≡ keys.items) }
     {
-        let places = places_of(alloc, keys.as_slice())?;
+        let hashes = hash_each(alloc, keys.as_slice())?;
+        Index::by_hashes(alloc, keys, hashes.as_slice())
+    }
+
+    /// The index of a list of many keys, which are hashed on all processors.
+    pub fn of_many<R: Threads + Sync>(
+        rt: &R,
+        alloc: Global,
+        keys: Vec<Key>,
+    ) -> Result<Index, NoMemory>
+        ensures { IfOk result (λ index. index ≡ keys.items) }
+    {
+        let hashes = hash_side_by_side(rt, alloc, keys.as_slice())?;
+        Index::by_hashes(alloc, keys, hashes.as_slice())
+    }
+
+    /// The index of a list of keys by their hashes.
+    fn by_hashes(alloc: Global, keys: Vec<Key>, hashes: &[u64]) -> Result<Index, NoMemory>
+        requires { hashes.now ≡ map hash_of keys.items }
+        ensures { IfOk result (λ index. index ≡ keys.items) }
+    {
+        let places = places_of(alloc, keys.as_slice(), hashes)?;
         Ok(Index { keys, places })
     }
 

@@ -4,11 +4,11 @@
 //! - `key`: the key of a filed record, in which a pair of cities is unordered where the record's is;
 //! - `pairs`: the keys of unordered pairs;
 //! - `mark`: a number for each kind of key and indicator;
-//! - `hashed`: the hash of a key;
+//! - `hashed`: the hash of a key, and the hashes of many, made on all processors;
 //! - `rank`: hashes in their order, and the place of one among them;
 //! - `slots`: the slot of a key, by the last bits of its hash, or by the place of its hash where too many would share one;
 //! - `link`: a place, or nothing, in four bytes;
-//! - `places`: the places of the keys of a slot, linked in one pass over a list of keys from its back;
+//! - `places`: the places of the keys of a slot, linked in one pass over the hashes of a list of keys from its back;
 //! - `index`: the index of a list of keys.
 #![tactic(auto)]
 

@@ -1,9 +1,10 @@
 //! The places of the keys of a list: the first place of each slot, and after each place the next one of its slot. They
-//! are made in one pass from the back, in which no two keys are compared; only a look-up compares keys. Where a slot
-//! gets so many places that look-ups would be slow, they are made once more by other slots.
+//! are made in one pass from the back over the hashes of the keys, in which no two keys are compared; only a look-up
+//! compares keys. Where a slot gets so many places that look-ups would be slow, they are made once more by other slots.
 
-ghost use Rattle.std.specs.Prelude.{ℕ, ◌≡◌, ◌<◌, ◌≤◌, true, false, IfOk, length, drop, slice_index_or};
+ghost use Rattle.std.specs.Prelude.{ℕ, ◌≡◌, ◌<◌, ◌≤◌, true, false, IfOk, length, drop, map, slice_index_or};
 ghost use Rattle.std.specs.List.{position_from};
+ghost use Rattle.fare_index.specs.Hashed.{hash_of};
 ghost use Rattle.fare_index.specs.Key.{same_key};
 ghost use Rattle.fare_index.specs.Slots.{share_slot, slot_count};
 ghost use Rattle.fare_index.specs.Places.{ArePlaces, LeadsOn};
@@ -48,8 +49,10 @@ fn follow(leads: &mut Vec<bool>, later: Link)
     }
 }
 
-/// The places of a list of keys, by their slots.
-fn places_by(alloc: Global, keys: &[Key], slots: Slots) -> Result<Places, NoMemory>
+/// The places of a list of keys, by the slots of their hashes. Each hash is known before the pass, so that a place waits
+/// only for the slot that it takes.
+fn places_by(alloc: Global, keys: &[Key], hashes: &[u64], slots: Slots) -> Result<Places, NoMemory>
+    requires hashed { hashes.now ≡ map hash_of keys.now }
     requires in_links { length keys.now ≤ u32.MAX }
     requires some_slot { 0 < slot_count slots }
     ensures { IfOk result (ArePlaces keys.now) }
@@ -58,7 +61,7 @@ fn places_by(alloc: Global, keys: &[Key], slots: Slots) -> Result<Places, NoMemo
     let mut links = vec![in alloc; Link::none(); keys.len()]?;
     let mut leads = vec![in alloc; true; keys.len()]?;
     for place in (0..keys.len()).rev() {
-        let slot = slots.of(&keys[place]);
+        let slot = slots.by(hashes[place]);
         let later = heads[slot];
         follow(&mut leads, later);
         links[place] = later;
@@ -91,16 +94,17 @@ fn is_crowded(alloc: Global, links: &[Link]) -> Result<bool, NoMemory> {
     Ok(sum > links.len().saturating_mul(MOST_BEHIND))
 }
 
-/// The places of a list of keys. A list whose length doesn't fit 32 bits is answered as want of memory.
-pub(crate) fn places_of(alloc: Global, keys: &[Key]) -> Result<Places, NoMemory>
+/// The places of a list of keys, by their hashes. A list whose length doesn't fit 32 bits is answered as want of memory.
+pub(crate) fn places_of(alloc: Global, keys: &[Key], hashes: &[u64]) -> Result<Places, NoMemory>
+    requires { hashes.now ≡ map hash_of keys.now }
     ensures { IfOk result (ArePlaces keys.now) }
 {
     if keys.len() > u32::MAX as usize {
         return Err(NoMemory);
     }
-    let places = places_by(alloc, keys, Slots::hashed(keys.len()))?;
+    let places = places_by(alloc, keys, hashes, Slots::hashed(keys.len()))?;
     if is_crowded(alloc, places.links.as_slice())? {
-        return places_by(alloc, keys, Slots::ranked(alloc, keys)?);
+        return places_by(alloc, keys, hashes, Slots::ranked(alloc, hashes)?);
     }
     Ok(places)
 }

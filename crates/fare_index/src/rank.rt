@@ -3,19 +3,14 @@
 ghost use Rattle.std.specs.Prelude.{◌≡◌, ◌≤◌, length};
 ghost use Rattle.fare_index.specs.Rank.{rank};
 
-use crate::hashed::hash_of;
-use crate::key::Key;
 use std::alloc::{AllocError, Global};
 
-/// The hashes of keys, in their order. Nothing is known of the answer: where a search by halves ends in it is the place
-/// of a hash, whatever it holds.
-pub(crate) fn sorted_hashes(alloc: Global, keys: &[Key]) -> Result<Vec<u64>, AllocError> {
-    let mut hashes = Vec::with_capacity(alloc, keys.len())?;
-    for key in keys.iter() {
-        hashes.push(hash_of(key))?;
-    }
-    hashes.sort_unstable();
-    Ok(hashes)
+/// Hashes in their order. Nothing is known of the answer: where a search by halves ends in it is the place of a hash,
+/// whatever it holds.
+pub(crate) fn sorted_hashes(alloc: Global, hashes: &[u64]) -> Result<Vec<u64>, AllocError> {
+    let mut sorted = hashes.to_vec(alloc)?;
+    sorted.sort_unstable();
+    Ok(sorted)
 }
 
 /// Where a search by halves for a hash ends: where the hashes are in their order, at the first that isn't less.

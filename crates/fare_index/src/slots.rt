@@ -3,7 +3,7 @@
 //! there are too few keys to choose many of one whole hash.
 
 ghost use Rattle.std.specs.Prelude.{◌≡◌, ◌<◌, ◌≤◌, IfOk};
-ghost use Rattle.fare_index.specs.Slots.{hashed_slot, slot_count, slot_of};
+ghost use Rattle.fare_index.specs.Slots.{hashed_slot, slot_by, slot_count, slot_of};
 
 use crate::hashed::hash_of;
 use crate::key::Key;
@@ -19,14 +19,14 @@ pub(crate) enum Slots {
     Ranked(Vec<u64>),
 }
 
-/// The slot of a key by the last bits of its hash, among so many.
+/// The slot of a hash by its last bits, among so many.
 #[tactic(auto, using(std::proofs::lemmas::Nat::and_le_r))]
-fn hashed_slot(key: &Key, slots: usize) -> usize
+fn hashed_slot(hash: u64, slots: usize) -> usize
     requires { 0 < slots }
-    ensures slot { result ≡ hashed_slot slots key.now }
+    ensures slot { result ≡ hashed_slot slots hash }
     ensures within { result < slots }
 {
-    hash_of(key) as usize & (slots - 1)
+    hash as usize & (slots - 1)
 }
 
 impl Slots {
@@ -38,11 +38,11 @@ impl Slots {
         Slots::Hashed(keys.max(1).next_power_of_two())
     }
 
-    /// Slots by the hashes of these keys in their order.
-    pub(crate) fn ranked(alloc: Global, keys: &[Key]) -> Result<Slots, AllocError>
+    /// Slots by these hashes of keys in their order.
+    pub(crate) fn ranked(alloc: Global, hashes: &[u64]) -> Result<Slots, AllocError>
         ensures { IfOk result (λ slots. 0 < slot_count slots) }
     {
-        Ok(Slots::Ranked(sorted_hashes(alloc, keys)?))
+        Ok(Slots::Ranked(sorted_hashes(alloc, hashes)?))
     }
 
     /// How many slots there are.
@@ -56,15 +56,24 @@ impl Slots {
     }
 
     /// The slot of a key.
-    #[tactic(auto, unfolding(crate::specs::Slots::slot_of))]
     pub(crate) fn of(&self, key: &Key) -> usize
         requires { 0 < slot_count self.now }
         ensures slot { result ≡ slot_of self.now key.now }
         ensures within { result < slot_count self.now }
     {
+        self.by(hash_of(key))
+    }
+
+    /// The slot of a key that has a hash.
+    #[tactic(auto, unfolding(crate::specs::Slots::slot_by))]
+    pub(crate) fn by(&self, hash: u64) -> usize
+        requires { 0 < slot_count self.now }
+        ensures slot { result ≡ slot_by self.now hash }
+        ensures within { result < slot_count self.now }
+    {
         match self {
-            Slots::Hashed(slots) => hashed_slot(key, *slots),
-            Slots::Ranked(hashes) => rank(hashes.as_slice(), hash_of(key)),
+            Slots::Hashed(slots) => hashed_slot(hash, *slots),
+            Slots::Ranked(hashes) => rank(hashes.as_slice(), hash),
         }
     }
 }

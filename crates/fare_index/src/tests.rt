@@ -1,6 +1,7 @@
 //! Each public call, over ordinary keys and over keys that share a slot.
 
-use crate::places::places_of;
+use crate::hashed::hash_each;
+use crate::places::{Places, places_of};
 use crate::slots::Slots;
 use crate::*;
 use fare_codes::{City, Indicator, RuleId};
@@ -69,13 +70,19 @@ fn sharing_keys(alloc: Global, first: City) -> Result<Vec<Key>, Fail> {
     Ok(keys)
 }
 
+/// The places of keys, by their hashes.
+fn hashed_places(alloc: Global, keys: &[Key]) -> Result<Places, Fail> {
+    let hashes = hash_each(alloc, keys)?;
+    Ok(places_of(alloc, keys, hashes.as_slice())?)
+}
+
 #[test]
 fn goes_by_order_where_many_share_a_slot(rt: HostRuntime) -> Result<(), Fail> {
     let london = city(&rt, *b"LON");
     let few = [Key::City(london)];
     let many = sharing_keys(rt.alloc(), london)?;
-    let by_hash = places_of(rt.alloc(), &few)?;
-    let by_order = places_of(rt.alloc(), many.as_slice())?;
+    let by_hash = hashed_places(rt.alloc(), &few)?;
+    let by_order = hashed_places(rt.alloc(), many.as_slice())?;
     assert!(rt; matches!(by_hash.slots, Slots::Hashed(_)));
     assert!(rt; matches!(by_order.slots, Slots::Ranked(_)));
     Ok(())
