@@ -5,6 +5,7 @@ pub mod Looks
 pub mod SameKind
 pub mod FaultPlaces
 pub mod Clashes
+pub mod KeyTests
 pub mod KindTests
 pub mod Faults
 pub mod Validity

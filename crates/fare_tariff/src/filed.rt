@@ -49,7 +49,7 @@ impl Filed {
     {
         let keys = own_keys(rt, alloc, records.as_slice())?;
         let towns = Towns::of(alloc, keys.as_slice())?;
-        let index = Index::of(alloc, keys)?;
+        let index = Index::of_many(rt, alloc, keys)?;
         Ok(Filed {
             records,
             index,

@@ -86,17 +86,18 @@ fn fare_record(records: &[Record], number: u32) -> Option<&FareRec>
     }
 }
 
-/// Whether a fare has a key.
+/// Whether a fare has a key. The fares that are asked mostly share the cities and the indicator, so these come last.
+#[tactic(auto, using(crate::proofs::KeyTests::terms_first))]
 pub(crate) fn has_key(key: &FareKey, fare: &FareRec) -> bool
     ensures { result ≡ has_key key.now fare.now }
 {
-    fare.from.is(key.from)
-        && fare.to.is(key.to)
-        && fare.ind.is(key.ind)
-        && fare.carrier.is(key.carrier)
+    fare.carrier.is(key.carrier)
         && fare.class.is(key.class)
         && fare.kind.is(key.kind)
         && same_rules(&fare.rule, &key.rule)
+        && fare.from.is(key.from)
+        && fare.to.is(key.to)
+        && fare.ind.is(key.ind)
 }
 
 /// The record number of the record at a place.
