@@ -167,7 +167,7 @@ find_none test (x ∷ xs) from h = go (test x) h (find_none test xs (from + 1))
     go false h further = further h
 
 -- a list with a place has a record there
-some_there : (all : List Record) (place : ℕ) → place < length all → (one : Record) × (one ≡ get_or all place one)
+pub some_there : (all : List Record) (place : ℕ) → place < length all → (one : Record) × (one ≡ get_or all place one)
 some_there [] place h = absurd (omega arith)
 some_there (x ∷ xs) zero h = (x, refl)
 some_there (x ∷ xs) (suc place) h = some_there xs place (omega arith)

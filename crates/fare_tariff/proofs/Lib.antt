@@ -7,6 +7,7 @@ pub mod FaultPlaces
 pub mod Clashes
 pub mod KeyTests
 pub mod KindTests
+pub mod FreePlaces
 pub mod Faults
 pub mod Validity
 pub mod CheckExamples

@@ -1,17 +1,19 @@
 -- The first fault of a list, by the place of the first record that has a kind.
-use Rattle.std.specs.Prelude.{ℕ, Bool, List, Option, length, position, count_by, nat_le, ◌||◌, take, is_some}
-use Rattle.std.specs.Prelude.{option_and_then, slice_get}
+use Rattle.std.specs.Prelude.{◌≡◌, ℕ, ◌+◌, ◌<◌, Bool, false, List, [], ◌∷◌, Option, Some, None, length, position}
+use Rattle.std.specs.Prelude.{count_by, nat_le, ◌==◌, ◌&&◌, ◌||◌, take, is_some, option_and_then, slice_get, slice_index_or}
 use Rattle.std.specs.List.{position_from, range_with_len}
 use Rattle.fare_tariff.specs.declared.records.record.Record.{Record}
 use Rattle.fare_tariff.specs.declared.records.record.Record.TheVariants as filed
 use Rattle.fare_tariff.specs.declared.check.check_fault.CheckFault.{CheckFault}
 use Rattle.fare_codes.specs.declared.season.Season.{Season}
-use Rattle.fare_tariff.specs.declared.limits.TheConstants.{MOST_FARES_BETWEEN}
+use Rattle.fare_index.specs.declared.key.Key.{Key}
+use Rattle.fare_tariff.specs.declared.limits.TheConstants.{MOST_FARES_BETWEEN, MOST_RECORDS}
 use Rattle.fare_tariff.specs.declared.records.fare_key.FareKey.{FareKey}
 use Rattle.fare_tariff.specs.Lookup.{is_fare_between}
 use Rattle.fare_tariff.specs.Check.{kind_of, fault_at, first_number, has_key_of, has_same_points, is_fare_over}
 use Rattle.fare_tariff.specs.Check.{is_zero_mileage, key_of, names_unknown_city, names_unknown_rule}
 use Rattle.fare_tariff.specs.Check.{names_unknown_currency}
+use Rattle.fare_tariff.specs.Keyed.{own_key, has_own_key}
 
 -- the record at a place has a kind
 abbrev pub has_kind_at : List Record → ℕ → Bool
@@ -46,3 +48,31 @@ names_unknown records one =
 abbrev pub is_faulty : List Record → List Record → Record → Bool
 is_faulty records earlier one =
     clash_of earlier one || (names_unknown records one || (has_same_points one || is_zero_mileage one))
+
+-- one of the records with a key clashes with one before it, of the rest of a list from a place on
+abbrev pub clashes_from : List Record → Key → ℕ → List Record → Bool
+clashes_from records key place [] = false
+clashes_from records key place (one ∷ rest) =
+    (has_own_key key one && clash_of (take place records) one) || clashes_from records key (place + 1) rest
+
+-- a place is the one that was found
+abbrev pub is_found_at : ℕ → Option ℕ → Bool
+is_found_at place None = false
+is_found_at place (Some first) = first == place
+
+-- a record at a place is the first with its key, and one of the records with its key clashes with one before it
+abbrev pub leads_to_clash : List Record → ℕ → Record → Bool
+leads_to_clash records place one =
+    is_found_at place (position_from (has_own_key (own_key one)) 0 records)
+    && clashes_from records (own_key one) 0 records
+
+-- one of the tests of a record in the limit is true, of which that of its clash is asked where it is the first with its
+-- key, for all the records with the key
+abbrev pub is_suspect : List Record → ℕ → Record → Bool
+is_suspect records place one =
+    leads_to_clash records place one || (names_unknown records one || (has_same_points one || is_zero_mileage one))
+
+-- a place is in the limit, and its record isn't suspect
+pub record IsFree (records : List Record) (place : ℕ) : Type 0 where
+  pub in_limit : place < MOST_RECORDS
+  pub unsuspected : (d : Record) → is_suspect records place (slice_index_or records place d) ≡ false

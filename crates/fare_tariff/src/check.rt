@@ -3,6 +3,7 @@
 mod check_fault;
 mod check_kind;
 mod clash;
+mod clear;
 mod keys;
 mod kind;
 mod names;

@@ -5,6 +5,7 @@ ghost use Rattle.fare_tariff.specs.Check.{kind_of, first_fault};
 ghost use Rattle.fare_tariff.specs.Faulty.{is_faulty, has_kind_at, fault_of, first_faulty};
 
 use crate::check::clash::clash_at;
+use crate::check::clear::is_clear;
 use crate::check::keys::{duplicate_of, overlap_of};
 use crate::check::names::{
     names_unknown, names_unknown_city, names_unknown_currency, names_unknown_rule,
@@ -104,10 +105,13 @@ pub fn fault_at(filed: &Filed, place: usize) -> Option<CheckFault>
     }
 }
 
-/// The fault of the least record that has one.
+/// The fault of the least record that has one. That none has one, as in every edition, is found sooner than the first.
 pub(crate) fn first_fault<R: Threads + Sync>(rt: &R, filed: &Filed) -> Option<CheckFault>
     ensures { result ≡ first_fault filed.now }
 {
+    if is_clear(rt, filed) {
+        return None;
+    }
     match first_faulty(rt, filed) {
         None => None,
         Some(place) => fault_at(filed, place),

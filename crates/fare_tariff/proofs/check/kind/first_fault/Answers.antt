@@ -2,6 +2,7 @@
 use Rattle.std.proofs.Common.{arith, ap, sym, ◌∙◌, option_and_then}
 use Rattle.fare_tariff.specs.Faulty.{fault_of}
 use Rattle.fare_tariff.proofs.FaultPlaces.{fault_of_first, faulty_within, faulty_in_limit}
+use Rattle.fare_tariff.proofs.FreePlaces.{no_fault}
 use Rattle.fare_tariff.proofs.check.kind.first_fault.Goals as goal
 
 pub fault_at-requires-clause-within : goal.fault_at-requires-clause-within
@@ -15,3 +16,6 @@ returns-in-None g c = ap (option_and_then (fault_of c.args.filed.now)) c.in-None
 
 pub returns-in-Some : goal.returns-in-Some
 returns-in-Some g c = c.fault_at.ensures ∙ ap (option_and_then (fault_of c.args.filed.now)) c.in-Some.ensures ∙ sym (fault_of_first c.args.filed.now)
+
+pub returns-then-is_clear : goal.returns-then-is_clear
+returns-then-is_clear g c = no_fault c.args.filed.now (c.is_clear.ensures c.if-is_clear.true)

@@ -1,0 +1,86 @@
+//! Whether no record has a kind. Each record that may clash is asked from the first one with its key, one behind the
+//! other, so that the fares of a market are read together wherever they stand in a text.
+
+ghost use Rattle.std.specs.Prelude.{◌≡◌, ◌<◌, ℕ, true, false, length, slice_index_or};
+ghost use Rattle.std.specs.List.{position_from};
+ghost use Rattle.fare_tariff.specs.Faulty.{clashes_from, has_kind_at, IsFree, is_suspect, leads_to_clash};
+ghost use Rattle.fare_tariff.specs.Keyed.{has_own_key, own_key};
+
+use crate::check::clash::clash_at;
+use crate::check::names::names_unknown;
+use crate::check::numbers::{has_same_points, is_zero_mileage};
+use crate::filed::Filed;
+use crate::limits::MOST_RECORDS;
+use crate::records::Record;
+use rayon::prelude::*;
+use std::marker::Sync;
+use std::thread::Threads;
+
+/// Whether one of the records with the key of a record clashes with one before it. The first of them is at a place that
+/// is known.
+fn chain_clashes(filed: &Filed, one: &Record, first: Option<usize>) -> bool
+    requires { first ≡ position_from (has_own_key (own_key one.now)) 0 filed.now }
+    ensures { result ≡ clashes_from filed.now (own_key one.now) 0 filed.now }
+{
+    let mut at = first;
+    while let Some(place) = at {
+        if clash_at(filed, place, &filed.records()[place]) {
+            return true;
+        }
+        at = filed.next(place);
+    }
+    false
+}
+
+/// Whether the record at a place is the first with its key, and one of those with its key clashes with one before it.
+fn leads_to_clash(filed: &Filed, place: usize, one: &Record) -> bool
+    requires within { place < length filed.now }
+    requires at { one.now ≡ slice_index_or filed.now place one.now }
+    ensures { result ≡ leads_to_clash filed.now place one.now }
+{
+    match filed.first_at(place) {
+        None => false,
+        Some(first) => first == place && chain_clashes(filed, one, Some(first)),
+    }
+}
+
+/// Whether one of the tests of the record at a place in the limit is true.
+fn is_suspect(filed: &Filed, place: usize, one: &Record) -> bool
+    requires within { place < length filed.now }
+    requires at { one.now ≡ slice_index_or filed.now place one.now }
+    ensures { result ≡ is_suspect filed.now place one.now }
+{
+    leads_to_clash(filed, place, one)
+        || (names_unknown(filed, one) || (has_same_points(one) || is_zero_mileage(one)))
+}
+
+/// Whether the record at a place is suspect or out of the limit.
+fn is_suspected(filed: &Filed, place: usize) -> bool
+    requires { place < length filed.now }
+    ensures { result ≡ false → IsFree filed.now place }
+{
+    if place >= MOST_RECORDS {
+        return true;
+    }
+    is_suspect(filed, place, &filed.records()[place])
+}
+
+/// Whether no record is suspect, asked on all processors.
+fn has_no_suspect<R: Threads + Sync>(rt: &R, filed: &Filed) -> bool
+    ensures { result ≡ true → (place : ℕ) → place < length filed.now → IsFree filed.now place }
+{
+    !(0..filed.records().len()).into_par_iter().any(
+        rt,
+        |place: usize| -> bool
+            requires { place < length filed.now }
+            ensures { result ≡ false → IsFree filed.entry.now place }
+        { is_suspected(filed, place) },
+    )
+}
+
+/// Whether no record has a kind. Records that have none may be taken for ones that do.
+pub(crate) fn is_clear<R: Threads + Sync>(rt: &R, filed: &Filed) -> bool
+    ensures { result ≡ true → (place : ℕ) → place < length filed.now → has_kind_at filed.now place ≡ false }
+{
+    has_no_suspect(rt, filed)
+}
