@@ -1,14 +1,19 @@
 -- No record has a kind where each place is free.
 use Rattle.std.proofs.Common.{◌≡◌, ℕ, All, subst, ◌+◌, ◌<◌, Bool, true, false, cond, ◌&&◌, ◌||◌, List, [], ◌∷◌, length, get_or, take, Option, Some, None, option_and_then, refl, ap, sym, ◌∙◌, arith, zero, suc}
+use Rattle.std.specs.Prelude.{MatchBool, not}
 use Rattle.std.specs.List.{position_from, range_with_len}
 use Rattle.std.proofs.lemmas.Bool.{eq-eqb}
 use Rattle.std.proofs.lemmas.List.FromFn.{get_or-range_with_len, length-range_with_len}
-use Rattle.std.specs.Prelude.{MatchBool, not}
 use Rattle.fare_index.specs.declared.key.Key.{Key}
 use Rattle.fare_index.specs.SameKeys.{same_key-true, same_key-IsEquivalence}
 use Rattle.fare_tariff.specs.declared.records.record.Record.{Record}
+use Rattle.fare_codes.specs.declared.city.City.{City}
+use Rattle.fare_codes.specs.declared.indicator.Indicator.{Indicator}
+use Rattle.fare_index.specs.declared.key.Key.TheVariants as kind
+use Rattle.fare_tariff.specs.declared.records.record.Record.TheVariants as filed
+use Rattle.fare_tariff.specs.Record.{FareRecord}
 use Rattle.fare_tariff.specs.Check.{first_fault, has_same_points, is_zero_mileage}
-use Rattle.fare_tariff.specs.Faulty.{clash_of, clashes_from, fault_of, first_faulty, has_kind_at, is_found_at, leads_to_clash, names_unknown, is_suspect, IsFree}
+use Rattle.fare_tariff.specs.Faulty.{clash_behind, clash_of, clashes_from, fault_of, first_faulty, has_kind_at, is_found_at, leads_to_clash, names_unknown, is_suspect, IsFree}
 use Rattle.fare_tariff.specs.Keyed.{own_key, has_own_key}
 use Rattle.fare_tariff.proofs.Chain.{LooksAt, keyed_from, some_there}
 use Rattle.fare_tariff.proofs.FaultPlaces.{fault_of_first}
@@ -68,35 +73,55 @@ found_up test k (x ∷ xs) (suc place) d within passes = go (test x) (found_up t
     go true later = (k, refl)
     go false later = later
 
+-- what is asked of a record that is a fare, or isn't
+pub behind_fare : (all : List Record) (place : ℕ) (one : Record) (r : FareRecord) → one ≡ filed.Fare r → leads_to_clash all place one ≡ clash_behind all place one
+behind_fare all place one r is = ap (leads_to_clash all place) is ∙ ap (clash_behind all place) (sym is)
+
+pub behind_other : (all : List Record) (place : ℕ) (one : Record) → ((fare : FareRecord) → one ≡ filed.Fare fare → ⊥) → clash_of (take place all) one ≡ clash_behind all place one
+behind_other all place (filed.Fare r) isnt = absurd (isnt r refl)
+behind_other all place one isnt = refl
+
+-- what has the key of fares is a fare
+leads_behind : (all : List Record) (place : ℕ) (one : Record) (from to : City) (ind : Indicator) → kind.Fares from to ind ≡ own_key one → clash_behind all place one ≡ false → leads_to_clash all place one ≡ false
+leads_behind all place (filed.Fare r) from to ind own h = h
+leads_behind all place one from to ind own h = cc
+
 -- what is known of a free place and its record
-unsuspected : (all : List Record) (place : ℕ) (one : Record) → one ≡ get_or all place one → IsFree all place → (leads_to_clash all place one ≡ false) × ((names_unknown all one || (has_same_points one || is_zero_mileage one)) ≡ false)
+unsuspected : (all : List Record) (place : ℕ) (one : Record) → one ≡ get_or all place one → IsFree all place → (clash_behind all place one ≡ false) × ((names_unknown all one || (has_same_points one || is_zero_mileage one)) ≡ false)
 unsuspected all place one at free =
-    neither (leads_to_clash all place one) (names_unknown all one || (has_same_points one || is_zero_mileage one))
+    neither (clash_behind all place one) (names_unknown all one || (has_same_points one || is_zero_mileage one))
     (ap (is_suspect all place) at ∙ free.unsuspected one)
 
--- a record with a key doesn't clash where the first with the key is free
-no_clash : (all : List Record) (key : Key) (first : ℕ) → first < length all → position_from (has_own_key key) 0 all ≡ Some first → IsFree all first → clashes_from all key 0 all ≡ false
-no_clash all key first within found free =
+-- no fare of a market clashes where the first of them is free
+no_clash : (all : List Record) (from to : City) (ind : Indicator) (first : ℕ) → first < length all → position_from (has_own_key (kind.Fares from to ind)) 0 all ≡ Some first → IsFree all first → clashes_from all (kind.Fares from to ind) 0 all ≡ false
+no_clash all from to ind first within found free =
+    let key : Key = kind.Fares from to ind in
     let two = some_there all first within in
     let keyed = keyed_from key all 0 first (omega arith) found in
-    let own : key ≡ own_key two.0 = same_key-true key (own_key two.0) (ap (has_own_key key) two.1 ∙ keyed.0.keyed two.0) in
-    let leads : (is_found_at first (position_from (has_own_key key) 0 all) && clashes_from all key 0 all) ≡ false = ap (λ k. is_found_at first (position_from (has_own_key k) 0 all) && clashes_from all k 0 all) own ∙ (unsuspected all first two.0 two.1 free).0 in
+    let own : kind.Fares from to ind ≡ own_key two.0 = same_key-true key (own_key two.0) (ap (has_own_key key) two.1 ∙ keyed.0.keyed two.0) in
+    let leads : (is_found_at first (position_from (has_own_key key) 0 all) && clashes_from all key 0 all) ≡ false = ap (λ k. is_found_at first (position_from (has_own_key k) 0 all) && clashes_from all k 0 all) own ∙ leads_behind all first two.0 from to ind own (unsuspected all first two.0 two.1 free).0 in
     not_second (is_found_at first (position_from (has_own_key key) 0 all)) (clashes_from all key 0 all) leads
     (ap (is_found_at first) found ∙ eq-eqb first first refl)
+
+-- no record clashes where each place is free
+clear_at : (all : List Record) → ((place : ℕ) → place < length all → IsFree all place) → (place : ℕ) (one : Record) → place < length all → one ≡ get_or all place one → clash_of (take place all) one ≡ false
+clear_at all free place (filed.Fare r) within at =
+    let one = filed.Fare r in
+    let key : Key = kind.Fares r.from r.to r.ind in
+    let own : has_own_key key (get_or all place one) ≡ true = ap (has_own_key key) (sym at) ∙ same_key-IsEquivalence.refl key in
+    let found = found_up (has_own_key key) 0 all place one within own in
+    let keyed = keyed_from key all 0 found.0 (omega arith) found.1 in
+    let none = no_clash all r.from r.to r.ind found.0 keyed.0.within found.1 (free found.0 keyed.0.within) in
+    let whole : place ≡ 0 + place = omega arith in
+    ap (λ o. clash_of (take place all) o) at ∙ ap (λ n. clash_of (take n all) (get_or all place one)) whole ∙ clear_in all key 0 all place one none within own
+clear_at all free place one within at = (unsuspected all place one at (free place within)).0
 
 pub free_all : (all : List Record) → ((place : ℕ) → place < length all → IsFree all place) → (place : ℕ) → place < length all → has_kind_at all place ≡ false
 free_all all free place within =
     let some = some_there all place within in
     let one = some.0 in
-    let key = own_key one in
-    let own : has_own_key key (get_or all place one) ≡ true = ap (has_own_key key) (sym some.1) ∙ same_key-IsEquivalence.refl key in
-    let found = found_up (has_own_key key) 0 all place one within own in
-    let keyed = keyed_from key all 0 found.0 (omega arith) found.1 in
-    let none = no_clash all key found.0 keyed.0.within found.1 (free found.0 keyed.0.within) in
-    let whole : place ≡ 0 + place = omega arith in
-    let clear : clash_of (take place all) one ≡ false = ap (λ o. clash_of (take place all) o) some.1 ∙ ap (λ n. clash_of (take n all) (get_or all place one)) whole ∙ clear_in all key 0 all place one none within own in
     kind_tells all place one within (free place within).in_limit some.1
-    ∙ ap (λ t. t || (names_unknown all one || (has_same_points one || is_zero_mileage one))) clear
+    ∙ ap (λ t. t || (names_unknown all one || (has_same_points one || is_zero_mileage one))) (clear_at all free place one within some.1)
     ∙ (unsuspected all place one some.1 (free place within)).1
 
 -- of the numbers of a range none of which is suspected each is a free place

@@ -66,11 +66,16 @@ leads_to_clash records place one =
     is_found_at place (position_from (has_own_key (own_key one)) 0 records)
     && clashes_from records (own_key one) 0 records
 
--- one of the tests of a record in the limit is true, of which that of its clash is asked where it is the first with its
--- key, for all the records with the key
+-- a record clashes with one of the earlier ones; of a fare, it leads to one that does
+abbrev pub clash_behind : List Record → ℕ → Record → Bool
+clash_behind records place (filed.Fare r) = leads_to_clash records place (filed.Fare r)
+clash_behind records place one = clash_of (take place records) one
+
+-- one of the tests of a record in the limit is true, of which that of its clash is asked of the first fare of a market
+-- for all
 abbrev pub is_suspect : List Record → ℕ → Record → Bool
 is_suspect records place one =
-    leads_to_clash records place one || (names_unknown records one || (has_same_points one || is_zero_mileage one))
+    clash_behind records place one || (names_unknown records one || (has_same_points one || is_zero_mileage one))
 
 -- a place is in the limit, and its record isn't suspect
 pub record IsFree (records : List Record) (place : ℕ) : Type 0 where

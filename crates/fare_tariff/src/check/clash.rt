@@ -4,8 +4,9 @@
 ghost use Rattle.std.specs.Prelude.{◌≡◌, ◌<◌, length, slice_index_or, take};
 ghost use Rattle.std.specs.List.{position_from};
 ghost use Rattle.fare_index.specs.declared.key.Key.TheVariants.{Fares};
+ghost use Rattle.fare_tariff.specs.declared.records.record.Record.{Record};
 ghost use Rattle.fare_tariff.specs.Faulty.{clashes, clash_of};
-ghost use Rattle.fare_tariff.specs.Keyed.{has_own_key};
+ghost use Rattle.fare_tariff.specs.Keyed.{has_own_key, own_key};
 
 use crate::check::keys::{before, key_of};
 use crate::filed::Filed;
@@ -39,15 +40,24 @@ fn clashes(filed: &Filed, place: usize, first: Option<usize>, key: &FareKey, sea
     false
 }
 
+/// Whether the record at a place clashes with one before it. The first record with its key is at a place that is known.
+pub(crate) fn clash_from(filed: &Filed, place: usize, one: &Record, first: Option<usize>) -> bool
+    requires at { one.now ≡ slice_index_or filed.now place one.now }
+    requires first { (d : Record) → first
+        ≡ position_from (has_own_key (own_key (slice_index_or filed.now place d))) 0 filed.now }
+    ensures { result ≡ clash_of (take place filed.now) one.now }
+{
+    match one {
+        Record::Fare(fare) => clashes(filed, place, first, &key_of(fare), fare.season),
+        _ => before(place, first).is_some(),
+    }
+}
+
 /// Whether the record at a place clashes with one before it.
 pub(crate) fn clash_at(filed: &Filed, place: usize, one: &Record) -> bool
     requires within { place < length filed.now }
     requires at { one.now ≡ slice_index_or filed.now place one.now }
     ensures { result ≡ clash_of (take place filed.now) one.now }
 {
-    let first = filed.first_at(place);
-    match one {
-        Record::Fare(fare) => clashes(filed, place, first, &key_of(fare), fare.season),
-        _ => before(place, first).is_some(),
-    }
+    clash_from(filed, place, one, filed.first_at(place))
 }

@@ -1,12 +1,12 @@
-//! Whether no record has a kind. Each record that may clash is asked from the first one with its key, one behind the
-//! other, so that the fares of a market are read together wherever they stand in a text.
+//! Whether no record has a kind. The fares of a market are asked one behind the other from the first of them on, so that
+//! they are read together wherever they stand in a text.
 
 ghost use Rattle.std.specs.Prelude.{◌≡◌, ◌<◌, ℕ, true, false, length, slice_index_or};
 ghost use Rattle.std.specs.List.{position_from};
-ghost use Rattle.fare_tariff.specs.Faulty.{clashes_from, has_kind_at, IsFree, is_suspect, leads_to_clash};
+ghost use Rattle.fare_tariff.specs.Faulty.{clash_behind, clashes_from, has_kind_at, IsFree, is_suspect, leads_to_clash};
 ghost use Rattle.fare_tariff.specs.Keyed.{has_own_key, own_key};
 
-use crate::check::clash::clash_at;
+use crate::check::clash::{clash_at, clash_from};
 use crate::check::names::names_unknown;
 use crate::check::numbers::{has_same_points, is_zero_mileage};
 use crate::filed::Filed;
@@ -24,7 +24,7 @@ fn chain_clashes(filed: &Filed, one: &Record, first: Option<usize>) -> bool
 {
     let mut at = first;
     while let Some(place) = at {
-        if clash_at(filed, place, &filed.records()[place]) {
+        if clash_from(filed, place, &filed.records()[place], first) {
             return true;
         }
         at = filed.next(place);
@@ -44,13 +44,25 @@ fn leads_to_clash(filed: &Filed, place: usize, one: &Record) -> bool
     }
 }
 
+/// Whether the record at a place clashes with one before it; of a fare, whether it leads to one that does.
+fn clash_behind(filed: &Filed, place: usize, one: &Record) -> bool
+    requires within { place < length filed.now }
+    requires at { one.now ≡ slice_index_or filed.now place one.now }
+    ensures { result ≡ clash_behind filed.now place one.now }
+{
+    match one {
+        Record::Fare(_) => leads_to_clash(filed, place, one),
+        _ => clash_at(filed, place, one),
+    }
+}
+
 /// Whether one of the tests of the record at a place in the limit is true.
 fn is_suspect(filed: &Filed, place: usize, one: &Record) -> bool
     requires within { place < length filed.now }
     requires at { one.now ≡ slice_index_or filed.now place one.now }
     ensures { result ≡ is_suspect filed.now place one.now }
 {
-    leads_to_clash(filed, place, one)
+    clash_behind(filed, place, one)
         || (names_unknown(filed, one) || (has_same_points(one) || is_zero_mileage(one)))
 }
 

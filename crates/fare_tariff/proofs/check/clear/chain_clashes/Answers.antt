@@ -1,9 +1,10 @@
 -- one step from a record with the key to the next
-use Rattle.std.proofs.Common.{◌≡◌, ◌+◌, false, drop, get_or, ap, sym, ◌∙◌}
+use Rattle.std.proofs.Common.{◌≡◌, ◌+◌, false, drop, take, get_or, IfSome, ap, subst, sym, ◌∙◌}
+use Rattle.std.specs.List.{position_from}
+use Rattle.fare_index.specs.SameKeys.{same_key-true}
 use Rattle.fare_tariff.specs.Faulty.{clash_of, clashes_from}
 use Rattle.fare_tariff.specs.Keyed.{own_key, has_own_key}
-use Rattle.std.proofs.Common.{take}
-use Rattle.fare_tariff.proofs.Chain.{keyed_first, from_first, walk_step}
+use Rattle.fare_tariff.proofs.Chain.{IsKeyed, keyed_first, from_first, walk_step}
 use Rattle.fare_tariff.proofs.FreePlaces.{clash_looks, one_clear}
 use Rattle.fare_tariff.proofs.check.clear.chain_clashes.Goals as goal
 
@@ -15,6 +16,13 @@ loop-at-init c =
       keyed = keyed_first key all c.args.first c.requires;
       same = from_first (clashes_from all key) false key (clash_looks all key) all c.args.first c.requires;
     }
+
+pub clash_from-requires-clause-first : goal.clash_from-requires-clause-first
+clash_from-requires-clause-first c =
+    let all = c.args.filed.now in
+    let key = own_key c.args.one.now in
+    let keyed : IsKeyed key all c.in-Some.place = subst (λ o. IfSome o (IsKeyed key all)) c.in-Some.is c.loop-at.invariant.keyed in
+    λ d. c.requires ∙ ap (λ k. position_from (has_own_key k) 0 all) (same_key-true key (own_key (get_or all c.in-Some.place d)) (keyed.keyed d))
 
 pub loop-at-smaller : goal.loop-at-smaller
 loop-at-smaller c =
@@ -34,7 +42,7 @@ loop-at-preserved c =
     record {
       keyed = step.keyed;
       same = step.there
-          ∙ one_clear (has_own_key key one) (clash_of (take place all) one) (clashes_from all key (place + 1) (drop (place + 1) all)) c.if-clash_at.ensures
+          ∙ one_clear (has_own_key key one) (clash_of (take place all) one) (clashes_from all key (place + 1) (drop (place + 1) all)) c.if-clash_from.ensures
           ∙ sym step.here
           ∙ c.loop-at.invariant.same;
     }

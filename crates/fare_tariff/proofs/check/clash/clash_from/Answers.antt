@@ -3,11 +3,11 @@ use Rattle.std.proofs.Common.{ap}
 use Rattle.fare_tariff.specs.Record.{FareRecord}
 use Rattle.fare_tariff.proofs.KindTests.{clash_fare}
 use Rattle.fare_tariff.proofs.SameKind.{first_fares, clash_other}
-use Rattle.fare_tariff.proofs.check.clash.clash_at.Goals as goal
+use Rattle.fare_tariff.proofs.check.clash.clash_from.Goals as goal
 
 pub clashes-requires : goal.clashes-requires
 clashes-requires c =
-    first_fares c.args.filed.now c.args.place c.args.one.now c.in-Fare.fare _ c.first_at-first.result c.requires.at c.in-Fare.is c.key_of.ensures c.first_at-first.ensures
+    first_fares c.args.filed.now c.args.place c.args.one.now c.in-Fare.fare _ c.args.first c.requires.at c.in-Fare.is c.key_of.ensures c.requires.first
 
 pub returns-in-Fare : goal.returns-in-Fare
 returns-in-Fare c =
@@ -15,4 +15,4 @@ returns-in-Fare c =
 
 pub returns-in_default : goal.returns-in_default
 returns-in_default c =
-    clash_other c.args.filed.now c.args.place c.args.one.now c.first_at-first.result _ _ c.in_default.not-Fare c.requires.at c.first_at-first.ensures c.before-in_default.ensures.before c.is_some.ensures
+    clash_other c.args.filed.now c.args.place c.args.one.now c.args.first _ _ c.in_default.not-Fare c.requires.at c.requires.first c.before-in_default.ensures.before c.is_some.ensures
