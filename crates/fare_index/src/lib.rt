@@ -8,7 +8,7 @@
 //! - `rank`: hashes in their order, and the place of one among them;
 //! - `slots`: the slot of a key, by the last bits of its hash, or by the place of its hash where too many would share one;
 //! - `link`: a place, or nothing, in four bytes;
-//! - `places`: the places of the keys of a slot, linked in one pass over the hashes of a list of keys from its back;
+//! - `places`: the places of the keys of a slot, linked in one pass over the hashes of keys from the back;
 //! - `index`: the index of a list of keys.
 #![tactic(auto)]
 

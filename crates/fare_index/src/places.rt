@@ -49,8 +49,8 @@ fn follow(leads: &mut Vec<bool>, later: Link)
     }
 }
 
-/// The places of a list of keys, by the slots of their hashes. Each hash is known before the pass, so that a place waits
-/// only for the slot that it takes.
+/// The places of a list of keys, by the slots of their hashes. Each hash is known before the pass, so that a place
+/// waits only for its slot.
 fn places_by(alloc: Global, keys: &[Key], hashes: &[u64], slots: Slots) -> Result<Places, NoMemory>
     requires hashed { hashes.now ≡ map hash_of keys.now }
     requires in_links { length keys.now ≤ u32.MAX }
@@ -94,7 +94,8 @@ fn is_crowded(alloc: Global, links: &[Link]) -> Result<bool, NoMemory> {
     Ok(sum > links.len().saturating_mul(MOST_BEHIND))
 }
 
-/// The places of a list of keys, by their hashes. A list whose length doesn't fit 32 bits is answered as want of memory.
+/// The places of a list of keys, by their hashes. A list whose length doesn't fit 32 bits is answered as want of
+/// memory.
 pub(crate) fn places_of(alloc: Global, keys: &[Key], hashes: &[u64]) -> Result<Places, NoMemory>
     requires { hashes.now ≡ map hash_of keys.now }
     ensures { IfOk result (ArePlaces keys.now) }

@@ -1,4 +1,5 @@
-//! The check of a list of records: the kinds of a record, each as its own test, and the first fault.
+//! The check of a list of records: the kinds of a record, each as its own test, whether no record has one, and the
+//! first fault.
 
 mod check_fault;
 mod check_kind;

@@ -5,7 +5,7 @@
 //! - `limits`: how many records there may be, and how great their numbers;
 //! - `edition`: an edition, which is valid by its type;
 //! - `filed`: a list of records with the places of their keys, and `towns`, where the record of a city may stand;
-//! - `check`: each kind of fault as its own test, and the first fault of a list of records;
+//! - `check`: each kind of fault as its own test, whether a list of records has none, and its first fault;
 //! - `look_up`: cities, currencies, fares, rules and mileages, each found by its key;
 //! - `seasons`: when two seasons share a day;
 //! - `laws`: what follows of every edition, with nothing to run.
