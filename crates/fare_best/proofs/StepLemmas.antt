@@ -18,7 +18,7 @@ use Rattle.fare_units.specs.Walk.{Completes, GoesOn, AnyPart, EndsAt, HasFare, H
 use Rattle.fare_units.proofs.NextLemmas.{next_rises, next_within, next_numbered, next_filed, next_served}
 use Rattle.fare_units.proofs.StepLemmas.{end_before_next}
 use Rattle.fare_component.specs.declared.table.entry.Entry.{Entry}
-use Rattle.fare_branch.specs.Floors.{HasNoCompletion, IsFloor}
+use Rattle.fare_floors.specs.Floors.{HasNoCompletion, IsFloor}
 use Rattle.fare_component.specs.Table.{entries_of, entry_of, entry_at, has_amount, is_span}
 use Rattle.fare_best.specs.Ranking.{is_behind, is_beyond, is_dear}
 use Rattle.fare_best.specs.Walked.{IsWalk}

@@ -10,8 +10,9 @@ ghost use Rattle.fare_best.specs.Walked.{IsRanked, IsWalk};
 
 use crate::best_list::{BestList, MOST_BEST};
 use crate::walking::{Wanted, walk};
-use fare_branch::{Partial, Stage, ahead_of, best_of, dived_front, is_far, stack_of};
+use fare_branch::{best_of, dived_front, is_far};
 use fare_component::Table;
+use fare_floors::{Partial, Stage, ahead_of, stack_of};
 use fare_homing::{Homing, homing_of};
 use fare_outside::NoMemory;
 use fare_rules::{PRICE_LIMIT, edition_is_valid, price_is_bounded};

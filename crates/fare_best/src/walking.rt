@@ -6,14 +6,15 @@ ghost use Rattle.fare_trip.specs.Itinerary.{count};
 ghost use Rattle.fare_rules.specs.Construction.{greatest_unit, places};
 ghost use Rattle.fare_component.specs.Table.{IsInBounds, entries_of};
 ghost use Rattle.fare_units.specs.Walk.{Completes, GoesOn, AnyPart, EndsAt, HasFare, IsPart, IsList, next_start};
-ghost use Rattle.fare_branch.specs.Ahead.{IsStage};
-ghost use Rattle.fare_branch.specs.Floors.{IsFloorAnswer};
+ghost use Rattle.fare_floors.specs.Ahead.{IsStage};
+ghost use Rattle.fare_floors.specs.Floors.{IsFloorAnswer};
 ghost use Rattle.fare_best.specs.Ranking.{is_dear};
 ghost use Rattle.fare_best.specs.Walked.{IsWalk};
 
 use crate::best_list::{BestList, MOST_BEST};
-use fare_branch::{Partial, Stage, ahead_of, floor_with, is_barred, is_crowded, stack_after};
+use fare_branch::{is_barred, is_crowded};
 use fare_component::{Entry, Table};
+use fare_floors::{Partial, Stage, ahead_of, floor_with, stack_after};
 use fare_rules::Part;
 use fare_units::lawful_price_by;
 

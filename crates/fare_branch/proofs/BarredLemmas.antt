@@ -18,10 +18,10 @@ use Rattle.fare_units.specs.Barred.{is_uncombined, is_untimely}
 use Rattle.fare_units.specs.Shut.{is_shut}
 use Rattle.fare_units.proofs.ShutLemmas.{shut_has_parts}
 use Rattle.fare_units.proofs.NextLemmas.{any_same, front_start, front_unit, same_unit_front}
-use Rattle.fare_branch.specs.Floors.{HasNoCompletion}
-use Rattle.fare_branch.proofs.SameLemmas.{AreFirst, any_eq, fare_same, hr_same, last_member}
-use Rattle.fare_branch.proofs.ShutLemmas.{any_at, own_are_first, shut_own}
-use Rattle.fare_branch.proofs.SumLemmas.{unit_up_to}
+use Rattle.fare_floors.specs.Floors.{HasNoCompletion}
+use Rattle.fare_floors.proofs.SameLemmas.{AreFirst, any_eq, fare_same, hr_same, last_member}
+use Rattle.fare_floors.proofs.ShutLemmas.{any_at, own_are_first, shut_own}
+use Rattle.fare_floors.proofs.SumLemmas.{unit_up_to}
 
 true_false : true ≡ false → ⊥
 true_false e = cc

@@ -27,16 +27,16 @@ use Rattle.fare_component.specs.declared.table.entry.Entry.{Entry}
 use Rattle.fare_component.specs.Table.{entries_of}
 use Rattle.fare_homing.specs.Lonely.{AreLonely, has_rule, is_rule, is_rule_of, rule_at, suits_itself}
 use Rattle.fare_branch.specs.Crowding.{AreNeeds, bars_rule, combines_with, leaves_fare, leaves_rule, left_count, may_come, taken, takes_rule}
-use Rattle.fare_branch.specs.Floors.{HasNoCompletion}
-use Rattle.fare_branch.proofs.CostLemmas.{unit_from_one}
-use Rattle.fare_branch.proofs.GoesOnLemmas.{not_so}
-use Rattle.fare_branch.proofs.OverLemmas.{behind_next, behind_all, behind_front, begins_next, part_rises}
-use Rattle.fare_branch.proofs.StandLemmas.{point_behind}
-use Rattle.fare_branch.proofs.SameLemmas.{fare_same}
-use Rattle.fare_branch.proofs.ShutLemmas.{any_at, both_true}
-use Rattle.fare_branch.proofs.SumLemmas.{range_member}
-use Rattle.fare_branch.proofs.TrueCostLemmas.{entry, entry_there, no_single}
-use Rattle.fare_branch.proofs.UnitLemmas.{all}
+use Rattle.fare_floors.specs.Floors.{HasNoCompletion}
+use Rattle.fare_floors.proofs.CostLemmas.{unit_from_one}
+use Rattle.fare_floors.proofs.GoesOnLemmas.{not_so}
+use Rattle.fare_floors.proofs.OverLemmas.{behind_next, behind_all, behind_front, begins_next, part_rises}
+use Rattle.fare_floors.proofs.StandLemmas.{point_behind}
+use Rattle.fare_floors.proofs.SameLemmas.{fare_same}
+use Rattle.fare_floors.proofs.ShutLemmas.{any_at, both_true}
+use Rattle.fare_floors.proofs.SumLemmas.{range_member}
+use Rattle.fare_floors.proofs.TrueCostLemmas.{entry, entry_there, no_single}
+use Rattle.fare_floors.proofs.UnitLemmas.{all}
 
 true_false : true ≡ false → ⊥
 true_false e = cc

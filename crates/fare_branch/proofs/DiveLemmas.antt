@@ -9,7 +9,7 @@ use Rattle.fare_component.specs.Table.{Pricing}
 use Rattle.fare_units.specs.Walk.{Completes, IsList}
 use Rattle.fare_branch.specs.declared.pieces.Piece.{Piece}
 use Rattle.fare_branch.specs.Dive.{GoesFrom, IsAnyOf, StartsIn, IsDived}
-use Rattle.fare_branch.specs.Floors.{IsMadeWith}
+use Rattle.fare_floors.specs.Floors.{IsMadeWith}
 use Rattle.fare_branch.specs.Search.{BeginsIn}
 use Rattle.fare_branch.specs.Walked.{IsWalk}
 use Rattle.fare_branch.proofs.WalkedLemmas.{walk_fallen, walk_nothing, walk_then, walk_within}

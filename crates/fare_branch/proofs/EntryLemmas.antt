@@ -16,8 +16,8 @@ use Rattle.fare_component.specs.Table.{IsEntry, entries_of, entry_of, has_amount
 use Rattle.fare_component.proofs.LawLemmas.{amount_is_entry, entry_is_of_fare}
 use Rattle.fare_bounds.specs.Covers.{least_cost}
 use Rattle.fare_branch.specs.Beginnings.{fare_of_entry}
-use Rattle.fare_branch.specs.Costs.{fare_least}
-use Rattle.fare_branch.specs.Ending.{is_priced}
+use Rattle.fare_floors.specs.Costs.{fare_least}
+use Rattle.fare_floors.specs.Ending.{is_priced}
 use Rattle.fare_branch.proofs.StepLemmas.{member_snoc}
 
 true_false : true ≡ false → ⊥

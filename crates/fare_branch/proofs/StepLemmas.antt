@@ -16,7 +16,7 @@ use Rattle.fare_units.specs.Walk.{Completes, GoesOn, AnyPart, EndsAt, HasFare, H
 use Rattle.fare_units.proofs.NextLemmas.{next_rises, next_within, next_numbered, next_filed, next_served}
 use Rattle.fare_units.proofs.StepLemmas.{end_before_next}
 use Rattle.fare_component.specs.declared.table.entry.Entry.{Entry}
-use Rattle.fare_branch.specs.Floors.{HasNoCompletion, IsFloor, may_follow}
+use Rattle.fare_floors.specs.Floors.{HasNoCompletion, IsFloor, may_follow}
 use Rattle.fare_component.specs.Table.{entries_of, entry_of, entry_at, has_amount, is_span}
 use Rattle.fare_branch.specs.Walked.{IsWalk, is_beaten}
 use Rattle.fare_branch.proofs.WalkedLemmas.{walk_left_out, walk_nothing, walk_then, walk_within, beaten_is_passed}

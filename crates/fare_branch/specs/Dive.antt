@@ -7,7 +7,7 @@ use Rattle.fare_rules.specs.Best.{IsLawful}
 use Rattle.fare_component.specs.Table.{Pricing}
 use Rattle.fare_units.specs.Walk.{Completes}
 use Rattle.fare_branch.specs.declared.pieces.Piece.{Piece}
-use Rattle.fare_branch.specs.Floors.{IsMadeWith}
+use Rattle.fare_floors.specs.Floors.{IsMadeWith}
 use Rattle.fare_branch.specs.Search.{BeginsIn}
 use Rattle.fare_branch.specs.Walked.{IsWalk}
 

@@ -3,16 +3,8 @@ pub use Rattle.fare_units.specs.Walk
 pub use Rattle.fare_component.specs.Table
 pub use Rattle.fare_bounds.specs.Covers
 pub use Rattle.fare_homing.specs.Homing
-pub mod Floors
-pub mod Ending
-pub mod Refusals
-pub mod Joining
 pub mod Beginnings
-pub mod Costs
 pub mod Crowding
-pub mod LastParts
-pub mod Stack
-pub mod Ahead
 pub mod Walked
 pub mod Search
 pub mod Dive

@@ -1,10 +1,10 @@
 //! Whether the rules on stays and on combined fares bar first parts, whatever follows them.
 
 ghost use Rattle.std.specs.Prelude.{◌≡◌, true};
-ghost use Rattle.fare_branch.specs.Floors.{HasNoCompletion, IsMadeWith};
+ghost use Rattle.fare_floors.specs.Floors.{HasNoCompletion, IsMadeWith};
 
-use crate::partial::Partial;
 use fare_component::Table;
+use fare_floors::Partial;
 use fare_units::{is_uncombined, is_untimely, part_at};
 
 /// Whether the last of some first parts does not combine with an earlier one, or shuts its unit with a stay that is not

@@ -10,12 +10,12 @@ ghost use Rattle.fare_component.specs.Table.{entries_of};
 ghost use Rattle.fare_homing.specs.Rows.{AreHomingsOf};
 ghost use Rattle.fare_branch.specs.Crowding.{AreNeeds, IsNeed, IsNeedWith, bars_rule, leaves_fare, leaves_rule};
 ghost use Rattle.fare_branch.specs.Crowding.{left_count, may_come, takes_rule};
-ghost use Rattle.fare_branch.specs.Floors.{HasNoCompletion, IsMadeWith};
+ghost use Rattle.fare_floors.specs.Floors.{HasNoCompletion, IsMadeWith};
 
-use crate::partial::Partial;
 use fare_bounds::begin_after;
 use fare_codes::RuleId;
 use fare_component::{Entry, Table};
+use fare_floors::Partial;
 use fare_homing::{Homing, MOST_LONELY, is_rule_of, rule_at};
 use fare_rules::{MOST_POINTS, Part};
 use fare_tariff::Edition;

@@ -3,14 +3,14 @@
 
 ghost use Rattle.std.specs.Prelude.{IfSome};
 ghost use Rattle.fare_homing.specs.Rows.{AreHomingsOf};
-ghost use Rattle.fare_branch.specs.Floors.{IsMadeWith};
+ghost use Rattle.fare_floors.specs.Floors.{IsMadeWith};
 ghost use Rattle.fare_branch.specs.Dive.{IsLanded};
 ghost use Rattle.fare_branch.specs.Search.{BeginsIn};
 
 use crate::diving::{first_step, least_step};
-use crate::partial::Partial;
 use crate::pieces::{Piece, choices};
 use fare_component::Table;
+use fare_floors::Partial;
 use fare_homing::Homing;
 use fare_units::lawful_price_by;
 

@@ -5,20 +5,17 @@ ghost use Rattle.std.specs.Prelude.{◌≡◌, ◌+◌, ◌<◌, ◌≤◌, [], 
 ghost use Rattle.fare_trip.specs.Itinerary.{count};
 ghost use Rattle.fare_component.specs.Table.{IsInBounds};
 ghost use Rattle.fare_units.specs.Walk.{next_start};
-ghost use Rattle.fare_branch.specs.Ahead.{IsStage};
+ghost use Rattle.fare_floors.specs.Ahead.{IsStage};
 ghost use Rattle.fare_branch.specs.Beginnings.{AreCounts};
 ghost use Rattle.fare_homing.specs.Rows.{AreHomingsOf};
-ghost use Rattle.fare_branch.specs.Floors.{IsMadeWith};
+ghost use Rattle.fare_floors.specs.Floors.{IsMadeWith};
 ghost use Rattle.fare_branch.specs.Dive.{GoesFrom, StartsIn};
 
-use crate::ahead::{ahead_of, floor_ahead, floor_with};
 use crate::barred::is_barred;
 use crate::crowding::is_crowded;
-use crate::partial::Partial;
 use crate::pieces::{Counts, Piece, choice, choices, counts_of};
-use crate::stack::{stack_after, stack_of};
-use crate::stage::Stage;
 use fare_component::{Entry, Table};
+use fare_floors::{Partial, Stage, ahead_of, floor_ahead, floor_with, stack_after, stack_of};
 use fare_homing::Homing;
 use fare_rules::Part;
 

@@ -2,22 +2,19 @@
 
 ghost use Rattle.std.specs.Prelude.{◌≡◌, []};
 ghost use Rattle.fare_bounds.specs.Covers.{AreRests};
-ghost use Rattle.fare_branch.specs.Ahead.{IsStage};
+ghost use Rattle.fare_floors.specs.Ahead.{IsStage};
 ghost use Rattle.fare_branch.specs.Beginnings.{AreCounts};
 ghost use Rattle.fare_homing.specs.Rows.{AreHomingsOf};
 ghost use Rattle.fare_branch.specs.Search.{IsLeastPrice, BeginsIn, BeginsBy, IsSearched, kept_at};
 ghost use Rattle.fare_branch.specs.Walked.{IsWalk, IsUnderAll};
 
-use crate::ahead::{ahead_of, floor_ahead};
 use crate::bound::Bound;
 use crate::opening::{dives, raised};
-use crate::partial::Partial;
 use crate::pieces::{Counts, Piece, choice, choices, counts_of};
-use crate::stack::stack_of;
-use crate::stage::Stage;
 use crate::walking::{Found, follow};
 use fare_bounds::Rest;
 use fare_component::Table;
+use fare_floors::{Partial, Stage, ahead_of, floor_ahead, stack_of};
 use fare_homing::Homing;
 use fare_rules::Part;
 use fare_units::Construction;

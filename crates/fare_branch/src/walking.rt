@@ -8,18 +8,15 @@ ghost use Rattle.fare_rules.specs.Construction.{greatest_unit, places};
 ghost use Rattle.fare_component.specs.Table.{IsInBounds, entries_of};
 ghost use Rattle.fare_units.specs.Walk.{Completes, GoesOn, AnyPart, EndsAt, HasFare, IsPart, IsList, TakesBetter};
 ghost use Rattle.fare_units.specs.Walk.{next_start};
-ghost use Rattle.fare_branch.specs.Floors.{IsFloorAnswer};
-ghost use Rattle.fare_branch.specs.Ahead.{IsStage};
+ghost use Rattle.fare_floors.specs.Floors.{IsFloorAnswer};
+ghost use Rattle.fare_floors.specs.Ahead.{IsStage};
 ghost use Rattle.fare_branch.specs.Walked.{IsWalk, IsUnderAll, is_beaten, is_no_sooner};
 
-use crate::ahead::{ahead_of, floor_with};
 use crate::barred::is_barred;
 use crate::bound::Bound;
 use crate::crowding::is_crowded;
-use crate::partial::Partial;
-use crate::stack::stack_after;
-use crate::stage::Stage;
 use fare_component::{Entry, Table};
+use fare_floors::{Partial, Stage, ahead_of, floor_with, stack_after};
 use fare_rules::Part;
 use fare_units::{Construction, earlier, lawful_price_by};
 

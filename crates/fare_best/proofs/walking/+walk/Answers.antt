@@ -7,8 +7,8 @@ use Rattle.fare_units.specs.Walk.{Completes, GoesOn, HasFare, next_start}
 use Rattle.fare_units.proofs.FrontLemmas.{front_falls}
 use Rattle.fare_component.specs.declared.table.entry.Entry.{Entry}
 use Rattle.fare_component.specs.Table.{entries_of}
-use Rattle.fare_branch.specs.Floors.{HasNoCompletion, IsFloor, IsFloorAnswer}
-use Rattle.fare_branch.proofs.AheadLemmas.{floor_of_entry}
+use Rattle.fare_floors.specs.Floors.{HasNoCompletion, IsFloor, IsFloorAnswer}
+use Rattle.fare_floors.proofs.AheadLemmas.{floor_of_entry}
 use Rattle.fare_best.specs.Ranking.{is_behind}
 use Rattle.fare_best.specs.Walked.{IsWalk}
 use Rattle.fare_best.proofs.StepLemmas.{EndsFrom, HasEntry, walk_whole, walk_further, ends_none, ends_more, ends_all, entries_more, entries_all, units_none, units_more, units_all, part_none, part_dear, part_behind, part_walked}

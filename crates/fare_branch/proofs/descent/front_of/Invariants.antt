@@ -1,5 +1,5 @@
 -- the parts so far go on within the trip
-use Rattle.fare_branch.specs.Floors.{IsMadeWith}
+use Rattle.fare_floors.specs.Floors.{IsMadeWith}
 use Rattle.fare_branch.proofs.descent.front_of.Given as goal
 
 abbrev pub invariant-loop-i : goal.invariant-loop-i

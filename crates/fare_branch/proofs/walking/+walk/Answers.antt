@@ -6,11 +6,11 @@ use Rattle.fare_rules.specs.Construction.{end_of}
 use Rattle.fare_units.specs.Walk.{Completes, GoesOn, IsPart, HasFare, next_start}
 use Rattle.fare_units.proofs.FrontLemmas.{front_falls}
 use Rattle.fare_component.specs.declared.table.entry.Entry.{Entry}
-use Rattle.fare_branch.specs.Floors.{HasNoCompletion, IsFloor, IsFloorAnswer}
+use Rattle.fare_floors.specs.Floors.{HasNoCompletion, IsFloor, IsFloorAnswer}
 use Rattle.fare_component.specs.Table.{entries_of}
 use Rattle.fare_branch.specs.Walked.{IsWalk, is_beaten}
 use Rattle.fare_branch.proofs.WalkedLemmas.{walk_fallen}
-use Rattle.fare_branch.proofs.AheadLemmas.{floor_of_entry}
+use Rattle.fare_floors.proofs.AheadLemmas.{floor_of_entry}
 use Rattle.fare_branch.proofs.StepLemmas.{EndsFrom, HasEntry, walk_whole, walk_further, ends_none, ends_more, ends_all, entries_more, entries_all, units_none, units_more, units_all, part_none, part_dear, part_beaten, part_walked}
 use Rattle.fare_branch.proofs.walking.+walk.Goals as goal
 

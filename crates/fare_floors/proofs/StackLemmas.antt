@@ -1,0 +1,145 @@
+-- What the parts behind the first parts of a lawful construction cost is no less than what the units that go on say.
+use Rattle.std.proofs.Common.{◌≡◌, ℕ, zero, suc, ◌+◌, ◌-◌, ◌<◌, ◌≤◌, true, false, List, sym, subst, ◌∙◌, inl, inr, arith}
+use Rattle.std.specs.Prelude.{Option}
+use Rattle.std.proofs.lemmas.Bool.{cases_Bool, cases_lt}
+use Rattle.fare_trip.specs.Itinerary.{Itinerary, count}
+use Rattle.fare_tariff.specs.Tariff.{Tariff}
+use Rattle.fare_rules.specs.declared.part.Part.{Part}
+use Rattle.fare_rules.specs.Construction.{start_of, end_of, own, first_of, last_of}
+use Rattle.fare_homing.specs.declared.ceiling.Ceiling.{Ceiling}
+use Rattle.fare_homing.specs.Homing.{IsUpTo, homing_at, is_same_city}
+use Rattle.fare_homing.specs.HomingRows.{AreHomings}
+use Rattle.fare_floors.specs.Costs.{true_cost}
+use Rattle.fare_floors.specs.Stack.{goes_on, stand_of, IsOver, LastsBy}
+use Rattle.fare_homing.proofs.ReachLemmas.{up_more}
+use Rattle.fare_homing.proofs.UnderLemmas.{nested_closes_under, nested_jaw_under, onward_under}
+
+true_false : true ≡ false → ⊥
+true_false e = cc
+
+-- where a unit begins, and where it comes home
+abbrev pub begins_at : Itinerary → List Part → ℕ → ℕ
+begins_at trip parts unit = start_of trip parts (first_of (own parts unit))
+
+abbrev pub home_at : List Part → ℕ → ℕ
+home_at parts unit = end_of parts (last_of (own parts unit))
+
+-- the last part of a unit costs no more than more, and begins behind a point that lies before
+pub lasts_more : (tariff : Tariff) (trip : Itinerary) (parts : List Part) (k i j x y : ℕ) → i ≤ j → x ≤ y → LastsBy tariff trip parts k j x → LastsBy tariff trip parts k i y
+lasts_more tariff trip parts k i j x y low h last =
+    let begins : j ≤ start_of trip parts k = last.begins in
+    let costs : true_cost tariff trip parts k ≤ x = last.costs in
+    record { begins = omega arith; costs = omega arith }
+
+module _ (tariff : Tariff) (trip : Itinerary) (closing jaw : ℕ → ℕ → ℕ → Option ℕ) (left : ℕ → Option ℕ) (parts : List Part) where
+  abbrev pub Over : ℕ → ℕ → ℕ → ℕ → Type 0
+  Over k u i cost = IsOver tariff trip closing jaw left parts k u i cost
+
+  -- what is over is so with a greater cost
+  pub over_more : (k u i x y : ℕ) → x ≤ y → Over k u i x → Over k u i y
+  over_more k zero i x y h o = up_more x y (left i) h o
+  over_more k (suc u) i x y h o =
+      (λ t. let c = o.0 t in let s : c.0 + c.1 ≤ x = c.2 in (c.0, c.1, omega arith, c.3, c.4, c.5), λ f. over_more k u i x y h (o.1 f))
+
+  -- until a unit that goes on comes home, from where it stands
+  abbrev pub HomeFrom : ℕ → ℕ → ℕ → ℕ → Type 0
+  HomeFrom k unit i x = IsUpTo x (homing_at trip (closing (stand_of parts k unit)) (jaw (stand_of parts k unit)) (begins_at trip parts unit) i (home_at parts unit))
+
+  home_same : (k m unit i x : ℕ) → stand_of parts k unit ≡ stand_of parts m unit → HomeFrom k unit i x → HomeFrom m unit i x
+  home_same k m unit i x e up =
+      let P : ℕ → Type 0 = λ c. IsUpTo x (homing_at trip (closing c) (jaw c) (begins_at trip parts unit) i (home_at parts unit)) in
+      subst P e up
+
+  -- two places at which the same units go on, and stand at the same points
+  abbrev pub AreSame : ℕ → ℕ → ℕ → Type 0
+  AreSame k m u = (v : ℕ) → 1 ≤ v → v ≤ u → (goes_on parts k v ≡ goes_on parts m v) × (goes_on parts k v ≡ true → stand_of parts k v ≡ stand_of parts m v)
+
+  -- what is over is the same behind both
+  pub over_same : (k m u i x : ℕ) → AreSame k m u → Over k u i x → Over m u i x
+  over_same k m zero i x h o = o
+  over_same k m (suc u) i x h o =
+      let here = h (suc u) (omega arith) (omega arith) in
+      let e : goes_on parts k (suc u) ≡ goes_on parts m (suc u) = here.0 in (
+        λ t. let c = o.0 (e ∙ t) in (c.0, c.1, c.2, home_same k m (suc u) i c.0 (here.1 (e ∙ t)) c.3, over_same k m u (home_at parts (suc u)) c.1 (λ v low high. h v low (omega arith)) c.4, c.5),
+        λ f. over_same k m u i x (λ v low high. h v low (omega arith)) (o.1 (e ∙ f)),
+      )
+
+  -- units that don't go on drop out
+  pub over_down : (k u n i x : ℕ) → u ≤ n → ((v : ℕ) → u < v → v ≤ n → goes_on parts k v ≡ false) → Over k n i x → Over k u i x
+  over_down k u zero i x h none o =
+      let same : zero ≡ u = omega arith in
+      let P : ℕ → Type 0 = λ w. Over k w i x in
+      subst P same o
+  over_down k u (suc n) i x h none o =
+      elim (cases_lt u (suc n)) [
+        | inl less ↦ over_down k u n i x (omega arith) (λ v low high. none v low (omega arith)) (o.1 (none (suc n) less (omega arith)))
+        | inr past ↦
+            let same : suc n ≡ u = omega arith in
+            let P : ℕ → Type 0 = λ w. Over k w i x in
+            subst P same o
+      ]
+
+  -- and come in
+  pub over_up : (k u n i x : ℕ) → u ≤ n → ((v : ℕ) → u < v → v ≤ n → goes_on parts k v ≡ false) → Over k u i x → Over k n i x
+  over_up k u zero i x h none o =
+      let same : u ≡ zero = omega arith in
+      let P : ℕ → Type 0 = λ w. Over k w i x in
+      subst P same o
+  over_up k u (suc n) i x h none o =
+      elim (cases_lt u (suc n)) [
+        | inl less ↦
+            let f : goes_on parts k (suc n) ≡ false = none (suc n) less (omega arith) in
+            (λ t. absurd (true_false (sym t ∙ f)), λ g. over_up k u n i x (omega arith) (λ v low high. none v low (omega arith)) o)
+        | inr past ↦
+            let same : u ≡ suc n = omega arith in
+            let P : ℕ → Type 0 = λ w. Over k w i x in
+            subst P same o
+      ]
+
+  -- a unit that goes on, with what is behind its home
+  pub over_open : (k u i x y : ℕ) → goes_on parts k (suc u) ≡ true → HomeFrom k (suc u) i x → Over k u (home_at parts (suc u)) y → LastsBy tariff trip parts (last_of (own parts (suc u))) i x
+      → Over k (suc u) i (x + y)
+  over_open k u i x y t up o last = (λ s. (x, y, omega arith, up, o, last), λ f. absurd (true_false (sym t ∙ f)))
+
+  -- the same for a unit by its number
+  abbrev pub Opens : ℕ → ℕ → ℕ → ℕ → Type 0
+  Opens k unit i cost = (x : ℕ) × (y : ℕ) × (x + y ≤ cost) × HomeFrom k unit i x × Over k (unit - 1) (home_at parts unit) y × LastsBy tariff trip parts (last_of (own parts unit)) i x
+
+  pub opens : (k unit i cost : ℕ) → 1 ≤ unit → goes_on parts k unit ≡ true → Over k unit i cost → Opens k unit i cost
+  opens k zero i cost low t o = absurd (omega arith)
+  opens k (suc u) i cost low t o =
+      let c = o.0 t in
+      let e : u ≡ suc u - 1 = omega arith in
+      let P : ℕ → Type 0 = λ w. Over k w (home_at parts (suc u)) c.1 in
+      (c.0, c.1, c.2, c.3, subst P e c.4, c.5)
+
+  pub from_open : (k unit i x y : ℕ) → 1 ≤ unit → goes_on parts k unit ≡ true → HomeFrom k unit i x → Over k (unit - 1) (home_at parts unit) y → LastsBy tariff trip parts (last_of (own parts unit)) i x
+      → Over k unit i (x + y)
+  from_open k zero i x y low t up o last = absurd (omega arith)
+  from_open k (suc u) i x y low t up o last =
+      let e : suc u - 1 ≡ u = omega arith in
+      let P : ℕ → Type 0 = λ w. Over k w (home_at parts (suc u)) y in
+      over_open k u i x y t up (subst P e o) last
+
+module _ (tariff : Tariff) (trip : Itinerary) (ceiling : Option Ceiling) (closing jaw : ℕ → ℕ → ℕ → Option ℕ) (whole : ℕ → ℕ → Option ℕ) (left : ℕ → Option ℕ) (are : AreHomings tariff trip ceiling closing jaw whole left) where
+  -- a number for what is nested with one for what is behind it
+  nested : (c start i b j w x : ℕ) → c ≤ i → i < b → b < j → b ≤ count trip → IsUpTo w (whole i b) → IsUpTo x (homing_at trip (closing c) (jaw c) start b j) → IsUpTo (w + x) (homing_at trip (closing c) (jaw c) start i j)
+  nested c start i b j w x stands low less high up more =
+      elim (cases_Bool (is_same_city trip start j)) [
+        | inl t ↦ rw t (nested_closes_under are c i b j w x stands low less high up (rw t at more))
+        | inr f ↦ rw f (nested_jaw_under are c i b j w x stands low less high up (rw f at more))
+      ]
+
+  -- a whole unit stands before what is over the others, each of which comes home behind it and stands before it
+  pub step_over : (parts : List Part) (k n i b w x : ℕ) → i < b → b ≤ count trip → IsUpTo w (whole i b)
+      → ((v : ℕ) → 1 ≤ v → v ≤ n → goes_on parts k v ≡ true → (b < home_at parts v) × (stand_of parts k v ≤ i))
+      → IsOver tariff trip closing jaw left parts k n b x → IsOver tariff trip closing jaw left parts k n i (w + x)
+  step_over parts k zero i b w x low high up homes o = onward_under are i b w x low high up o
+  step_over parts k (suc u) i b w x low high up homes o = (
+    λ t.
+        let c = o.0 t in
+        let s : c.0 + c.1 ≤ x = c.2 in
+        let h = homes (suc u) (omega arith) (omega arith) t in
+        (w + c.0, c.1, omega arith, nested (stand_of parts k (suc u)) (begins_at trip parts (suc u)) i b (home_at parts (suc u)) w c.0 h.1 low h.0 high up c.3, c.4, lasts_more tariff trip parts (last_of (own parts (suc u))) i b c.0 (w + c.0) (omega arith) (omega arith) c.5),
+    λ f. step_over parts k u i b w x low high up (λ v one most. homes v one (omega arith)) (o.1 f),
+  )

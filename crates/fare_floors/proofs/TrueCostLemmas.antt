@@ -1,0 +1,219 @@
+-- What the parts of a lawful construction cost in its units, by the entries of their spans.
+use Rattle.std.proofs.Common.{◌≡◌, ℕ, ◌+◌, ◌-◌, ◌<◌, ◌≤◌, Bool, true, false, ◌&&◌, ◌||◌, not, eqb, List, [], length, refl, ap, sym, subst, ◌∙◌, inl, inr, arith}
+use Rattle.std.specs.Prelude.{Option, Some, None, is_some, sum_by, bytes_eq, Contains}
+use Rattle.std.proofs.lemmas.Bool.{cases_Bool, eq-eqb, ne_eqb}
+use Rattle.std.proofs.lemmas.List.Sums.{sum_by-cons}
+use Rattle.std.proofs.lemmas.Slice.Eq.{bytes_eq-Decides}
+use Rattle.fare_codes.specs.declared.city.City.{City}
+use Rattle.fare_codes.specs.declared.country.Country.{Country}
+use Rattle.fare_codes.specs.declared.kind.Kind.TheVariants.{OW}
+use Rattle.fare_codes.specs.Same.{same_kind}
+use Rattle.fare_trip.specs.Itinerary.{Itinerary, point}
+use Rattle.fare_tariff.specs.Tariff.{Tariff}
+use Rattle.fare_rules.specs.declared.amount.Amount.{Amount}
+use Rattle.fare_rules.specs.declared.part.Part.{Part}
+use Rattle.fare_rules.specs.Indicator.{country}
+use Rattle.fare_rules.specs.Construction.{start_of, end_of, part_at, places, own, is_own, unit_of, first_of, last_of, greatest_unit, start_city, end_city}
+use Rattle.fare_rules.specs.ComponentAmount.{component_amount}
+use Rattle.fare_rules.specs.Shape.{is_ow, holds_ow, is_hr, is_same_country, lie_together}
+use Rattle.fare_rules.specs.Direction.{is_back, is_back_in}
+use Rattle.fare_rules.specs.UnitPrice.{unit_price, unit_sheet, unit_sum, unit_minimum, unit_kind, part_amount, part_cost, at_least}
+use Rattle.fare_rules.specs.Best.{IsLawful}
+use Rattle.fare_rules.proofs.NumberLemmas.{any_kept_none}
+use Rattle.fare_rules.proofs.LawfulLemmas.{kept}
+use Rattle.fare_rules.proofs.AmountLemmas.{fare_is_filed, amount_of_lawful}
+use Rattle.fare_rules.proofs.OneWayLemmas.{one_way_unit}
+use Rattle.fare_rules.proofs.MemberLemmas.{Member}
+use Rattle.fare_component.specs.declared.table.entry.Entry.{Entry}
+use Rattle.fare_component.specs.Table.{entry_of, entries_of, has_amount, single_price}
+use Rattle.fare_component.proofs.LawLemmas.{amount_is_entry}
+use Rattle.fare_floors.specs.Costs.{or_nothing, part_least}
+use Rattle.fare_homing.specs.Homing.{first_cost, between_cost, back_cost, heads_to}
+use Rattle.fare_floors.proofs.CostLemmas.{not_half, half, at_least_up, one_way_least, half_part, member_place}
+use Rattle.fare_floors.proofs.UnitLemmas.{all, own_has, alone_in, holds_none, single_there, single_not}
+use Rattle.fare_floors.specs.Costs.{true_cost}
+use Rattle.fare_floors.proofs.SumLemmas.{sum_up_members, kept_member}
+
+true_false : true ≡ false → ⊥
+true_false e = cc
+
+-- no place heads home from the very city
+same_country_self : (x y : Option Country) → (is_same_country x y && not (is_same_country y y)) ≡ false
+same_country_self None y = refl
+same_country_self (Some a) None = refl
+same_country_self (Some a) (Some b) =
+    let same : bytes_eq b b ≡ true = (bytes_eq-Decides b b).1 refl in
+    elim (cases_Bool (bytes_eq a b)) [ inl t ↦ rw (t, same) refl | inr f ↦ rw f refl ]
+
+none_heads_home : (tariff : Tariff) (a b : City) → (lie_together tariff a b && not (lie_together tariff b b)) ≡ false
+none_heads_home tariff a b = same_country_self (country tariff a) (country tariff b)
+
+-- an amount in a direction is one of the entry
+priced_either : (out back : Option Amount) (direction : Bool) (amount : Amount) → (direction ≡ false → out ≡ Some amount) → (direction ≡ true → back ≡ Some amount) → (is_some out || is_some back) ≡ true
+priced_either out back false amount o b = rw (o refl) refl
+priced_either None back true amount o b = rw (b refl) refl
+priced_either (Some x) back true amount o b = refl
+
+module _ (tariff : Tariff) (trip : Itinerary) (parts : List Part) (price : ℕ) (lawful : IsLawful tariff trip parts price) where
+  -- the entry of a part
+  abbrev pub entry : ℕ → Entry
+  entry k = entry_of tariff trip (start_of trip parts k) (end_of parts k) (part_at parts k).fare
+
+  -- what a half round trip costs is an amount in its direction
+  abbrev Priced : ℕ → Amount → Type 0
+  Priced k amount = component_amount tariff trip (start_of trip parts k) (end_of parts k) (part_at parts k).fare (is_back tariff trip parts k) ≡ Some amount
+
+  in_direction : (k : ℕ) (amount : Amount) → Priced k amount → (direction : Bool) → is_back tariff trip parts k ≡ direction → component_amount tariff trip (start_of trip parts k) (end_of parts k) (part_at parts k).fare direction ≡ Some amount
+  in_direction k amount e direction same =
+      let P : Bool → Type 0 = λ b. component_amount tariff trip (start_of trip parts k) (end_of parts k) (part_at parts k).fare b ≡ Some amount in
+      subst P same e
+
+  pub entry_there : (k : ℕ) → 1 ≤ k → k ≤ length parts → Contains (entries_of tariff trip (start_of trip parts k) (end_of parts k)) (entry k)
+  entry_there k low high =
+      let found = amount_of_lawful tariff trip parts price k lawful low high in
+      let cover = all tariff trip parts price lawful in
+      let some : has_amount (entry k) ≡ true =
+      priced_either (component_amount tariff trip (start_of trip parts k) (end_of parts k) (part_at parts k).fare false) (component_amount tariff trip (start_of trip parts k) (end_of parts k) (part_at parts k).fare true) (is_back tariff trip parts k) found.0
+      (in_direction k found.0 found.1 false) (in_direction k found.0 found.1 true) in
+      amount_is_entry tariff trip (start_of trip parts k) (end_of parts k) (part_at parts k).fare (cover.above k low high) (cover.within k low high) some
+
+  one_way_true : (k : ℕ) → is_ow tariff parts k ≡ true → true_cost tariff trip parts k ≡ unit_price tariff trip parts (unit_of parts k)
+  one_way_true k way = rw way refl
+
+  half_true : (k : ℕ) → is_ow tariff parts k ≡ false → true_cost tariff trip parts k ≡ part_cost tariff trip parts (own parts (unit_of parts k)) k
+  half_true k way = rw way refl
+
+  -- a one way fare costs its price alone
+  pub alone_cost : (k : ℕ) → 1 ≤ k → k ≤ length parts → is_ow tariff parts k ≡ true → single_price tariff trip (start_of trip parts k) (end_of parts k) (part_at parts k).fare ≡ Some (true_cost tariff trip parts k)
+  alone_cost k low high way =
+      let filed = fare_is_filed tariff trip parts (kept tariff trip parts price lawful) k low high in
+      let kind : same_kind filed.0.kind OW ≡ true = rw filed.1 at way in
+      single_there tariff trip (start_of trip parts k) (end_of parts k) (part_at parts k).fare filed.0 filed.1 (unit_price tariff trip parts (unit_of parts k)) (not_half filed.0.kind kind) (one_way_unit tariff trip parts price k lawful low high way)
+      ∙ ap Some (sym (one_way_true k way))
+
+  pub no_single : (k : ℕ) → 1 ≤ k → k ≤ length parts → is_ow tariff parts k ≡ false → single_price tariff trip (start_of trip parts k) (end_of parts k) (part_at parts k).fare ≡ None
+  no_single k low high way =
+      let filed = fare_is_filed tariff trip parts (kept tariff trip parts price lawful) k low high in
+      let kind : same_kind filed.0.kind OW ≡ false = rw filed.1 at way in
+      single_not tariff trip (start_of trip parts k) (end_of parts k) (part_at parts k).fare filed.0 filed.1 (half filed.0.kind kind)
+
+  -- a half round trip costs its amount
+  half_amount : (k : ℕ) → 1 ≤ k → k ≤ length parts → is_ow tariff parts k ≡ false → (amount : Amount) × Priced k amount × (true_cost tariff trip parts k ≡ amount.amount)
+  unfolding part_amount
+  half_amount k low high way =
+      let found = amount_of_lawful tariff trip parts price k lawful low high in
+      (found.0, found.1, rw (way, found.1) refl)
+
+  -- the first part of a unit is priced out where others follow
+  first_is_out : (k : ℕ) → first_of (own parts (unit_of parts k)) ≡ k → k < last_of (own parts (unit_of parts k)) → is_back tariff trip parts k ≡ false
+  unfolding is_back_in
+  first_is_out k first less =
+      let other : eqb k (last_of (own parts (unit_of parts k))) ≡ false = ne_eqb k (last_of (own parts (unit_of parts k))) (λ same. omega arith) in
+      let P : ℕ → Type 0 = λ j. (lie_together tariff (end_city trip parts k) (start_city trip parts j) && not (lie_together tariff (start_city trip parts k) (start_city trip parts j))) ≡ false in
+      let heads : (lie_together tariff (end_city trip parts k) (start_city trip parts (first_of (own parts (unit_of parts k)))) && not (lie_together tariff (start_city trip parts k) (start_city trip parts (first_of (own parts (unit_of parts k)))))) ≡ false =
+      subst P (sym first) (none_heads_home tariff (end_city trip parts k) (start_city trip parts k)) in
+      both (is_hr tariff parts (own parts (unit_of parts k))) (eqb k (last_of (own parts (unit_of parts k)))) (lie_together tariff (end_city trip parts k) (start_city trip parts (first_of (own parts (unit_of parts k)))) && not (lie_together tariff (start_city trip parts k) (start_city trip parts (first_of (own parts (unit_of parts k)))))) other heads
+    where
+      both : (a b c : Bool) → b ≡ false → c ≡ false → (a && (b || c)) ≡ false
+      both true b c x y = rw (x, y) refl
+      both false b c x y = refl
+
+  -- and its last one back
+  last_is_back : (k : ℕ) → 1 ≤ k → k ≤ length parts → is_ow tariff parts k ≡ false → last_of (own parts (unit_of parts k)) ≡ k → is_back tariff trip parts k ≡ true
+  unfolding is_back_in is_hr
+  last_is_back k low high way last =
+      let none : holds_ow tariff parts (own parts (unit_of parts k)) ≡ false = holds_none tariff trip parts price lawful k low high way in
+      let here : eqb k (last_of (own parts (unit_of parts k))) ≡ true = eq-eqb k (last_of (own parts (unit_of parts k))) (sym last) in
+      rw (none, here) refl
+
+  pub first_costs : (k : ℕ) → 1 ≤ k → k ≤ length parts → is_ow tariff parts k ≡ false → first_of (own parts (unit_of parts k)) ≡ k → k < last_of (own parts (unit_of parts k)) → first_cost (entry k) ≡ Some (true_cost tariff trip parts k)
+  first_costs k low high way first less =
+      let found = half_amount k low high way in
+      let out : component_amount tariff trip (start_of trip parts k) (end_of parts k) (part_at parts k).fare false ≡ Some found.0 = in_direction k found.0 found.1 false (first_is_out k first less) in
+      let cost : first_cost (entry k) ≡ Some found.0.amount = rw (no_single k low high way, out) refl in
+      cost ∙ ap Some (sym found.2)
+
+  pub back_costs : (k : ℕ) → 1 ≤ k → k ≤ length parts → is_ow tariff parts k ≡ false → last_of (own parts (unit_of parts k)) ≡ k → back_cost (entry k) ≡ Some (true_cost tariff trip parts k)
+  back_costs k low high way last =
+      let found = half_amount k low high way in
+      let back : component_amount tariff trip (start_of trip parts k) (end_of parts k) (part_at parts k).fare true ≡ Some found.0 = in_direction k found.0 found.1 true (last_is_back k low high way last) in
+      let cost : back_cost (entry k) ≡ Some found.0.amount = rw (no_single k low high way, back) refl in
+      cost ∙ ap Some (sym found.2)
+
+  -- a part between them is priced back where it comes into the country of the city where its unit closes
+  between_is_back : (k : ℕ) → 1 ≤ k → k ≤ length parts → is_ow tariff parts k ≡ false → k < last_of (own parts (unit_of parts k))
+      → (home : ℕ) → point trip home ≡ start_city trip parts (first_of (own parts (unit_of parts k))) → is_back tariff trip parts k ≡ heads_to tariff trip (start_of trip parts k) (end_of parts k) home
+  unfolding is_back_in is_hr
+  between_is_back k low high way less home city =
+      let none : holds_ow tariff parts (own parts (unit_of parts k)) ≡ false = holds_none tariff trip parts price lawful k low high way in
+      let other : eqb k (last_of (own parts (unit_of parts k))) ≡ false = ne_eqb k (last_of (own parts (unit_of parts k))) (λ same. omega arith) in
+      rw (none, other, city) refl
+
+  pub between_costs : (k : ℕ) → 1 ≤ k → k ≤ length parts → is_ow tariff parts k ≡ false → k < last_of (own parts (unit_of parts k))
+      → (home : ℕ) → point trip home ≡ start_city trip parts (first_of (own parts (unit_of parts k)))
+      → between_cost (heads_to tariff trip (start_of trip parts k) (end_of parts k) home) (entry k) ≡ Some (true_cost tariff trip parts k)
+  between_costs k low high way less home city =
+      let found = half_amount k low high way in
+      by_direction (heads_to tariff trip (start_of trip parts k) (end_of parts k) home) (between_is_back k low high way less home city) ∙ ap Some (sym found.2)
+    where
+      by_direction : (heads : Bool) → is_back tariff trip parts k ≡ heads → between_cost heads (entry k) ≡ Some (half_amount k low high way).0.amount
+      by_direction true e =
+          let found = half_amount k low high way in
+          let back : component_amount tariff trip (start_of trip parts k) (end_of parts k) (part_at parts k).fare true ≡ Some found.0 = in_direction k found.0 found.1 true e in
+          rw (no_single k low high way, back) refl
+      by_direction false e =
+          let found = half_amount k low high way in
+          let out : component_amount tariff trip (start_of trip parts k) (end_of parts k) (part_at parts k).fare false ≡ Some found.0 = in_direction k found.0 found.1 false e in
+          rw (no_single k low high way, out) refl
+
+  -- a part costs at least what its fare does
+  pub true_least : (k : ℕ) → 1 ≤ k → k ≤ length parts → part_least tariff trip parts k ≤ true_cost tariff trip parts k
+  true_least k low high =
+      elim (cases_Bool (is_ow tariff parts k)) [
+        | inl t ↦
+            let least : part_least tariff trip parts k ≡ unit_price tariff trip parts (unit_of parts k) = ap or_nothing (one_way_least tariff trip parts price lawful k low high t) in
+            let cost : true_cost tariff trip parts k ≡ unit_price tariff trip parts (unit_of parts k) = one_way_true k t in
+            omega arith
+        | inr f ↦
+            let none : holds_ow tariff parts (own parts (unit_of parts k)) ≡ false = holds_none tariff trip parts price lawful k low high f in
+            let least : part_least tariff trip parts k ≤ part_cost tariff trip parts (own parts (unit_of parts k)) k = half_part tariff trip parts price lawful (unit_of parts k) k none (own_has tariff trip parts price lawful k low high) in
+            let cost : true_cost tariff trip parts k ≡ part_cost tariff trip parts (own parts (unit_of parts k)) k = half_true k f in
+            omega arith
+      ]
+
+  -- a part of a unit of half round trips costs there what it does in the unit
+  half_mine : (unit k : ℕ) → holds_ow tariff parts (own parts unit) ≡ false → Member k (own parts unit) → true_cost tariff trip parts k ≡ part_cost tariff trip parts (own parts unit) k
+  unfolding own
+  half_mine unit k none m =
+      let place = member_place tariff trip parts price lawful unit k m in
+      let high : k ≤ length parts = place.1 in
+      let one : is_ow tariff parts k ≡ false = any_kept_none (is_own parts unit) (is_ow tariff parts) 1 (length parts + 1) none k place.0 (omega arith) (kept_member (is_own parts unit) 1 (length parts + 1 - 1) k m).2 in
+      half_true k one ∙ ap (λ u. part_cost tariff trip parts (own parts u) k) place.2
+
+  half_up : (unit : ℕ) → holds_ow tariff parts (own parts unit) ≡ false → sum_by (true_cost tariff trip parts) (own parts unit) ≤ unit_price tariff trip parts unit
+  unfolding unit_sheet unit_sum
+  half_up unit none =
+      let sum : sum_by (true_cost tariff trip parts) (own parts unit) ≤ sum_by (part_cost tariff trip parts (own parts unit)) (own parts unit) =
+      sum_up_members (true_cost tariff trip parts) (part_cost tariff trip parts (own parts unit)) (own parts unit) (λ k m. up_to k (half_mine unit k none m)) in
+      let up : sum_by (part_cost tariff trip parts (own parts unit)) (own parts unit) ≤ at_least (sum_by (part_cost tariff trip parts (own parts unit)) (own parts unit)) (unit_minimum tariff trip parts (own parts unit) (unit_kind tariff trip parts (own parts unit))) = at_least_up (sum_by (part_cost tariff trip parts (own parts unit)) (own parts unit)) (unit_minimum tariff trip parts (own parts unit) (unit_kind tariff trip parts (own parts unit))) in
+      omega arith
+    where
+      up_to : (k : ℕ) → true_cost tariff trip parts k ≡ part_cost tariff trip parts (own parts unit) k → true_cost tariff trip parts k ≤ part_cost tariff trip parts (own parts unit) k
+      up_to k e = omega arith
+
+  alone_up : (unit : ℕ) → 1 ≤ unit → unit ≤ greatest_unit parts (places parts) → holds_ow tariff parts (own parts unit) ≡ true → sum_by (true_cost tariff trip parts) (own parts unit) ≡ unit_price tariff trip parts unit
+  alone_up unit low high way =
+      let one = alone_in tariff trip parts price lawful unit low high way in
+      let member : Member one.0 (own parts unit) = subst (Member one.0) (sym one.1) (inl refl) in
+      let place = member_place tariff trip parts price lawful unit one.0 member in
+      let sum : sum_by (true_cost tariff trip parts) (own parts unit) ≡ true_cost tariff trip parts one.0 + sum_by (true_cost tariff trip parts) [] = ap (sum_by (true_cost tariff trip parts)) one.1 ∙ sum_by-cons (true_cost tariff trip parts) one.0 [] in
+      let whole : true_cost tariff trip parts one.0 + sum_by (true_cost tariff trip parts) [] ≡ true_cost tariff trip parts one.0 = omega arith in
+      sum ∙ whole ∙ one_way_true one.0 one.2 ∙ ap (unit_price tariff trip parts) place.2
+
+  -- a unit costs no less than its parts do
+  pub true_up : (unit : ℕ) → 1 ≤ unit → unit ≤ greatest_unit parts (places parts) → sum_by (true_cost tariff trip parts) (own parts unit) ≤ unit_price tariff trip parts unit
+  true_up unit low high =
+      elim (cases_Bool (holds_ow tariff parts (own parts unit))) [
+        | inl t ↦ let same : sum_by (true_cost tariff trip parts) (own parts unit) ≡ unit_price tariff trip parts unit = alone_up unit low high t in omega arith
+        | inr f ↦ half_up unit f
+      ]

@@ -1,0 +1,13 @@
+pub use Rattle.fare_rules.specs.Completion
+pub use Rattle.fare_units.specs.Walk
+pub use Rattle.fare_component.specs.Table
+pub use Rattle.fare_bounds.specs.Covers
+pub use Rattle.fare_homing.specs.Homing
+pub mod Floors
+pub mod Ending
+pub mod Refusals
+pub mod Joining
+pub mod Costs
+pub mod LastParts
+pub mod Stack
+pub mod Ahead

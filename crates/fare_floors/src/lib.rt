@@ -1,0 +1,35 @@
+//! What first parts of a construction cost at least with all that may follow, and which first parts are not gone on
+//! from. No call takes memory.
+//!
+//! - `ending`: whether a unit of first parts may end as it stands;
+//! - `refusals`: why some first parts are not gone on from;
+//! - `partial`: first parts of constructions, part by part;
+//! - `joining`: whether a part may come to a unit of first parts again;
+//! - `costs`: what parts cost at least;
+//! - `floors`: what first parts cost at least, with all that may follow;
+//! - `lasting`: what the last part of a unit that goes on costs at least;
+//! - `stacking`: what is behind each point at least over the units of first parts, since what begins must end;
+//! - `stack`: what is known of first parts by their units: what each costs at least, what is behind, and a floor;
+//! - `ahead`: what is behind the part that comes next at least;
+//! - `stage`: where a search stands: first parts with what is ahead of them.
+//!
+//! Each of these stands on those above it.
+#![tactic(auto)]
+
+mod ahead;
+mod costs;
+mod ending;
+mod floors;
+mod joining;
+mod lasting;
+mod partial;
+mod refusals;
+mod stack;
+mod stacking;
+mod stage;
+
+pub use ahead::{Ahead, ahead_of, floor_ahead, floor_with};
+pub use floors::floor_of;
+pub use partial::Partial;
+pub use stack::{Stack, stack_after, stack_of};
+pub use stage::Stage;
