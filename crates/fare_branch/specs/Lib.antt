@@ -9,3 +9,4 @@ pub mod Walked
 pub mod Search
 pub mod Dive
 pub mod LeastPrice
+pub mod Opening

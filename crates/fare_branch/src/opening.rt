@@ -2,7 +2,9 @@
 //! it, where it is far above what all costs at least. Such a price is one that a circle minimum has raised.
 
 ghost use Rattle.std.specs.Prelude.{◌≡◌, ◌≤◌, ◌<◌, None};
+ghost use Rattle.fare_bounds.specs.Covers.{rest_at};
 ghost use Rattle.fare_branch.specs.Dive.{IsDived};
+ghost use Rattle.fare_branch.specs.Opening.{is_far};
 ghost use Rattle.fare_branch.specs.Walked.{IsUnderAll};
 ghost use Rattle.fare_homing.specs.Rows.{AreHomingsOf};
 
@@ -11,10 +13,7 @@ use crate::descent::dive;
 use crate::pieces::Piece;
 use crate::walking::{Found, keep};
 use fare_component::Table;
-use fare_homing::{Homing, homing_of};
-
-/// How many times what all costs at least a price is from which a ceiling is worth its time.
-const FAR: u64 = 2;
+use fare_homing::{Homing, homing_of, number_at};
 
 /// Under how many ceilings a search dives.
 const MOST_CEILINGS: u32 = 4;
@@ -38,12 +37,14 @@ fn try_dive<B: Bound>(
     }
 }
 
-/// Whether a price is so far above what all costs at least that a ceiling is worth its time: a circle minimum may have
-/// raised it.
-pub fn is_far(homing: &Homing, price: u64) -> bool {
-    match homing.rest[0].amount() {
+/// Whether a price is twice what all costs at least, or more, so that a ceiling is worth its time: a circle minimum may
+/// have raised it.
+pub fn is_far(homing: &Homing, price: u64) -> bool
+    ensures { result ≡ is_far price (rest_at homing.now.rest 0) }
+{
+    match number_at(&homing.rest, 0).amount() {
         None => false,
-        Some(floor) => price != NO_PRICE && price / FAR >= floor,
+        Some(floor) => price != NO_PRICE && floor.saturating_add(floor) <= price,
     }
 }
 

@@ -13,7 +13,7 @@ use Rattle.fare_rules.specs.Span.{first_day}
 use Rattle.fare_component.specs.declared.table.entry.Entry.{Entry}
 use Rattle.fare_homing.specs.declared.ceiling.Ceiling.{Ceiling}
 
--- each sector of a trip has one indicator
+-- each sector of a trip has this one indicator
 abbrev pub HasOneIndicator : Tariff → Itinerary → Indicator → Type 0
 HasOneIndicator tariff trip ind = (i : ℕ) → i < count trip → indicator tariff trip i (i + 1) ≡ ind
 
