@@ -5,7 +5,7 @@ ghost use Rattle.std.specs.Prelude.{◌≡◌};
 use crate::counter_front::CounterFront;
 use crate::reasoner::Reasoner;
 use crate::routes::CounterRoutes;
-use fare_desk::Desk;
+use fare_desk::{Desk, RequestParts};
 use fare_http::{Handler, Reply};
 use fare_outside::{Keeper, NoMemory};
 use fare_units::Quoter;
@@ -86,7 +86,10 @@ impl<'k, P: Keeper, Q: Reasoner + Drop> Handler for Counter<'k, P, Q> {
     ) -> Result<Reply, NoMemory> {
         match self.routes.find(path) {
             None => self.desk.answer(rt, alloc, method, path, body),
-            Some(route) => self.front().own_reply(rt, alloc, route, method, path, body),
+            Some(route) => {
+                let request = RequestParts { method, path, body };
+                self.front().own_reply(rt, alloc, route, &request)
+            }
         }
     }
 }

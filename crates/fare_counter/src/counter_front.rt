@@ -1,6 +1,7 @@
 //! The front of a counter: what is answered without a change.
 
 ghost use Rattle.std.specs.Prelude.{IfOk};
+ghost use Rattle.fare_desk.specs.Replies.{form_of};
 ghost use Rattle.fare_counter.specs.Counter.{IsCounterAnswer, IsOwnReply, IsReplyAt};
 
 use crate::audit_replies::audit_reply;
@@ -9,8 +10,8 @@ use crate::reasoner::Reasoner;
 use crate::routes::{CounterRoute, CounterRoutes};
 use crate::tariff_replies::{check_reply, diff_reply};
 use crate::why_replies::why_reply;
-use fare_desk::{DeskFront, form_of, is_method, method_reply};
-use fare_http::{Form, Front, Reply};
+use fare_desk::{DeskFront, RequestParts, form_of, is_method, method_reply};
+use fare_http::{Front, Reply};
 use fare_outside::NoMemory;
 use http::Method;
 use std::alloc::Global;
@@ -33,18 +34,15 @@ impl<Q: Reasoner> CounterFront<'_, Q> {
         rt: &R,
         alloc: Global,
         route: CounterRoute,
-        method: &Method,
-        path: &str,
-        body: &[u8],
+        request: &RequestParts<'_>,
     ) -> Result<Reply, NoMemory>
-        ensures { IfOk result
-            (IsOwnReply self.now.desk.book.now.editions route method.now path.now body.now) }
+        ensures { IfOk result (IsOwnReply self.now.desk.book.now.editions route
+            request.now.method.now request.now.path.now request.now.body.now) }
     {
-        let form = form_of(path);
-        if is_method(method, route.method()) {
-            return self.reply_at(rt, alloc, form, route, path, body);
+        if is_method(request.method, route.method()) {
+            return self.reply_at(rt, alloc, route, request);
         }
-        method_reply(alloc, form, route.method())
+        method_reply(alloc, form_of(request.path), route.method())
     }
 
     /// The reply of a route that is asked by its method.
@@ -52,21 +50,20 @@ impl<Q: Reasoner> CounterFront<'_, Q> {
         &self,
         rt: &R,
         alloc: Global,
-        form: Form,
         route: CounterRoute,
-        path: &str,
-        body: &[u8],
+        request: &RequestParts<'_>,
     ) -> Result<Reply, NoMemory>
-        ensures { IfOk result
-            (IsReplyAt form self.now.desk.book.now.editions route path.now body.now) }
+        ensures { IfOk result (IsReplyAt (form_of request.now.path.now) self.now.desk.book.now.editions route
+            request.now.path.now request.now.body.now) }
     {
+        let form = form_of(request.path);
         let book = self.desk.book;
         match route {
-            CounterRoute::Best => best_reply(alloc, form, book, path, body),
-            CounterRoute::Audit => audit_reply(rt, alloc, &self.desk.clerk(form), body),
-            CounterRoute::Why => why_reply(rt, alloc, &self.desk.clerk(form), body),
-            CounterRoute::Check => check_reply(rt, alloc, body),
-            CounterRoute::Diff => diff_reply(alloc, book, path),
+            CounterRoute::Best => best_reply(alloc, form, book, request.path, request.body),
+            CounterRoute::Audit => audit_reply(rt, alloc, &self.desk.clerk(form), request.body),
+            CounterRoute::Why => why_reply(rt, alloc, &self.desk.clerk(form), request.body),
+            CounterRoute::Check => check_reply(rt, alloc, request.body),
+            CounterRoute::Diff => diff_reply(alloc, book, request.path),
         }
     }
 }
@@ -85,7 +82,10 @@ impl<Q: Reasoner + Sync> Front for CounterFront<'_, Q> {
     ) -> Result<Reply, NoMemory> {
         match self.routes.find(path) {
             None => self.desk.view(rt, alloc, method, path, body),
-            Some(route) => self.own_reply(rt, alloc, route, method, path, body),
+            Some(route) => {
+                let request = RequestParts { method, path, body };
+                self.own_reply(rt, alloc, route, &request)
+            }
         }
     }
 }

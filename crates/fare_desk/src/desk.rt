@@ -5,6 +5,7 @@ ghost use Rattle.std.specs.Prelude.{◌≡◌, IsTrue};
 use crate::front::DeskFront;
 use crate::publishing::{MOST_WORDS, publication_reply};
 use crate::replies::is_method;
+use crate::request_parts::RequestParts;
 use crate::routes::{Route, Routes};
 use fare_book::Book;
 use fare_http::{Handler, Reply};
@@ -152,6 +153,7 @@ impl<'k, P: Keeper, Q: Quoter + Drop> Handler for Desk<'k, P, Q> {
         if route == Some(Route::Editions) && is_method(method, OneMethod::Post) {
             return self.publish(rt, alloc, body);
         }
-        self.front().reply(rt, alloc, route, method, path, body)
+        let request = RequestParts { method, path, body };
+        self.front().reply(rt, alloc, route, &request)
     }
 }

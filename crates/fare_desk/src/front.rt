@@ -9,6 +9,7 @@ use crate::clerk::Clerk;
 use crate::editions::{edition_reply, list_reply};
 use crate::one_by_one::OneByOne;
 use crate::replies::{form_of, is_method, method_reply, no_route_reply};
+use crate::request_parts::RequestParts;
 use crate::routes::{Route, Routes};
 use fare_book::Book;
 use fare_http::{Form, Front, Reply};
@@ -46,18 +47,16 @@ impl<Q: Quoter> DeskFront<'_, Q> {
         rt: &R,
         alloc: Global,
         route: Option<Route>,
-        method: &Method,
-        path: &str,
-        body: &[u8],
+        request: &RequestParts<'_>,
     ) -> Result<Reply, NoMemory>
-        ensures { IfOk result
-            (IsRouteReply (form_of path.now) self.now.book.now.editions route method.now path.now body.now) }
+        ensures { IfOk result (IsRouteReply (form_of request.now.path.now) self.now.book.now.editions route
+            request.now.method.now request.now.path.now request.now.body.now) }
     {
-        let form = form_of(path);
+        let form = form_of(request.path);
         match route {
             None => no_route_reply(alloc, form),
-            Some(route) if is_method(method, route.method()) => {
-                self.reply_at(rt, alloc, form, route, path, body)
+            Some(route) if is_method(request.method, route.method()) => {
+                self.reply_at(rt, alloc, route, request)
             }
             Some(route) => method_reply(alloc, form, route.method()),
         }
@@ -68,20 +67,20 @@ impl<Q: Quoter> DeskFront<'_, Q> {
         &self,
         rt: &R,
         alloc: Global,
-        form: Form,
         route: Route,
-        path: &str,
-        body: &[u8],
+        request: &RequestParts<'_>,
     ) -> Result<Reply, NoMemory>
-        ensures { IfOk result (IsReplyAt form self.now.book.now.editions route path.now body.now) }
+        ensures { IfOk result (IsReplyAt (form_of request.now.path.now) self.now.book.now.editions route
+            request.now.path.now request.now.body.now) }
     {
+        let form = form_of(request.path);
         match route {
             Route::Editions | Route::Listing => list_reply(alloc, form, self.book),
-            Route::Edition => edition_reply(alloc, self.book, path),
-            Route::Quote => self.clerk(form).quote_reply(rt, alloc, body),
+            Route::Edition => edition_reply(alloc, self.book, request.path),
+            Route::Quote => self.clerk(form).quote_reply(rt, alloc, request.body),
             Route::Batch => {
                 let (book, quoter) = (self.book, self.quoter);
-                batch_reply(rt, alloc, form, &OneByOne { book, quoter }, body)
+                batch_reply(rt, alloc, form, &OneByOne { book, quoter }, request.body)
             }
         }
     }
@@ -98,6 +97,7 @@ impl<Q: Quoter + Sync> Front for DeskFront<'_, Q> {
         path: &str,
         body: &[u8],
     ) -> Result<Reply, NoMemory> {
-        self.reply(rt, alloc, self.routes.find(path), method, path, body)
+        let request = RequestParts { method, path, body };
+        self.reply(rt, alloc, self.routes.find(path), &request)
     }
 }

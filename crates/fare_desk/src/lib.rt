@@ -2,7 +2,8 @@
 //! requests are defined in `specs/` (`Routes`), and so is what is answered without a change (`Viewing`, by `Quoting`
 //! and `Batching`), and what a desk does (`Publishing`). The texts are those of `fare_answers` and `fare_json`.
 //!
-//! - `routes`: the routes of requests; `replies`: the forms of replies, and refusals;
+//! - `routes`: the routes of requests; `request_parts`: what a request says; `replies`: the forms of replies, and
+//!   refusals;
 //! - `editions`: the replies that show editions; `clerk`: what answers itineraries in one form;
 //! - `batch`, `batch_body`: the reply to a batch of them;
 //! - `batcher`: what answers the items of a batch; `one_by_one`, `side_by_side`: the two that there are;
@@ -20,6 +21,7 @@ mod front;
 mod one_by_one;
 mod publishing;
 mod replies;
+mod request_parts;
 mod routes;
 mod side_by_side;
 
@@ -33,5 +35,6 @@ pub use front::DeskFront;
 pub use replies::{
     body_reply, form_of, is_method, line_reply, method_reply, no_route_reply, refused_reply,
 };
+pub use request_parts::RequestParts;
 pub use routes::{Route, Routes};
 pub use side_by_side::SideBySide;
