@@ -3,6 +3,7 @@
 ghost use Rattle.std.specs.Prelude.{◌≡◌, ◌≤◌, [], IfErr, IfOk, IfSome, IsErrOf, OnOk};
 ghost use Rattle.fare_outside.specs.Cause.{Rose};
 ghost use Rattle.fare_outside.specs.Keeper.{BodiesStay, WhereTold};
+ghost use Rattle.fare_split.specs.declared.pieces.TheConstants.{MOST_WORKERS};
 ghost use Rattle.fare_serve.specs.Desk.{world_of};
 ghost use Rattle.fare_serve.specs.Service.{door_state};
 ghost use Rattle.fare_commands.specs.Opened.{Names};
@@ -24,6 +25,7 @@ use fare_commands::{
 };
 use fare_outside::{Door, Keeper, Source};
 use fare_serve::Service;
+use fare_split::{SplitQuoter, Turnstile};
 use fare_words::Command;
 use std::thread::Threads;
 
@@ -107,8 +109,8 @@ pub fn answer<R: Threads + Sync, S: Source, P: Keeper, D: Door, W: Watch>(
             round,
             ..
         } => {
-            let service = service_of(*port, *count, *round, context.quoter.workers);
-            serve(context, store, door, name.as_str(), service)
+            let service = service_of(*port, *count, *round, context.quoter);
+            serve(context, store, door, name.as_str(), &service)
         }
         Command::Migrate { store: name } => migrate(context, store, name.as_str()),
         Command::Check => check(context, src),
@@ -133,14 +135,24 @@ pub fn answer<R: Threads + Sync, S: Source, P: Keeper, D: Door, W: Watch>(
     }
 }
 
-/// The service of a port, of so many connections in rounds, by so many workers.
-fn service_of(port: u16, count: u32, round: u32, workers: u32) -> Service
-    ensures { result ≡ record { port = port; count = count; round = round; workers = workers } }
+/// The service of a port, of so many connections in rounds, by the workers of a quoter.
+fn service_of<'g>(
+    port: u16,
+    count: u32,
+    round: u32,
+    quoter: &SplitQuoter<'g, Turnstile>,
+) -> Service<'g>
+    ensures port { result.port ≡ port }
+    ensures count { result.count ≡ count }
+    ensures round { result.round ≡ round }
+    ensures some_workers { 1 ≤ result.workers }
+    ensures few_workers { result.workers ≤ MOST_WORKERS }
 {
     Service {
         port,
         count,
         round,
-        workers,
+        workers: quoter.workers,
+        gate: quoter.gate,
     }
 }

@@ -24,14 +24,14 @@ pub fn serve<R: Threads + Sync, P: Keeper, D: Door>(
     store: &mut P,
     door: &mut D,
     name: &str,
-    service: Service,
+    service: &Service<'_>,
 ) -> Result<Outcome, Exit>
-    requires some { 1 ≤ service.round }
-    requires few { service.round ≤ 8 }
-    requires some_workers { 1 ≤ service.workers }
-    requires few_workers { service.workers ≤ MOST_WORKERS }
+    requires some { 1 ≤ service.now.round }
+    requires few { service.now.round ≤ 8 }
+    requires some_workers { 1 ≤ service.now.workers }
+    requires few_workers { service.now.workers ≤ MOST_WORKERS }
     requires none_held { D.held door.old ≡ [] }
-    ensures serves { ServesStore service.count service.round service.port
+    ensures serves { ServesStore service.now.count service.now.round service.now.port
         (world_of (door_state (D.waiting door.old) (D.sent door.old) (D.listens_at door.old)
         (D.faults door.old) (D.cuts door.old))
         (P.bodies store.old) (P.faults store.old))
@@ -48,8 +48,7 @@ pub fn serve<R: Threads + Sync, P: Keeper, D: Door>(
     ensures keeping { IsKeeping result (P.faults store.old) (P.faults store.new) }
 {
     let book = book_of(context, store, name)?;
-    let gate = context.quoter.gate;
-    match serve_book(context.rt, context.alloc, book, store, door, service, gate) {
+    match serve_book(context.rt, context.alloc, book, store, door, service) {
         Ok(text) => Ok(Outcome::done(text)),
         Err(ServeFault::Memory) => Err(Exit::Memory),
         Err(ServeFault::Door) => Err(Exit::DoorFault),

@@ -1,7 +1,6 @@
 //! The desk that `serve` lets connections ask, behind its counter.
 
-ghost use Rattle.std.specs.Prelude.{◌≡◌, ◌≤◌, IsTrue};
-ghost use Rattle.fare_split.specs.declared.pieces.TheConstants.{MOST_WORKERS};
+ghost use Rattle.std.specs.Prelude.{◌≡◌, IsTrue};
 
 use crate::ServedFront;
 use fare_book::Book;
@@ -23,26 +22,22 @@ pub struct ServedDesk<'k, P: Keeper> {
 }
 
 impl<'k, P: Keeper> ServedDesk<'k, P> {
-    /// A desk over a book and a keeper that is ready, whose searches are shared out among 1 to `MOST_WORKERS` workers,
-    /// which a gate counts, with the counter's own routes and the desk's, which were made before. It takes no memory.
+    /// A desk over a book and a keeper that is ready, whose searches are shared out among the workers of a quoter, with
+    /// the counter's own routes and the desk's, which were made before. It takes no memory.
     pub fn over(
         own: CounterRoutes,
         routes: Routes,
         book: Book,
         keeper: &'k mut P,
-        workers: u32,
-        gate: &'k Turnstile,
+        quoter: SplitQuoter<'k, Turnstile>,
     ) -> ServedDesk<'k, P>
-        requires ready { IsTrue (P.ready keeper.old) }
-        requires some { 1 ≤ workers }
-        requires few { workers ≤ MOST_WORKERS }
+        requires { IsTrue (P.ready keeper.old) }
         ensures book { result.counter.desk.book ≡ book }
         ensures keeper { result.counter.desk.keeper.now ≡ keeper.old }
         ensures same_reference { result.counter.desk.keeper.ghost_name ≡ keeper.entry.ghost_name }
     {
-        let desk = Desk::over(routes, book, keeper, SplitQuoter::new(workers, gate));
         ServedDesk {
-            counter: Counter::over(own, desk),
+            counter: Counter::over(own, Desk::over(routes, book, keeper, quoter)),
         }
     }
 

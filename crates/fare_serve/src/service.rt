@@ -1,6 +1,8 @@
+use fare_split::Turnstile;
+
 /// What is asked for of a service.
-#[derive(Clone, Copy, Debug)]
-pub struct Service {
+#[derive(Clone, Copy)]
+pub struct Service<'g> {
     /// The port at which it listens.
     pub port: u16,
     /// The most connections that it takes.
@@ -9,4 +11,6 @@ pub struct Service {
     pub round: u32,
     /// How many workers share a search.
     pub workers: u32,
+    /// What counts the workers that begin.
+    pub gate: &'g Turnstile,
 }

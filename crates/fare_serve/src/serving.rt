@@ -14,7 +14,7 @@ use fare_counter::CounterRoutes;
 use fare_desk::Routes;
 use fare_outside::{Door, Failed, Keeper};
 use fare_rounds::{Counts, DoorEnd, RoundHandler};
-use fare_split::Turnstile;
+use fare_split::SplitQuoter;
 use std::alloc::Global;
 use std::thread::Threads;
 
@@ -30,16 +30,15 @@ pub fn serve<R: Threads + Sync, P: Keeper, D: Door>(
     book: Book,
     keeper: &mut P,
     door: &mut D,
-    service: Service,
-    gate: &Turnstile,
+    service: &Service<'_>,
 ) -> Result<Vec<u8>, ServeFault>
-    requires some { 1 ≤ service.round }
-    requires few { service.round ≤ 8 }
-    requires some_workers { 1 ≤ service.workers }
-    requires few_workers { service.workers ≤ MOST_WORKERS }
+    requires some { 1 ≤ service.now.round }
+    requires few { service.now.round ≤ 8 }
+    requires some_workers { 1 ≤ service.now.workers }
+    requires few_workers { service.now.workers ≤ MOST_WORKERS }
     requires none_held { D.held door.old ≡ [] }
     requires ready { IsTrue (P.ready keeper.old) }
-    ensures serves { ServesBook service.count service.round service.port book
+    ensures serves { ServesBook service.now.count service.now.round service.now.port book
         (world_of (door_state (D.waiting door.old) (D.sent door.old) (D.listens_at door.old)
         (D.faults door.old) (D.cuts door.old))
         (P.bodies keeper.old) (P.faults keeper.old))
@@ -60,7 +59,8 @@ pub fn serve<R: Threads + Sync, P: Keeper, D: Door>(
     let Ok(room) = Vec::with_capacity(alloc, MOST_SUMMARY) else {
         return Err(ServeFault::Memory);
     };
-    let mut served = ServedDesk::over(own, routes, book, keeper, service.workers, gate);
+    let quoter = SplitQuoter::new(service.workers, service.gate);
+    let mut served = ServedDesk::over(own, routes, book, keeper, quoter);
     let text = serve_desk(rt, alloc, door, &mut served, service, room);
     let _keeper = served.into_keeper();
     text
@@ -72,16 +72,16 @@ fn serve_desk<R: Threads + Sync, P: Keeper, D: Door>(
     alloc: Global,
     door: &mut D,
     served: &mut ServedDesk<'_, P>,
-    service: Service,
+    service: &Service<'_>,
     room: Vec<u8>,
 ) -> Result<Vec<u8>, ServeFault>
-    requires some { 1 ≤ service.round }
-    requires few { service.round ≤ 8 }
+    requires some { 1 ≤ service.now.round }
+    requires few { service.now.round ≤ 8 }
     requires none_held { D.held door.old ≡ [] }
     requires empty { room.items ≡ [] }
     requires room { MOST_SUMMARY ≤ vec_capacity room }
     ensures same_reference { served.new.counter.desk.keeper.ghost_name ≡ served.old.counter.desk.keeper.ghost_name }
-    ensures serves { ServesBook service.count service.round service.port served.old.counter.desk.book
+    ensures serves { ServesBook service.now.count service.now.round service.now.port served.old.counter.desk.book
         (world_of (door_state (D.waiting door.old) (D.sent door.old) (D.listens_at door.old)
         (D.faults door.old) (D.cuts door.old))
         (P.bodies served.old.counter.desk.keeper.now) (P.faults served.old.counter.desk.keeper.now))
@@ -108,15 +108,15 @@ fn serve_port<R: Threads + Sync, D: Door, H: RoundHandler>(
     alloc: Global,
     door: &mut D,
     handler: &mut H,
-    service: Service,
+    service: &Service<'_>,
     room: Vec<u8>,
 ) -> Result<Vec<u8>, Failed>
-    requires some { 1 ≤ service.round }
-    requires few { service.round ≤ 8 }
+    requires some { 1 ≤ service.now.round }
+    requires few { service.now.round ≤ 8 }
     requires none_held { D.held door.old ≡ [] }
     requires empty { room.items ≡ [] }
     requires room { MOST_SUMMARY ≤ vec_capacity room }
-    ensures serves { ServesPort H.step service.count service.round service.port handler.old handler.new
+    ensures serves { ServesPort H.step service.now.count service.now.round service.now.port handler.old handler.new
         (door_state (D.waiting door.old) (D.sent door.old) (D.listens_at door.old)
         (D.faults door.old) (D.cuts door.old))
         (door_state (D.waiting door.new) (D.sent door.new) (D.listens_at door.new)
@@ -129,7 +129,7 @@ fn serve_port<R: Threads + Sync, D: Door, H: RoundHandler>(
     if door.listen(service.port).is_err() {
         return Err(Failed);
     }
-    let (end, counts) = serve_rounds(rt, alloc, door, handler, service.count, service.round);
+    let (end, counts) = serve_rounds(rt, alloc, door, handler, service);
     if end == DoorEnd::Failed {
         return Err(Failed);
     }

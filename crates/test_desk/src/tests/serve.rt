@@ -59,21 +59,15 @@ fn serve_all<R: Threads + Sync>(
     let mut keeper = MemKeeper::new(stored, Vec::new(alloc));
     keeper.open(alloc, "editions")?;
     let book = Book::restore(rt, alloc, &mut keeper)?;
+    let gate = Turnstile::new();
     let service = Service {
         port: 80,
         count: 8,
         round,
         workers: 1,
+        gate: &gate,
     };
-    Ok(serve(
-        rt,
-        alloc,
-        book,
-        &mut keeper,
-        door,
-        service,
-        &Turnstile::new(),
-    )?)
+    Ok(serve(rt, alloc, book, &mut keeper, door, &service)?)
 }
 
 /// Compares what is sent on each connection of a case.

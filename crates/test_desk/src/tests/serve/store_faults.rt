@@ -73,21 +73,15 @@ fn publications_get<R: Threads + Sync + Abort, P: Keeper>(
     let book = Book::restore(rt, alloc, &mut empty)?;
     keeper.open(alloc, "editions")?;
     let mut door = door_of(alloc, &[PUBLISH, PUBLISH])?;
+    let gate = Turnstile::new();
     let service = Service {
         port: 80,
         count: 2,
         round: 1,
         workers: 1,
+        gate: &gate,
     };
-    serve(
-        rt,
-        alloc,
-        book,
-        keeper,
-        &mut door,
-        service,
-        &Turnstile::new(),
-    )?;
+    serve(rt, alloc, book, keeper, &mut door, &service)?;
     assert!(rt; door.sent_to(0) == Some(sent[0]));
     assert!(rt; door.sent_to(1) == Some(sent[1]));
     Ok(())
