@@ -29,6 +29,19 @@ use std::test::Fail;
 use std::thread::Threads;
 use tariffs::{END, HEAD_1, SHORT, THROUGH, TWO_PLACES};
 
+/// What a run finds outside, besides its door.
+#[derive(Drop)]
+struct Outside<'o, S, K, P> {
+    /// What it reads.
+    source: &'o mut S,
+    /// What it writes to.
+    sink: &'o mut K,
+    /// What keeps its editions.
+    store: &'o mut P,
+    /// What counts the workers that begin.
+    gate: &'o Turnstile,
+}
+
 /// Runs words over a source and a sink, with a store and a door that hold nothing.
 fn ended<R: Threads + Sync, S: Source, K: Sink>(
     rt: &R,
@@ -38,55 +51,33 @@ fn ended<R: Threads + Sync, S: Source, K: Sink>(
     sink: &mut K,
 ) -> Result<Exit, Fail> {
     let mut store = PlainKeeper::new(Bodies::new(alloc));
-    ended_over(rt, alloc, words, source, sink, &mut store)
+    let gate = Turnstile::new();
+    let outside = Outside {
+        source,
+        sink,
+        store: &mut store,
+        gate: &gate,
+    };
+    ended_over(rt, alloc, words, outside)
 }
 
-/// Runs words over a source, a sink and a store, with a door that holds nothing.
+/// Runs words over what is outside, with a door that holds nothing.
 fn ended_over<R: Threads + Sync, S: Source, K: Sink, P: Keeper>(
     rt: &R,
     alloc: Global,
     words: &[&str],
-    source: &mut S,
-    sink: &mut K,
-    store: &mut P,
+    outside: Outside<'_, S, K, P>,
 ) -> Result<Exit, Fail> {
-    ended_at(rt, alloc, words, source, sink, store, &mut PlainDoor::new())
+    ended_at(rt, alloc, words, outside, &mut PlainDoor::new())
 }
 
-/// Runs words over a source, a sink, a store and a door that holds no connection.
+/// Runs words over what is outside, with a door that holds no connection.
 fn ended_at<R: Threads + Sync, S: Source, K: Sink, P: Keeper, D: Door>(
     rt: &R,
     alloc: Global,
     words: &[&str],
-    source: &mut S,
-    sink: &mut K,
-    store: &mut P,
+    outside: Outside<'_, S, K, P>,
     door: &mut D,
-) -> Result<Exit, Fail>
-    requires { D.held door.old ≡ [] }
-{
-    ended_through(
-        rt,
-        alloc,
-        words,
-        source,
-        sink,
-        store,
-        door,
-        &Turnstile::new(),
-    )
-}
-
-/// Runs words over a source, a sink, a store, a door that holds no connection, and a gate.
-fn ended_through<R: Threads + Sync, S: Source, K: Sink, P: Keeper, D: Door>(
-    rt: &R,
-    alloc: Global,
-    words: &[&str],
-    source: &mut S,
-    sink: &mut K,
-    store: &mut P,
-    door: &mut D,
-    gate: &Turnstile,
 ) -> Result<Exit, Fail>
     requires { D.held door.old ≡ [] }
 {
@@ -94,6 +85,12 @@ fn ended_through<R: Threads + Sync, S: Source, K: Sink, P: Keeper, D: Door>(
     for word in words {
         owned.push(String::from_str(alloc, word)?)?;
     }
+    let Outside {
+        source,
+        sink,
+        store,
+        gate,
+    } = outside;
     Ok(run(
         rt,
         alloc,

@@ -5,9 +5,10 @@ ghost use Rattle.std.specs.Prelude.{◌≡◌, [], IfOk};
 use super::cases::Served;
 use super::cases::rounds::{APART, TOGETHER};
 use super::cases::serving::{DOORS, ROUNDS, STORES};
-use super::ended_at;
 use super::stores::failing;
+use super::{Outside, ended_at};
 use fare_outside::{Bodies, MemDoor, PlainSink, PlainSource};
+use fare_split::Turnstile;
 use std::alloc::Global;
 use std::process::Abort;
 use std::test::Fail;
@@ -42,15 +43,14 @@ fn serves<R: Threads + Sync + Abort>(rt: &R, alloc: Global, case: &Served) -> Re
     let mut sink = PlainSink::new(alloc, 64)?;
     let mut store = failing(alloc, bodies, case.store)?;
     let mut door = door_of(alloc, case.connections, case.door)?;
-    let exit = ended_at(
-        rt,
-        alloc,
-        case.words,
-        &mut source,
-        &mut sink,
-        &mut store,
-        &mut door,
-    )?;
+    let gate = Turnstile::new();
+    let outside = Outside {
+        source: &mut source,
+        sink: &mut sink,
+        store: &mut store,
+        gate: &gate,
+    };
+    let exit = ended_at(rt, alloc, case.words, outside, &mut door)?;
     assert!(rt; exit.status() == case.status);
     assert!(rt; sink.bytes() == case.text.as_bytes());
     was_sent(rt, &door, case);

@@ -6,11 +6,12 @@ use super::cases::migrations::{FORMER, MIGRATED, ONE_FORMER};
 use super::cases::steps::{FAILURES, ONE_EDITION, REFUSED_SOURCES, THREE_EDITIONS};
 use super::cases::{Failure, Kept, Step};
 use super::tariffs::{END, HEAD_1, MILES, PLACES, THROUGH, TWO_PLACES};
-use super::{ended_over, joined};
+use super::{Outside, ended, ended_over, joined};
 use fare_outside::{
     Bodies, FailAt, Keeper, MemKeeper, MemSink, MemSource, PlainKeeper, PlainSink, PlainSource,
 };
 use fare_run::fault_text;
+use fare_split::Turnstile;
 use std::alloc::Global;
 use std::process::Abort;
 use std::test::Fail;
@@ -25,7 +26,14 @@ fn goes<R: Threads + Sync + Abort, P: Keeper>(
 ) -> Result<(), Fail> {
     let mut source = PlainSource::new(joined(alloc, step.source)?);
     let mut sink = PlainSink::new(alloc, 4096)?;
-    let exit = ended_over(rt, alloc, step.words, &mut source, &mut sink, store)?;
+    let gate = Turnstile::new();
+    let outside = Outside {
+        source: &mut source,
+        sink: &mut sink,
+        store,
+        gate: &gate,
+    };
+    let exit = ended_over(rt, alloc, step.words, outside)?;
     assert!(rt; exit.status() == step.status, "{}", step.text);
     if step.status == 0 {
         assert!(rt; sink.bytes() == step.text.as_bytes(), "{}", step.text);
@@ -105,7 +113,14 @@ pub fn fails<R: Threads + Sync + Abort>(rt: &R, alloc: Global, case: &Failure) -
     let mut source = MemSource::new(tariff, case.read.to_vec(alloc)?);
     let mut sink = MemSink::new(alloc, case.room, case.write.to_vec(alloc)?)?;
     let mut store = failing(alloc, Bodies::new(alloc), case.store)?;
-    let exit = ended_over(rt, alloc, case.words, &mut source, &mut sink, &mut store)?;
+    let gate = Turnstile::new();
+    let outside = Outside {
+        source: &mut source,
+        sink: &mut sink,
+        store: &mut store,
+        gate: &gate,
+    };
+    let exit = ended_over(rt, alloc, case.words, outside)?;
     assert!(rt; exit.status() == case.status);
     assert!(rt; sink.bytes() == case.text.as_bytes());
     assert!(rt; store.kept().len() == case.bodies);
@@ -129,7 +144,14 @@ fn keeps<R: Threads + Sync + Abort>(rt: &R, alloc: Global, case: &Kept) -> Resul
     let mut source = PlainSource::new(joined(alloc, &[case.source])?);
     let mut sink = PlainSink::new(alloc, 4096)?;
     let mut store = failing(alloc, bodies, case.store)?;
-    let exit = ended_over(rt, alloc, case.words, &mut source, &mut sink, &mut store)?;
+    let gate = Turnstile::new();
+    let outside = Outside {
+        source: &mut source,
+        sink: &mut sink,
+        store: &mut store,
+        gate: &gate,
+    };
+    let exit = ended_over(rt, alloc, case.words, outside)?;
     assert!(rt; exit.status() == case.status);
     assert!(rt; sink.bytes() == case.text.as_bytes());
     assert!(rt; store.kept().len() == case.left.len());
@@ -205,9 +227,8 @@ fn a_long_itinerary_is_refused(rt: HostRuntime) -> Result<(), Fail> {
     let alloc = rt.alloc();
     let mut source = PlainSource::new(vec![in alloc; b' '; 65_537]?);
     let mut sink = PlainSink::new(alloc, 4096)?;
-    let mut store = PlainKeeper::new(Bodies::new(alloc));
     let words: &[&str] = &["quote", "--store=s"];
-    let exit = ended_over(&rt, alloc, words, &mut source, &mut sink, &mut store)?;
+    let exit = ended(&rt, alloc, words, &mut source, &mut sink)?;
     assert!(rt; exit.status() == 5);
     assert!(rt; sink.bytes().is_empty());
     Ok(())

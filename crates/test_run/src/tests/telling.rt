@@ -5,9 +5,10 @@ use super::cases::checks::{CHECKS, COMPARISONS, DIFFERENCES};
 use super::cases::programs::{ANSWERS, Barred, FAULTS, KINDS, OUTSIDE, REASONS};
 use super::stores::fails;
 use super::tariffs::{END, MILES, PLACES, WORLD, WORLD_FARES};
-use super::{ended, ended_over, joined};
+use super::{Outside, ended, ended_over, joined};
 use fare_outside::{Bodies, Keeper, PlainKeeper, PlainSink, PlainSource};
 use fare_run::fault_text;
+use fare_split::Turnstile;
 use std::alloc::Global;
 use std::process::Abort;
 use std::test::Fail;
@@ -22,7 +23,14 @@ fn tells<R: Threads + Sync + Abort>(rt: &R, alloc: Global, case: &Told) -> Resul
     let mut source = PlainSource::new(joined(alloc, case.source)?);
     let mut sink = PlainSink::new(alloc, 4096)?;
     let mut store = PlainKeeper::new(bodies);
-    let exit = ended_over(rt, alloc, case.words, &mut source, &mut sink, &mut store)?;
+    let gate = Turnstile::new();
+    let outside = Outside {
+        source: &mut source,
+        sink: &mut sink,
+        store: &mut store,
+        gate: &gate,
+    };
+    let exit = ended_over(rt, alloc, case.words, outside)?;
     assert!(rt; exit.status() == case.status, "{}", case.text);
     assert!(rt; sink.bytes() == case.text.as_bytes(), "{}", case.text);
     let line = fault_text(alloc, &exit)?;

@@ -3,8 +3,8 @@
 use super::cases::Quotation;
 use super::cases::points::POINTS;
 use super::cases::units::UNITS;
-use super::{ended, ended_through, joined};
-use fare_outside::{Bodies, PlainDoor, PlainKeeper, PlainSink, PlainSource};
+use super::{Outside, ended, ended_over, joined};
+use fare_outside::{Bodies, PlainKeeper, PlainSink, PlainSource};
 use fare_split::Turnstile;
 use std::alloc::Global;
 use std::process::Abort;
@@ -152,17 +152,14 @@ fn as_many_workers_begin_as_are_asked_for(rt: HostRuntime) -> Result<(), Fail> {
     let mut source = PlainSource::new(Vec::new(alloc));
     let mut sink = PlainSink::new(alloc, 4096)?;
     let mut store = PlainKeeper::new(Bodies::new(alloc));
-    let mut door = PlainDoor::new();
-    let exit = ended_through(
-        &rt,
-        alloc,
-        &["drill", "--seed=1", "--sectors=8", "--workers=3"],
-        &mut source,
-        &mut sink,
-        &mut store,
-        &mut door,
-        &gate,
-    )?;
+    let outside = Outside {
+        source: &mut source,
+        sink: &mut sink,
+        store: &mut store,
+        gate: &gate,
+    };
+    let words = ["drill", "--seed=1", "--sectors=8", "--workers=3"];
+    let exit = ended_over(&rt, alloc, &words, outside)?;
     assert!(rt; exit.status() == 0);
     assert!(rt; gate.begun() == 3);
     Ok(())
