@@ -1,17 +1,14 @@
 //! The entries of the text of the first constructions.
 
-ghost use Rattle.std.specs.Prelude.{◌≡◌, ◌++◌, ◌+◌, ◌<◌, Ok, OnOk, All, slice_get};
+ghost use Rattle.std.specs.Prelude.{◌≡◌, ◌++◌, ◌+◌, ◌<◌, OnOk, All, slice_get};
 ghost use Rattle.fare_rules.specs.FirstK.{IsPriced};
-ghost use Rattle.fare_rules.specs.Lawful.{lawful_price};
 ghost use Rattle.fare_answers.specs.BestText.{entries_text, entry_text, first_text, place_text};
 
-use fare_best::{BestList, MOST_BEST};
+use crate::first_of::FirstOf;
+use fare_best::MOST_BEST;
 use fare_calc::{Priced, Sheets, push_line, push_no_fare};
 use fare_outside::NoMemory;
-use fare_tariff::Edition;
 use fare_text::{push_hundredths, push_labelled};
-use fare_trip::Trip;
-use fare_units::Construction;
 use std::alloc::Global;
 
 /// Appends the first constructions, numbered from 1, or that there is no fare. After want of memory the text may hold a
@@ -20,33 +17,27 @@ use std::alloc::Global;
 pub(crate) fn push_first(
     text: &mut Vec<u8>,
     alloc: Global,
-    edition: &Edition,
-    trip: &Trip,
-    first: &BestList,
+    first: &FirstOf<'_>,
 ) -> Result<(), NoMemory>
-    requires { All (IsPriced edition.now trip.now) first.now }
-    ensures { OnOk result (text.new.items ≡ text.old.items ++ first_text edition.now trip.now first.now) }
+    requires { All (IsPriced first.now.edition.now first.now.trip.now) first.now.list.now }
+    ensures { OnOk result (text.new.items
+        ≡ text.old.items ++ first_text first.now.edition.now first.now.trip.now first.now.list.now) }
 {
-    if first.len() == 0 {
+    if first.list.len() == 0 {
         return push_no_fare(text);
     }
-    push_entries(text, alloc, edition, trip, first)
+    push_entries(text, alloc, first)
 }
 
 /// Appends the first constructions, numbered from 1.
 #[tactic(auto, using(crate::proofs::EntryLemmas::entries_done))]
-fn push_entries(
-    text: &mut Vec<u8>,
-    alloc: Global,
-    edition: &Edition,
-    trip: &Trip,
-    first: &BestList,
-) -> Result<(), NoMemory>
-    requires { All (IsPriced edition.now trip.now) first.now }
-    ensures { OnOk result (text.new.items ≡ text.old.items ++ entries_text edition.now trip.now 1 first.now) }
+fn push_entries(text: &mut Vec<u8>, alloc: Global, first: &FirstOf<'_>) -> Result<(), NoMemory>
+    requires { All (IsPriced first.now.edition.now first.now.trip.now) first.now.list.now }
+    ensures { OnOk result (text.new.items
+        ≡ text.old.items ++ entries_text first.now.edition.now first.now.trip.now 1 first.now.list.now) }
 {
-    for place in 0..first.len() {
-        push_place(text, alloc, edition, trip, first, place)?;
+    for place in 0..first.list.len() {
+        push_place(text, alloc, first, place)?;
     }
     Ok(())
 }
@@ -55,20 +46,24 @@ fn push_entries(
 fn push_place(
     text: &mut Vec<u8>,
     alloc: Global,
-    edition: &Edition,
-    trip: &Trip,
-    first: &BestList,
+    first: &FirstOf<'_>,
     place: usize,
 ) -> Result<(), NoMemory>
-    requires lawful { All (IsPriced edition.now trip.now) first.now }
+    requires lawful { All (IsPriced first.now.edition.now first.now.trip.now) first.now.list.now }
     requires few { place < MOST_BEST }
-    ensures { OnOk result (text.new.items
-        ≡ text.old.items ++ place_text edition.now trip.now (place + 1) (slice_get first.now place)) }
+    ensures { OnOk result (text.new.items ≡ text.old.items
+        ++ place_text first.now.edition.now first.now.trip.now (place + 1) (slice_get first.now.list.now place)) }
 {
-    match first.get(place) {
+    match first.list.get(place) {
         None => Ok(()),
-        Some((parts, price)) => {
-            push_entry(text, alloc, edition, trip, place as u32 + 1, parts, price)
+        Some((construction, price)) => {
+            let one = Priced {
+                edition: first.edition,
+                trip: first.trip,
+                construction,
+                price,
+            };
+            push_entry(text, alloc, place as u32 + 1, &one)
         }
     }
 }
@@ -78,23 +73,13 @@ fn push_place(
 fn push_entry(
     text: &mut Vec<u8>,
     alloc: Global,
-    edition: &Edition,
-    trip: &Trip,
     number: u32,
-    parts: &Construction,
-    price: u64,
+    one: &Priced<'_>,
 ) -> Result<(), NoMemory>
-    requires { lawful_price edition.now trip.now parts.now ≡ Ok price }
-    ensures { OnOk result
-        (text.new.items ≡ text.old.items ++ entry_text edition.now trip.now number (parts.now, price)) }
+    ensures { OnOk result (text.new.items ≡ text.old.items
+        ++ entry_text one.now.edition.now one.now.trip.now number (one.now.construction.now, one.now.price)) }
 {
-    let one = Priced {
-        edition,
-        trip,
-        construction: parts,
-        price,
-    };
-    let sheets = Sheets::of(&one);
+    let sheets = Sheets::of(one);
     push_labelled(text, b"BEST ", number)?;
     text.push(b' ')?;
     push_hundredths(text, sheets.price())?;

@@ -4,17 +4,20 @@
 //!
 //! - `quote_fault`, `selecting`: the edition in which a trip is answered (`EditionFor`), or why there is none;
 //! - `quoting`: the text of a quotation;
-//! - `entries`, `listing`: the entries of the first constructions, one for each, and the text with all of them;
+//! - `first_of`: the first constructions of a trip in an edition; `entries`, `listing`: the entry of each, and the text
+//!   with all of them;
 //! - `list`: the text that lists the editions.
 #![tactic(auto)]
 
 mod entries;
+mod first_of;
 mod list;
 mod listing;
 mod quote_fault;
 mod quoting;
 mod selecting;
 
+pub use first_of::FirstOf;
 pub use list::list_text;
 pub use listing::best_text;
 pub use quote_fault::QuoteFault;

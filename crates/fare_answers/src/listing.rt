@@ -5,6 +5,7 @@ ghost use Rattle.fare_answers.specs.Answers.{Answers};
 ghost use Rattle.fare_answers.specs.BestText.{BestOver, BestPlaced};
 
 use crate::entries::push_first;
+use crate::first_of::FirstOf;
 use crate::quote_fault::QuoteFault;
 use crate::selecting::edition_for;
 use fare_best::{MOST_BEST, first_k};
@@ -36,9 +37,14 @@ fn best_placed(alloc: Global, edition: &Edition, trip: &Trip, k: u32) -> Result<
     requires few { k ≤ MOST_BEST }
     ensures { IfOk result (λ text. BestPlaced trip.now k edition.now text.items) }
 {
-    let first = first_k(alloc, edition, trip, k)?;
+    let list = first_k(alloc, edition, trip, k)?;
+    let first = FirstOf {
+        edition,
+        trip,
+        list: &list,
+    };
     let mut text = Vec::new(alloc);
     push_edition(&mut text, edition)?;
-    push_first(&mut text, alloc, edition, trip, &first)?;
+    push_first(&mut text, alloc, &first)?;
     Ok(text)
 }

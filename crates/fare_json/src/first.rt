@@ -1,8 +1,7 @@
 //! The JSON answer of the first constructions of a trip over a book.
 
-ghost use Rattle.std.specs.Prelude.{◌≡◌, ◌++◌, ◌<◌, ◌≤◌, Ok, All, IfOk, OnOk, slice_get};
+ghost use Rattle.std.specs.Prelude.{◌≡◌, ◌++◌, ◌<◌, ◌≤◌, All, IfOk, OnOk, slice_get};
 ghost use Rattle.fare_rules.specs.FirstK.{IsPriced};
-ghost use Rattle.fare_rules.specs.Lawful.{lawful_price};
 ghost use Rattle.fare_answers.specs.Answers.{Answers};
 ghost use Rattle.fare_json.specs.BestData.{BestJson, BestJsonPlaced, first_data};
 ghost use Rattle.fare_json.specs.JsonText.{json_line};
@@ -11,14 +10,13 @@ ghost use Rattle.fare_json.specs.Spelled.{comma_at, entry_json, first_json, list
 use crate::construction::push_line;
 use crate::edition::push_edition;
 use crate::writing::push_money;
-use fare_answers::{QuoteFault, edition_for};
-use fare_best::{BestList, MOST_BEST, first_k};
+use fare_answers::{FirstOf, QuoteFault, edition_for};
+use fare_best::{MOST_BEST, first_k};
 use fare_book::Book;
 use fare_calc::{Priced, Sheets};
 use fare_outside::NoMemory;
 use fare_tariff::Edition;
 use fare_trip::Trip;
-use fare_units::Construction;
 use std::alloc::Global;
 
 /// The JSON answer of the first `k` lawful constructions of a trip in the edition that its sale day selects, or why
@@ -41,59 +39,50 @@ fn best_placed(alloc: Global, edition: &Edition, trip: &Trip, k: u32) -> Result<
     requires few { k ≤ MOST_BEST }
     ensures { IfOk result (λ text. BestJsonPlaced trip.now k edition.now text.items) }
 {
-    let first = first_k(alloc, edition, trip, k)?;
-    first_json(alloc, edition, trip, &first)
+    let list = first_k(alloc, edition, trip, k)?;
+    let first = FirstOf {
+        edition,
+        trip,
+        list: &list,
+    };
+    first_json(alloc, &first)
 }
 
 /// The answer for the first constructions.
 #[tactic(auto, using(crate::proofs::BestLemmas::first_text))]
-fn first_json(
-    alloc: Global,
-    edition: &Edition,
-    trip: &Trip,
-    first: &BestList,
-) -> Result<Vec<u8>, NoMemory>
-    requires { All (IsPriced edition.now trip.now) first.now }
-    ensures { IfOk result (λ text. text.items ≡ json_line (first_data edition.now trip.now first.now)) }
+fn first_json(alloc: Global, first: &FirstOf<'_>) -> Result<Vec<u8>, NoMemory>
+    requires { All (IsPriced first.now.edition.now first.now.trip.now) first.now.list.now }
+    ensures { IfOk result (λ text. text.items
+        ≡ json_line (first_data first.now.edition.now first.now.trip.now first.now.list.now)) }
 {
-    spelled_first(alloc, edition, trip, first)
+    spelled_first(alloc, first)
 }
 
 /// The same, as it is spelled.
 #[tactic(auto, unfolding(crate::specs::Spelled::first_json))]
-fn spelled_first(
-    alloc: Global,
-    edition: &Edition,
-    trip: &Trip,
-    first: &BestList,
-) -> Result<Vec<u8>, NoMemory>
-    requires { All (IsPriced edition.now trip.now) first.now }
-    ensures { IfOk result (λ text. text.items ≡ first_json edition.now trip.now first.now) }
+fn spelled_first(alloc: Global, first: &FirstOf<'_>) -> Result<Vec<u8>, NoMemory>
+    requires { All (IsPriced first.now.edition.now first.now.trip.now) first.now.list.now }
+    ensures { IfOk result (λ text. text.items
+        ≡ first_json first.now.edition.now first.now.trip.now first.now.list.now) }
 {
     let mut text = Vec::new(alloc);
     text.extend_from_slice(b"{\"best\":[")?;
-    push_entries(&mut text, alloc, edition, trip, first)?;
+    push_entries(&mut text, alloc, first)?;
     text.extend_from_slice(b"],\"edition\":")?;
-    push_edition(&mut text, edition)?;
+    push_edition(&mut text, first.edition)?;
     text.extend_from_slice(b"}\n")?;
     Ok(text)
 }
 
 /// Appends the constructions, with a comma before each but the first.
 #[tactic(auto, using(crate::proofs::EntryLemmas::entries_done))]
-fn push_entries(
-    text: &mut Vec<u8>,
-    alloc: Global,
-    edition: &Edition,
-    trip: &Trip,
-    first: &BestList,
-) -> Result<(), NoMemory>
-    requires { All (IsPriced edition.now trip.now) first.now }
-    ensures { OnOk result (text.new.items
-        ≡ text.old.items ++ listed_json (entry_json edition.now trip.now) first.now) }
+fn push_entries(text: &mut Vec<u8>, alloc: Global, first: &FirstOf<'_>) -> Result<(), NoMemory>
+    requires { All (IsPriced first.now.edition.now first.now.trip.now) first.now.list.now }
+    ensures { OnOk result (text.new.items ≡ text.old.items
+        ++ listed_json (entry_json first.now.edition.now first.now.trip.now) first.now.list.now) }
 {
-    for place in 0..first.len() {
-        push_place(text, alloc, edition, trip, first, place)?;
+    for place in 0..first.list.len() {
+        push_place(text, alloc, first, place)?;
     }
     Ok(())
 }
@@ -102,21 +91,25 @@ fn push_entries(
 fn push_place(
     text: &mut Vec<u8>,
     alloc: Global,
-    edition: &Edition,
-    trip: &Trip,
-    first: &BestList,
+    first: &FirstOf<'_>,
     place: usize,
 ) -> Result<(), NoMemory>
-    requires lawful { All (IsPriced edition.now trip.now) first.now }
+    requires lawful { All (IsPriced first.now.edition.now first.now.trip.now) first.now.list.now }
     requires few { place < MOST_BEST }
-    ensures { OnOk result (text.new.items
-        ≡ text.old.items ++ place_json edition.now trip.now place (slice_get first.now place)) }
+    ensures { OnOk result (text.new.items ≡ text.old.items
+        ++ place_json first.now.edition.now first.now.trip.now place (slice_get first.now.list.now place)) }
 {
-    match first.get(place) {
+    match first.list.get(place) {
         None => Ok(()),
-        Some((parts, price)) => {
+        Some((construction, price)) => {
             push_comma_at(text, place)?;
-            push_entry(text, alloc, edition, trip, parts, price)
+            let one = Priced {
+                edition: first.edition,
+                trip: first.trip,
+                construction,
+                price,
+            };
+            push_entry(text, alloc, &one)
         }
     }
 }
@@ -134,24 +127,11 @@ fn push_comma_at(text: &mut Vec<u8>, place: usize) -> Result<(), NoMemory>
 
 /// Appends a lawful construction with its price.
 #[tactic(auto, unfolding(crate::specs::Spelled::entry_json))]
-fn push_entry(
-    text: &mut Vec<u8>,
-    alloc: Global,
-    edition: &Edition,
-    trip: &Trip,
-    parts: &Construction,
-    price: u64,
-) -> Result<(), NoMemory>
-    requires { lawful_price edition.now trip.now parts.now ≡ Ok price }
-    ensures { OnOk result (text.new.items ≡ text.old.items ++ entry_json edition.now trip.now (parts.now, price)) }
+fn push_entry(text: &mut Vec<u8>, alloc: Global, one: &Priced<'_>) -> Result<(), NoMemory>
+    ensures { OnOk result (text.new.items ≡ text.old.items
+        ++ entry_json one.now.edition.now one.now.trip.now (one.now.construction.now, one.now.price)) }
 {
-    let one = Priced {
-        edition,
-        trip,
-        construction: parts,
-        price,
-    };
-    let sheets = Sheets::of(&one);
+    let sheets = Sheets::of(one);
     text.extend_from_slice(b"{\"line\":")?;
     push_line(text, alloc, &sheets)?;
     push_money(text, b",\"total\":", sheets.price())?;

@@ -5,7 +5,9 @@ use Rattle.fare_answers.proofs.entries.push_entries.Goals as goal
 
 pub loop-place-preserved : goal.loop-place-preserved
 loop-place-preserved c =
-    let within : c.loop-place.place < length c.args.first.now = omega arith in
-    entry_more c.args.edition.now c.args.trip.now c.args.first.now c.loop-place.place c.loop-place.text.items c.push_place.new.text.items
-    (c.args.text.now.items ++ entries_text c.args.edition.now c.args.trip.now 1 c.args.first.now)
+    let first = c.args.first.now in
+    let within : c.loop-place.place < length first.list.now = omega arith in
+    entry_more first.edition.now first.trip.now first.list.now c.loop-place.place c.loop-place.text.items
+    c.push_place.new.text.items
+    (c.args.text.now.items ++ entries_text first.edition.now first.trip.now 1 first.list.now)
     within c.in_ok-push_place.ensures c.loop-place.invariant

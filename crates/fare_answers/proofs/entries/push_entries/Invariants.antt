@@ -5,5 +5,5 @@ use Rattle.fare_answers.proofs.entries.push_entries.Given as goal
 
 abbrev pub invariant-loop-place : goal.invariant-loop-place
 invariant-loop-place l =
-    l.fn.text.items ++ entries_text l.edition l.trip 1 l.first
-    ≡ l.text.items ++ entries_text l.edition l.trip (l.place + 1) (drop l.place l.first)
+    l.fn.text.items ++ entries_text l.first.edition.now l.first.trip.now 1 l.first.list.now
+    ≡ l.text.items ++ entries_text l.first.edition.now l.first.trip.now (l.place + 1) (drop l.place l.first.list.now)

@@ -6,5 +6,5 @@ use Rattle.fare_json.proofs.first.push_entries.Given as goal
 
 abbrev pub invariant-loop-place : goal.invariant-loop-place
 invariant-loop-place l =
-    l.fn.text.items ++ listed_json (entry_json l.edition l.trip) l.first
-    ≡ l.text.items ++ rest_json l.edition l.trip l.place (drop l.place l.first)
+    l.fn.text.items ++ listed_json (entry_json l.first.edition.now l.first.trip.now) l.first.list.now
+    ≡ l.text.items ++ rest_json l.first.edition.now l.first.trip.now l.place (drop l.place l.first.list.now)
