@@ -37,10 +37,7 @@ fn reasons_reply<R: Threads + Sync, Q: Reasoner>(
 ) -> Result<Reply, NoMemory>
     ensures { IfOk result (IsReasonsReply clerk.now.form clerk.now.book.now.editions trip.now) }
 {
-    match clerk
-        .quoter
-        .reasons(rt, alloc, clerk.form, clerk.book, trip)
-    {
+    match Q::reasons(rt, alloc, clerk, trip) {
         Ok(text) => Ok(body_reply(clerk.form, Status::Okay, text)),
         Err(fault) => refusal_reply(alloc, clerk.form, &fault),
     }
