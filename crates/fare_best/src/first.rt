@@ -55,8 +55,8 @@ fn fill(table: &Table, k: usize, found: &mut BestList)
     rise(table, k, least, found)
 }
 
-/// Finds the first `k`, by walks whose limit rises from the least price on until that many cost no more. Where the least
-/// price is far above what all costs at least, each limit is a ceiling too.
+/// Finds the first `k`. Where the least price is far above what all costs at least, a limit is had at once, since walks
+/// up to a lesser one would not be pruned.
 fn rise(table: &Table, k: usize, least: u64, found: &mut BestList)
     requires some { 1 ≤ k }
     requires few { k ≤ MOST_BEST }
@@ -64,23 +64,54 @@ fn rise(table: &Table, k: usize, least: u64, found: &mut BestList)
     ensures { IsFirstK table.now.edition table.now.trip k found.new }
 {
     let homing = homing_of(table, None);
-    let far = is_far(&homing, least);
+    if is_far(&homing, least) {
+        return search_far(table, &homing, k, least, found);
+    }
+    walk_up(table, &homing, k, least, found)
+}
+
+/// Finds the first `k` by a walk up to the price of the `k`th of those that a dive is near, under a ceiling just below
+/// it; where there are fewer of these, by walks whose limit rises.
+fn search_far(table: &Table, homing: &Homing, k: usize, least: u64, found: &mut BestList)
+    requires homing { AreHomingsOf table.now.edition table.now.trip homing.now }
+    requires some { 1 ≤ k }
+    requires few { k ≤ MOST_BEST }
+    requires ranked { IsRanked table.now.edition table.now.trip k found.old }
+    ensures { IsFirstK table.now.edition table.now.trip k found.new }
+{
+    sound(table, homing, k, found);
+    match found.price_of(k) {
+        None => walk_up(table, homing, k, least, found),
+        Some(limit) => {
+            let wanted = Wanted { count: k, limit };
+            let ceiling = Some(limit.saturating_sub(1));
+            search_to(table, homing, ceiling, wanted, found)
+        }
+    }
+}
+
+/// Finds the first `k`, by walks whose limit rises from the least price on until that many cost no more.
+fn walk_up(table: &Table, homing: &Homing, k: usize, least: u64, found: &mut BestList)
+    requires homing { AreHomingsOf table.now.edition table.now.trip homing.now }
+    requires some { 1 ≤ k }
+    requires few { k ≤ MOST_BEST }
+    requires ranked { IsRanked table.now.edition table.now.trip k found.old }
+    ensures { IsFirstK table.now.edition table.now.trip k found.new }
+{
     let mut above = least / STEPS;
     for _walk in 0..MOST_WALKS {
         let limit = least.saturating_add(above);
-        let ceiling = if far { Some(limit) } else { None };
-        let wanted = Wanted { count: k, limit };
-        walk_under(table, &homing, ceiling, wanted, found);
+        walk_all(table, homing, Wanted { count: k, limit }, found);
         if found.is_within(k, limit) {
             return;
         }
         above = above.saturating_mul(2);
     }
-    finish(table, &homing, far, k, found)
+    finish(table, homing, k, found)
 }
 
 /// Finds the first `k` by a walk up to the price of the `k`th of those that a dive is near, or else by one over all.
-fn finish(table: &Table, homing: &Homing, far: bool, k: usize, found: &mut BestList)
+fn finish(table: &Table, homing: &Homing, k: usize, found: &mut BestList)
     requires homing { AreHomingsOf table.now.edition table.now.trip homing.now }
     requires some { 1 ≤ k }
     requires few { k ≤ MOST_BEST }
@@ -91,13 +122,8 @@ fn finish(table: &Table, homing: &Homing, far: bool, k: usize, found: &mut BestL
     match found.price_of(k) {
         None => search_all(table, homing, k, found),
         Some(limit) => {
-            let ceiling = if far {
-                Some(limit.saturating_sub(1))
-            } else {
-                None
-            };
             let wanted = Wanted { count: k, limit };
-            search_to(table, homing, ceiling, wanted, found)
+            search_to(table, homing, None, wanted, found)
         }
     }
 }

@@ -1,8 +1,0 @@
-use Rattle.std.proofs.Common.{sym, ◌∙◌}
-use Rattle.fare_best.proofs.WalkedLemmas.{first_within}
-use Rattle.fare_best.proofs.first.rise.Goals as goal
-
-pub returns-then-is_within : goal.returns-then-is_within
-returns-then-is_within c =
-    first_within c.args.table.now.edition c.args.table.now.trip c.args.k c.saturating_add-limit.result c.loop-walk.found c.walk_under.new.found c.requires.some c.loop-walk.invariant
-    c.walk_under.ensures (sym c.is_within.ensures ∙ c.if-is_within.true)
