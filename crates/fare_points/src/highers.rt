@@ -4,7 +4,7 @@ ghost use Rattle.fare_trip.specs.Itinerary.{count};
 ghost use Rattle.fare_rules.specs.Base.{base, compared_from, higher};
 ghost use Rattle.fare_points.specs.Improved.{IsPairOf, amount_to_exceed, improved};
 
-use crate::comparison::{Compared, compared_pair};
+use crate::comparison::{Compared, Component};
 use crate::indicators::indicators_from;
 use fare_codes::Nuc;
 use fare_tariff::{Edition, FareRec};
@@ -46,30 +46,23 @@ fn better(amount: Nuc, best: Option<Compared>, found: Compared) -> Option<Compar
 
 /// The best pair once those that begin at a point of a component are compared.
 #[tactic(auto, using(crate::proofs::Highest::improved_past, crate::proofs::Highest::improved_next))]
-fn improved_from(
-    edition: &Edition,
-    trip: &Trip,
-    a: usize,
-    b: usize,
-    fare: &FareRec,
-    back: bool,
-    i: usize,
-    best: Option<Compared>,
-) -> Option<Compared>
-    requires begins { a ≤ i }
-    requires rises { i < b }
-    requires within { b ≤ count trip.now }
-    requires best { IfSome best (IsPairOf a b) }
-    ensures value { result ≡ improved fare.now.amount best (compared_from edition.now trip.now a b fare.now back i) }
-    ensures bound { IfSome result (IsPairOf a b) }
+fn improved_from(component: &Component, i: usize, best: Option<Compared>) -> Option<Compared>
+    requires begins { component.now.a ≤ i }
+    requires rises { i < component.now.b }
+    requires within { component.now.b ≤ count component.now.trip.now }
+    requires best { IfSome best (IsPairOf component.now.a component.now.b) }
+    ensures value { result ≡ improved component.now.fare.now.amount best
+        (compared_from component.now.edition.now component.now.trip.now component.now.a component.now.b
+        component.now.fare.now component.now.back i) }
+    ensures bound { IfSome result (IsPairOf component.now.a component.now.b) }
 {
-    let count = trip.count();
+    let (fare, b) = (component.fare, component.b);
+    let count = component.trip.count();
     prove!(b <= count);
-    let inds = indicators_from(edition, trip, i, b);
+    let inds = indicators_from(component.edition, component.trip, i, b);
     let mut best = best;
     for j in i..b {
-        let ind = inds[j + 1];
-        let found = compared_pair(edition, trip, ind, a, b, fare, back, i, j + 1);
+        let found = component.compared_pair(inds[j + 1], i, j + 1);
         best = improved(fare.amount, best, found);
     }
     best
@@ -93,9 +86,17 @@ pub fn higher(
     ensures base { base edition.now trip.now a b fare.now back ≡ amount_to_exceed fare.now.amount result }
     ensures bound { IfSome result (IsPairOf a b) }
 {
+    let component = Component {
+        edition,
+        trip,
+        a,
+        b,
+        fare,
+        back,
+    };
     let mut best = None;
     for i in a..b {
-        best = improved_from(edition, trip, a, b, fare, back, i, best);
+        best = improved_from(&component, i, best);
     }
     best
 }

@@ -54,22 +54,6 @@ fn amount_on(edition: &Edition, key: &FareKey, on: Day) -> Option<Nuc>
     }
 }
 
-/// The amount that is filed between two cities for an indicator by a carrier, with the class, kind and rule of a fare.
-fn amount_by(
-    edition: &Edition,
-    from: City,
-    to: City,
-    ind: Indicator,
-    fare: &FareRec,
-    carrier: Carrier,
-    on: Day,
-) -> Option<Nuc>
-    ensures value { result ≡ amount_on edition.now (key_by from to ind fare.now carrier) on }
-    ensures bound { IfSome result (λ amount. amount < FARE_LIMIT) }
-{
-    amount_on(edition, &key_by(from, to, ind, fare, carrier), on)
-}
-
 /// The reference fare from a city to another for an indicator, with which a fare is compared on a day: the amount that
 /// is filed there with the fare's class, kind and rule by its carrier and in season on the day, else by `YY` and in
 /// season; nothing exactly where neither is.
@@ -85,8 +69,8 @@ pub fn reference(
     ensures value { result ≡ reference edition.now from to ind fare.now on }
     ensures bound { IfSome result (λ amount. amount < FARE_LIMIT) }
 {
-    match amount_by(edition, from, to, ind, fare, fare.carrier, on) {
+    match amount_on(edition, &key_by(from, to, ind, fare, fare.carrier), on) {
         Some(amount) => Some(amount),
-        None => amount_by(edition, from, to, ind, fare, every_carrier(), on),
+        None => amount_on(edition, &key_by(from, to, ind, fare, every_carrier()), on),
     }
 }

@@ -7,8 +7,8 @@ use Rattle.fare_points.proofs.highers.improved_from.Given as goal
 
 abbrev pub invariant-loop-j : goal.invariant-loop-j
 invariant-loop-j l = record {
-  whole : improved l.fare.amount l.best (filter_map (compared_pair l.edition l.trip l.a l.b l.fare l.back l.i)
-      (numbers (l.j + 1) (l.b + 1))) ≡ improved l.fare.amount l.initial.best
-      (filter_map (compared_pair l.edition l.trip l.a l.b l.fare l.back l.i) (numbers (l.i + 1) (l.b + 1)));
-  bound : IfSome l.best (IsPairOf l.a l.b);
+  whole : improved l.component.fare.now.amount l.best (filter_map (compared_pair l.component.edition.now l.component.trip.now l.component.a l.component.b l.component.fare.now l.component.back l.i)
+      (numbers (l.j + 1) (l.component.b + 1))) ≡ improved l.component.fare.now.amount l.initial.best
+      (filter_map (compared_pair l.component.edition.now l.component.trip.now l.component.a l.component.b l.component.fare.now l.component.back l.i) (numbers (l.i + 1) (l.component.b + 1)));
+  bound : IfSome l.best (IsPairOf l.component.a l.component.b);
 }
