@@ -23,6 +23,15 @@ use fare_rules::{MOST_SECTORS, Part};
 use fare_tariff::{Edition, FareRec};
 use fare_trip::Trip;
 
+/// The places of some parts of a unit, and the trip and the edition whose references are looked up.
+#[derive(Clone, Copy)]
+struct Unit<'a> {
+    edition: &'a Edition,
+    trip: &'a Trip,
+    parts: &'a [Part],
+    own: &'a [usize],
+}
+
 /// Twice an amount below ten million NUC, where there is one.
 fn twice(amount: Option<Nuc>) -> Option<Nuc>
     requires { IfSome amount (λ amount. amount < 10 ^ 9) }
@@ -66,21 +75,21 @@ fn own_sectors(trip: &Trip, parts: &[Part], own: &[usize], i: usize) -> ArrayVec
 }
 
 /// The reference from a unit's origin to a point of one of its parts, for the fare of that part.
-fn reference_from_origin(
-    edition: &Edition,
-    trip: &Trip,
-    parts: &[Part],
-    own: &[usize],
-    k: usize,
-    i: usize,
-    fare: &FareRec,
-) -> Option<Nuc>
-    requires advances { Advances trip.now parts.now }
-    requires place { IsPlace parts.now k }
-    requires within { i ≤ count trip.now }
-    ensures value { result ≡ reference_from_origin edition.now trip.now parts.now own.now k i fare.now }
+fn reference_from_origin(unit: &Unit, k: usize, i: usize, fare: &FareRec) -> Option<Nuc>
+    requires advances { Advances unit.now.trip.now unit.now.parts.now }
+    requires place { IsPlace unit.now.parts.now k }
+    requires within { i ≤ count unit.now.trip.now }
+    ensures value { result
+        ≡ reference_from_origin unit.now.edition.now unit.now.trip.now unit.now.parts.now unit.now.own.now k i
+        fare.now }
     ensures bound { IfSome result (λ amount. amount < 10 ^ 9) }
 {
+    let Unit {
+        edition,
+        trip,
+        parts,
+        own,
+    } = *unit;
     let sectors = trip.count();
     prove!(i <= sectors);
     let from = origin(trip, parts, own);
@@ -93,76 +102,56 @@ fn reference_from_origin(
 
 /// The reference from a unit's origin to a point of a part.
 #[tactic(auto, unfolding(fare_rules::specs::Circle::circle_reference))]
-fn circle_reference(
-    edition: &Edition,
-    trip: &Trip,
-    parts: &[Part],
-    own: &[usize],
-    k: usize,
-    i: usize,
-) -> Option<Nuc>
-    requires advances { Advances trip.now parts.now }
-    requires place { IsPlace parts.now k }
-    requires within { i ≤ count trip.now }
-    ensures value { result ≡ circle_reference edition.now trip.now parts.now own.now k i }
+fn circle_reference(unit: &Unit, k: usize, i: usize) -> Option<Nuc>
+    requires advances { Advances unit.now.trip.now unit.now.parts.now }
+    requires place { IsPlace unit.now.parts.now k }
+    requires within { i ≤ count unit.now.trip.now }
+    ensures value { result
+        ≡ circle_reference unit.now.edition.now unit.now.trip.now unit.now.parts.now unit.now.own.now k i }
     ensures bound { IfSome result (λ amount. amount < 10 ^ 9) }
 {
-    match fare_of(edition, parts, k) {
+    match fare_of(unit.edition, unit.parts, k) {
         None => None,
-        Some(fare) => reference_from_origin(edition, trip, parts, own, k, i, fare),
+        Some(fare) => reference_from_origin(unit, k, i, fare),
     }
 }
 
 /// The greatest reference to an interior stopover of a span of a part.
 #[tactic(auto, using(crate::proofs::CircleSteps::stopovers_more, crate::proofs::CircleSteps::stopovers_over, crate::proofs::CircleSteps::stopovers_all))]
-fn greatest_stopover(
-    edition: &Edition,
-    trip: &Trip,
-    parts: &[Part],
-    own: &[usize],
-    k: usize,
-    a: usize,
-    b: usize,
-) -> Option<Nuc>
-    requires advances { Advances trip.now parts.now }
-    requires place { IsPlace parts.now k }
+fn greatest_stopover(unit: &Unit, k: usize, a: usize, b: usize) -> Option<Nuc>
+    requires advances { Advances unit.now.trip.now unit.now.parts.now }
+    requires place { IsPlace unit.now.parts.now k }
     requires rises { a < b }
-    requires within { b ≤ count trip.now }
+    requires within { b ≤ count unit.now.trip.now }
     ensures value { result
-        ≡ greatest_of (circle_reference edition.now trip.now parts.now own.now k) (stopovers trip.now a b) }
+        ≡ greatest_of (circle_reference unit.now.edition.now unit.now.trip.now unit.now.parts.now unit.now.own.now k)
+        (stopovers unit.now.trip.now a b) }
     ensures bound { IfSome result (λ amount. amount < 10 ^ 9) }
 {
     let mut found = None;
     for i in a + 1..b {
-        if !trip.sector(i).stop {
+        if !unit.trip.sector(i).stop {
             continue;
         }
-        found = greater(found, circle_reference(edition, trip, parts, own, k, i));
+        found = greater(found, circle_reference(unit, k, i));
     }
     found
 }
 
 /// The greatest reference to an interior stopover or the end of a span of a part.
 #[tactic(auto, using(crate::proofs::CircleSteps::with_end))]
-fn greatest_in_span(
-    edition: &Edition,
-    trip: &Trip,
-    parts: &[Part],
-    own: &[usize],
-    k: usize,
-    a: usize,
-    b: usize,
-) -> Option<Nuc>
-    requires advances { Advances trip.now parts.now }
-    requires place { IsPlace parts.now k }
+fn greatest_in_span(unit: &Unit, k: usize, a: usize, b: usize) -> Option<Nuc>
+    requires advances { Advances unit.now.trip.now unit.now.parts.now }
+    requires place { IsPlace unit.now.parts.now k }
     requires rises { a < b }
-    requires within { b ≤ count trip.now }
+    requires within { b ≤ count unit.now.trip.now }
     ensures value { result
-        ≡ greatest_of (circle_reference edition.now trip.now parts.now own.now k) (stopovers trip.now a b ++ b ∷ []) }
+        ≡ greatest_of (circle_reference unit.now.edition.now unit.now.trip.now unit.now.parts.now unit.now.own.now k)
+        (stopovers unit.now.trip.now a b ++ b ∷ []) }
     ensures bound { IfSome result (λ amount. amount < 10 ^ 9) }
 {
-    let inside = greatest_stopover(edition, trip, parts, own, k, a, b);
-    greater(inside, circle_reference(edition, trip, parts, own, k, b))
+    let inside = greatest_stopover(unit, k, a, b);
+    greater(inside, circle_reference(unit, k, b))
 }
 
 /// Whether a part is the one whose end is left out, where there is one.
@@ -176,44 +165,36 @@ fn is_left_out(left_out: Option<usize>, k: usize) -> bool
 }
 
 /// The greatest reference to an interior stopover of a part, or to its end but where that is left out.
-fn greatest_without(
-    edition: &Edition,
-    trip: &Trip,
-    parts: &[Part],
-    own: &[usize],
-    left_out: Option<usize>,
-    k: usize,
-) -> Option<Nuc>
-    requires advances { Advances trip.now parts.now }
-    requires place { IsPlace parts.now k }
-    ensures value { result ≡ greatest_without edition.now trip.now parts.now own.now left_out k }
+fn greatest_without(unit: &Unit, left_out: Option<usize>, k: usize) -> Option<Nuc>
+    requires advances { Advances unit.now.trip.now unit.now.parts.now }
+    requires place { IsPlace unit.now.parts.now k }
+    ensures value { result
+        ≡ greatest_without unit.now.edition.now unit.now.trip.now unit.now.parts.now unit.now.own.now left_out k }
     ensures bound { IfSome result (λ amount. amount < 10 ^ 9) }
 {
-    let a = start_of(trip, parts, k);
-    let b = end_of(parts, k);
+    let a = start_of(unit.trip, unit.parts, k);
+    let b = end_of(unit.parts, k);
     if is_left_out(left_out, k) {
-        return greatest_stopover(edition, trip, parts, own, k, a, b);
+        return greatest_stopover(unit, k, a, b);
     }
-    greatest_in_span(edition, trip, parts, own, k, a, b)
+    greatest_in_span(unit, k, a, b)
 }
 
 /// The greatest reference of the parts of some places, of which the end of one may be left out.
 #[tactic(auto, using(crate::proofs::CircleSteps::greatest_left, crate::proofs::CircleSteps::greatest_done, crate::proofs::OwnLemmas::place_at))]
-fn greatest_in_all(
-    edition: &Edition,
-    trip: &Trip,
-    parts: &[Part],
-    own: &[usize],
-    left_out: Option<usize>,
-) -> Option<Nuc>
-    requires advances { Advances trip.now parts.now }
-    requires places { ArePlaces parts.now own.now }
-    ensures value { result ≡ greatest_of (greatest_without edition.now trip.now parts.now own.now left_out) own.now }
+fn greatest_in_all(unit: &Unit, left_out: Option<usize>) -> Option<Nuc>
+    requires advances { Advances unit.now.trip.now unit.now.parts.now }
+    requires places { ArePlaces unit.now.parts.now unit.now.own.now }
+    ensures value { result
+        ≡ greatest_of
+        (greatest_without unit.now.edition.now unit.now.trip.now unit.now.parts.now unit.now.own.now left_out)
+        unit.now.own.now }
     ensures bound { IfSome result (λ amount. amount < 10 ^ 9) }
 {
+    let own = unit.own;
     let mut found = None;
     for i in 0..own.len() {
-        let here = greatest_without(edition, trip, parts, own, left_out, own[i]);
+        let here = greatest_without(unit, left_out, own[i]);
         found = greater(found, here);
     }
     found
@@ -232,8 +213,13 @@ pub(crate) fn unit_circle_minimum(
     ensures value { result ≡ unit_circle_minimum edition.now trip.now parts.now own.now }
     ensures bound { IfSome result (λ amount. amount < 2 * 10 ^ 9) }
 {
-    let home = Some(last_of(own));
-    twice(greatest_in_all(edition, trip, parts, own, home))
+    let unit = Unit {
+        edition,
+        trip,
+        parts,
+        own,
+    };
+    twice(greatest_in_all(&unit, Some(last_of(own))))
 }
 
 /// The circle minimum over the parts of some places.
@@ -243,7 +229,13 @@ fn minimum_in_all(edition: &Edition, trip: &Trip, parts: &[Part], own: &[usize])
     requires places { ArePlaces parts.now own.now }
     ensures { result ≡ circle_minimum edition.now trip.now parts.now own.now }
 {
-    twice(greatest_in_all(edition, trip, parts, own, None))
+    let unit = Unit {
+        edition,
+        trip,
+        parts,
+        own,
+    };
+    twice(greatest_in_all(&unit, None))
 }
 
 /// The circle minimum over the parts that are given of a unit: twice the greatest reference from the unit's origin to

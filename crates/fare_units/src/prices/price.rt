@@ -31,25 +31,35 @@ use fare_trip::Trip;
 /// What a unit costs at most, in hundredths of a NUC: as much as `MOST_PARTS` parts of the greatest amount.
 pub const MOST_UNIT_PRICE: u64 = 20_000_000_000;
 
-/// The component amount of the fare of a record number for a span, from a table where there is one.
+/// A component of a trip: a fare for the span from point `a` to point `b`.
+#[derive(Clone, Copy)]
+struct Component {
+    a: usize,
+    b: usize,
+    /// The record number of the fare.
+    fare: u32,
+    /// Whether the fare is priced from `b` to `a`.
+    back: bool,
+}
+
+/// The amount of a component, from a table where there is one.
 fn amount_of(
     edition: &Edition,
     trip: &Trip,
     known: Option<&Table>,
-    a: usize,
-    b: usize,
-    number: u32,
-    back: bool,
+    component: Component,
 ) -> Option<Amount>
     requires known { IfSome known (λ table. IsOf edition.now trip.now table.now) }
-    requires rises { a < b }
-    requires within { b ≤ count trip.now }
-    ensures value { result ≡ component_amount edition.now trip.now a b number back }
+    requires rises { component.a < component.b }
+    requires within { component.b ≤ count trip.now }
+    ensures value { result
+        ≡ component_amount edition.now trip.now component.a component.b component.fare component.back }
     ensures bound { IfSome result IsAmount }
 {
+    let Component { a, b, fare, back } = component;
     match known {
-        None => applicable(edition, trip, a, b, number, back),
-        Some(table) => table.amount(a, b, number, back),
+        None => applicable(edition, trip, a, b, fare, back),
+        Some(table) => table.amount(a, b, fare, back),
     }
 }
 
@@ -69,10 +79,13 @@ fn part_amount(
     ensures value { result ≡ part_amount edition.now trip.now parts.now own.now k }
     ensures bound { IfSome result IsAmount }
 {
-    let a = start_of(trip, parts, k);
-    let b = end_of(parts, k);
-    let back = is_back_in(edition, trip, parts, own, k);
-    amount_of(edition, trip, known, a, b, part_at(parts, k).fare, back)
+    let component = Component {
+        a: start_of(trip, parts, k),
+        b: end_of(parts, k),
+        fare: part_at(parts, k).fare,
+        back: is_back_in(edition, trip, parts, own, k),
+    };
+    amount_of(edition, trip, known, component)
 }
 
 /// The hundredths that a part of a unit costs.

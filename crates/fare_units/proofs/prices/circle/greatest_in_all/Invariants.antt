@@ -7,4 +7,4 @@ use Rattle.fare_units.specs.Turning.{greatest_without}
 use Rattle.fare_units.proofs.prices.circle.greatest_in_all.Given as goal
 
 abbrev pub invariant-loop-i : goal.invariant-loop-i
-invariant-loop-i l = (greater l.found (greatest_of (greatest_without l.edition l.trip l.parts l.own l.left_out) (drop l.i l.own)) ≡ greatest_of (greatest_without l.edition l.trip l.parts l.own l.left_out) l.own) × IfSome l.found (λ amount. amount < 10 ^ 9)
+invariant-loop-i l = (greater l.found (greatest_of (greatest_without l.unit.edition.now l.unit.trip.now l.unit.parts.now l.unit.own.now l.left_out) (drop l.i l.unit.own.now)) ≡ greatest_of (greatest_without l.unit.edition.now l.unit.trip.now l.unit.parts.now l.unit.own.now l.left_out) l.unit.own.now) × IfSome l.found (λ amount. amount < 10 ^ 9)

@@ -8,4 +8,4 @@ use Rattle.fare_rules.specs.Circle.{circle_reference}
 use Rattle.fare_units.proofs.prices.circle.greatest_stopover.Given as goal
 
 abbrev pub invariant-loop-i : goal.invariant-loop-i
-invariant-loop-i l = (greater l.found (greatest_of (circle_reference l.edition l.trip l.parts l.own l.k) (filter (is_stopover l.trip) (numbers l.i l.b))) ≡ greatest_of (circle_reference l.edition l.trip l.parts l.own l.k) (filter (is_stopover l.trip) (numbers (l.a + 1) l.b))) × IfSome l.found (λ amount. amount < 10 ^ 9)
+invariant-loop-i l = (greater l.found (greatest_of (circle_reference l.unit.edition.now l.unit.trip.now l.unit.parts.now l.unit.own.now l.k) (filter (is_stopover l.unit.trip.now) (numbers l.i l.b))) ≡ greatest_of (circle_reference l.unit.edition.now l.unit.trip.now l.unit.parts.now l.unit.own.now l.k) (filter (is_stopover l.unit.trip.now) (numbers (l.a + 1) l.b))) × IfSome l.found (λ amount. amount < 10 ^ 9)
