@@ -22,6 +22,14 @@ use fare_units::{Construction, Quoter, lawful_price};
 use std::alloc::Global;
 use std::thread::Threads;
 
+/// A line that is presented for a trip, and the edition by which it is audited.
+#[derive(Clone, Copy)]
+struct Presented<'a> {
+    edition: &'a Edition,
+    trip: &'a Trip,
+    line: &'a Line,
+}
+
 /// The verdict on a line that is presented for a trip in an edition: the first that applies of another trip, a part
 /// without a record, a broken rule, other figures, and lawful, where the quoter gives the least price.
 pub fn audit<R: Threads + Sync, Q: Quoter>(
@@ -38,7 +46,12 @@ pub fn audit<R: Threads + Sync, Q: Quoter>(
         Some(number) => Ok(Verdict::OtherTrip(number)),
         None => {
             parts_advance(trip, line);
-            audit_records(rt, alloc, quoter, edition, trip, line)
+            let presented = Presented {
+                edition,
+                trip,
+                line,
+            };
+            audit_records(rt, alloc, quoter, &presented)
         }
     }
 }
@@ -48,19 +61,22 @@ fn audit_records<R: Threads + Sync, Q: Quoter>(
     rt: &R,
     alloc: Global,
     quoter: &Q,
-    edition: &Edition,
-    trip: &Trip,
-    line: &Line,
+    presented: &Presented,
 ) -> Result<Verdict, NoMemory>
-    requires advances { Advances trip.now (bare_parts line.now) }
-    requires few { length line.now.parts ≤ 16 }
-    ensures { IfOk result (IsRecordsVerdict edition.now trip.now line.now) }
+    requires advances { Advances presented.now.trip.now (bare_parts presented.now.line.now) }
+    requires few { length presented.now.line.now.parts ≤ 16 }
+    ensures { IfOk result (IsRecordsVerdict presented.now.edition.now presented.now.trip.now presented.now.line.now) }
 {
+    let Presented {
+        edition,
+        trip,
+        line,
+    } = *presented;
     match unrecorded(edition, trip, line) {
         Some(place) => Ok(Verdict::NoRecord(place)),
         None => {
             let parts = construction_of(edition, trip, line);
-            audit_rules(rt, alloc, quoter, edition, trip, line, &parts)
+            audit_rules(rt, alloc, quoter, presented, &parts)
         }
     }
 }
@@ -70,16 +86,15 @@ fn audit_rules<R: Threads + Sync, Q: Quoter>(
     rt: &R,
     alloc: Global,
     quoter: &Q,
-    edition: &Edition,
-    trip: &Trip,
-    line: &Line,
+    presented: &Presented,
     parts: &Construction,
 ) -> Result<Verdict, NoMemory>
-    ensures { IfOk result (IsRulesVerdict edition.now trip.now line.now parts.now) }
+    ensures { IfOk result
+        (IsRulesVerdict presented.now.edition.now presented.now.trip.now presented.now.line.now parts.now) }
 {
-    match lawful_price(edition, trip, parts) {
+    match lawful_price(presented.edition, presented.trip, parts) {
         Err(broken) => Ok(Verdict::Broken(broken)),
-        Ok(price) => audit_figures(rt, alloc, quoter, edition, trip, line, parts, price),
+        Ok(price) => audit_figures(rt, alloc, quoter, presented, parts, price),
     }
 }
 
@@ -88,16 +103,20 @@ fn audit_figures<R: Threads + Sync, Q: Quoter>(
     rt: &R,
     alloc: Global,
     quoter: &Q,
-    edition: &Edition,
-    trip: &Trip,
-    line: &Line,
+    presented: &Presented,
     parts: &Construction,
     price: u64,
 ) -> Result<Verdict, NoMemory>
-    requires { lawful_price edition.now trip.now parts.now ≡ Ok price }
+    requires { lawful_price presented.now.edition.now presented.now.trip.now parts.now ≡ Ok price }
     ensures { IfOk result
-        (IsFiguresVerdict edition.now trip.now line.now (line_of edition.now trip.now parts.now) price) }
+        (IsFiguresVerdict presented.now.edition.now presented.now.trip.now presented.now.line.now
+        (line_of presented.now.edition.now presented.now.trip.now parts.now) price) }
 {
+    let Presented {
+        edition,
+        trip,
+        line,
+    } = *presented;
     let one = Priced {
         edition,
         trip,
@@ -106,7 +125,7 @@ fn audit_figures<R: Threads + Sync, Q: Quoter>(
     };
     let made = line_by(&Sheets::of(&one));
     if is_same_line(alloc, line, &made)? {
-        audit_price(rt, alloc, quoter, edition, trip, parts, price)
+        audit_price(rt, alloc, quoter, presented, parts, price)
     } else {
         Ok(Verdict::Figures(first_figure(line.parts.as_slice(), made.parts.as_slice())))
     }
@@ -117,14 +136,14 @@ fn audit_price<R: Threads + Sync, Q: Quoter>(
     rt: &R,
     alloc: Global,
     quoter: &Q,
-    edition: &Edition,
-    trip: &Trip,
+    presented: &Presented,
     parts: &Construction,
     price: u64,
 ) -> Result<Verdict, NoMemory>
-    requires { lawful_price edition.now trip.now parts.now ≡ Ok price }
-    ensures { IfOk result (IsPriceVerdict edition.now trip.now price) }
+    requires { lawful_price presented.now.edition.now presented.now.trip.now parts.now ≡ Ok price }
+    ensures { IfOk result (IsPriceVerdict presented.now.edition.now presented.now.trip.now price) }
 {
+    let (edition, trip) = (presented.edition, presented.trip);
     match quoter.quote(rt, alloc, edition, trip)? {
         // This construction is lawful, so there is a best one.
         None => Ok(Verdict::Lawful { price, over: 0 }),
