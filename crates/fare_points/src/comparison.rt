@@ -65,8 +65,8 @@ impl Component<'_> {
         requires rises { i < j }
         requires within { j ≤ count self.now.trip.now }
         requires indicator { ind ≡ indicator self.now.edition.now self.now.trip.now i j }
-        ensures value { result ≡ reference_between self.now.edition.now self.now.trip.now self.now.fare.now self.now.back
-            (first_day self.now.trip.now self.now.a) i j }
+        ensures value { result ≡ reference_between self.now.edition.now self.now.trip.now self.now.fare.now
+            self.now.back (first_day self.now.trip.now self.now.a) i j }
         ensures bound { IfSome result (λ amount. amount < FARE_LIMIT) }
     {
         let on = self.trip.sector(self.a + 1).day;
