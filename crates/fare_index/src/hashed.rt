@@ -11,6 +11,9 @@ use std::hash::{FoldHasher, Hash, Hasher};
 use std::marker::Sync;
 use std::thread::Threads;
 
+/// How many keys a thread makes or hashes at least: its start takes as long as some thousand of them.
+pub const FEWEST_APART: usize = 8_192;
+
 /// The hash of a key, whose kind and indicator are told apart by its mark.
 #[tactic(auto, unfolding(crate::specs::Hashed::hash_of))]
 pub(crate) fn hash_of(key: &Key) -> u64
@@ -43,6 +46,7 @@ pub(crate) fn hash_side_by_side<R: Threads + Sync>(
     ensures { IfOk result (λ hashes. hashes.items ≡ map hash_of keys.now) }
 {
     keys.par_iter()
+        .with_min_len(FEWEST_APART)
         .map(
             |key: &Key| -> u64
                 ensures { result ≡ hash_of key.now }

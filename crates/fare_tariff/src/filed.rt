@@ -11,7 +11,7 @@ ghost use Rattle.fare_tariff.specs.Keyed.{own_key, has_own_key, IsAmong};
 use crate::records::{FareRec, Record};
 use crate::towns::Towns;
 use fare_codes::City;
-use fare_index::{Index, Key};
+use fare_index::{FEWEST_APART, Index, Key};
 use fare_outside::NoMemory;
 use rayon::prelude::*;
 use std::alloc::{AllocError, Global};
@@ -144,6 +144,7 @@ fn collect_keys<R: Threads + Sync>(
 {
     records
         .par_iter()
+        .with_min_len(FEWEST_APART)
         .map(
             |one: &Record| -> Key
                 ensures { (result ≡ own_key one.now) × (has_amount_in_range one.now ≡ true) }
