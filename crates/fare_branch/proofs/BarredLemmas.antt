@@ -1,14 +1,13 @@
 -- First parts that the rules on stays and on combined fares bar have no completion.
-use Rattle.std.proofs.Common.{◌≡◌, ℕ, ◌+◌, ◌-◌, ◌≤◌, Bool, true, false, ◌&&◌, not, List, [], ◌∷◌, ◌++◌, length, refl, ap, sym, subst, ◌∙◌, inl, inr, arith}
-use Rattle.std.specs.List.{list_any}
+use Rattle.std.proofs.Common.{◌≡◌, ℕ, ◌+◌, ◌-◌, ◌≤◌, Bool, true, false, ◌&&◌, List, [], ◌∷◌, ◌++◌, length, refl, ap, sym, subst, ◌∙◌, inl, inr, arith}
 use Rattle.std.proofs.Math.ListN.{length-append}
 use Rattle.std.proofs.lemmas.Bool.{or_cases, and_parts, eq-eqb, eqb-false}
 use Rattle.fare_trip.specs.Itinerary.{Itinerary}
 use Rattle.fare_tariff.specs.Tariff.{Tariff}
 use Rattle.fare_rules.specs.declared.part.Part.{Part}
-use Rattle.fare_rules.specs.Construction.{places, own, is_own, last_of, greatest_unit, unit_of, is_misnumbered, misnumbered}
+use Rattle.fare_rules.specs.Construction.{places, own, is_own, greatest_unit, unit_of, is_misnumbered, misnumbered}
 use Rattle.fare_rules.specs.Shape.{is_hr}
-use Rattle.fare_rules.specs.UnitRules.{stay, allows_stay_of, forbids_stay, is_mistimed, mistimed, is_misfit, has_misfit, is_misfitted, misfitted, is_clash, clashes, clashed}
+use Rattle.fare_rules.specs.UnitRules.{is_mistimed, mistimed, is_misfit, has_misfit, is_misfitted, misfitted, is_clash, clashes, clashed}
 use Rattle.fare_rules.specs.Best.{IsLawful}
 use Rattle.fare_rules.proofs.CoverLemmas.{both_false}
 use Rattle.fare_rules.proofs.LawfulLemmas.{IsKept, kept}
@@ -17,10 +16,12 @@ use Rattle.fare_rules.proofs.NumberLemmas.{find_none}
 use Rattle.fare_units.specs.Barred.{is_uncombined, is_untimely}
 use Rattle.fare_units.specs.Shut.{is_shut}
 use Rattle.fare_units.proofs.ShutLemmas.{shut_has_parts}
-use Rattle.fare_units.proofs.NextLemmas.{any_same, front_start, front_unit, same_unit_front}
+use Rattle.fare_units.proofs.NextLemmas.{any_same, front_unit, same_unit_front}
 use Rattle.fare_floors.specs.Floors.{HasNoCompletion}
-use Rattle.fare_floors.proofs.SameLemmas.{AreFirst, any_eq, fare_same, hr_same, last_member}
+use Rattle.fare_floors.specs.Stays.{is_outside}
+use Rattle.fare_floors.proofs.SameLemmas.{AreFirst, fare_same, hr_same}
 use Rattle.fare_floors.proofs.ShutLemmas.{any_at, own_are_first, shut_own}
+use Rattle.fare_floors.proofs.StayLemmas.{outside_same}
 use Rattle.fare_floors.proofs.SumLemmas.{unit_up_to}
 
 true_false : true ≡ false → ⊥
@@ -43,28 +44,12 @@ module _ (tariff : Tariff) (trip : Itinerary) (front rest : List Part) where
   clashes_same : (k : ℕ) → 1 ≤ k → k ≤ length front → clashes tariff (front ++ rest) k ≡ clashes tariff front k
   clashes_same k low high = any_same (is_clash tariff (front ++ rest) k) (is_clash tariff front k) 1 (k - 1) (λ j jl jh. clash_same k j low high jl (omega arith))
 
-  -- and a unit of the front stays as long
-  stay_same : (x : ℕ) (xs : List ℕ) → AreFirst tariff trip front rest (x ∷ xs) → stay trip (front ++ rest) (x ∷ xs) ≡ stay trip front (x ∷ xs)
-  unfolding stay
-  stay_same x xs first =
-      let a = first x (inl refl) in
-      let z = first (last_of (x ∷ xs)) (last_member x xs) in
-      rw (front_start trip front rest (last_of (x ∷ xs)) z.0 z.1, front_start trip front rest x a.0 a.1) refl
+  -- the stay of half round trips at some places is outside the rule of one of them
+  abbrev is_late : List Part → List ℕ → Bool
+  is_late parts xs = is_hr tariff parts xs && is_outside tariff trip parts xs
 
-  -- the stay of the parts at some places is outside the rule of one of them
-  abbrev is_outside : List Part → List ℕ → Bool
-  is_outside parts xs = is_hr tariff parts xs && list_any (forbids_stay tariff parts (stay trip parts xs)) xs
-
-  outside_same : (xs : List ℕ) → AreFirst tariff trip front rest xs → is_outside (front ++ rest) xs ≡ is_outside front xs
-  outside_same [] first = rw (hr_same tariff trip front rest [] first) refl
-  outside_same (x ∷ xs) first =
-      let days : ℕ = stay trip front (x ∷ xs) in
-      let stays : list_any (forbids_stay tariff (front ++ rest) (stay trip (front ++ rest) (x ∷ xs))) (x ∷ xs) ≡ list_any (forbids_stay tariff (front ++ rest) days) (x ∷ xs) =
-      ap (λ (d : ℕ). list_any (forbids_stay tariff (front ++ rest) d) (x ∷ xs)) (stay_same x xs first) in
-      let forbids : list_any (forbids_stay tariff (front ++ rest) days) (x ∷ xs) ≡ list_any (forbids_stay tariff front days) (x ∷ xs) =
-      any_eq (forbids_stay tariff (front ++ rest) days) (forbids_stay tariff front days) (x ∷ xs)
-      (λ k m. ap (λ fare. not (allows_stay_of tariff days fare)) (fare_same tariff trip front rest k (first k m).0 (first k m).1)) in
-      both_same (is_hr tariff (front ++ rest) (x ∷ xs)) (is_hr tariff front (x ∷ xs)) _ _ (hr_same tariff trip front rest (x ∷ xs) first) (stays ∙ forbids)
+  late_same : (xs : List ℕ) → AreFirst tariff trip front rest xs → is_late (front ++ rest) xs ≡ is_late front xs
+  late_same xs first = both_same (is_hr tariff (front ++ rest) xs) (is_hr tariff front xs) (is_outside tariff trip (front ++ rest) xs) (is_outside tariff trip front xs) (hr_same tariff trip front rest xs first) (outside_same tariff trip front rest xs first)
 
   module _ (cost : ℕ) (lawful : IsLawful tariff trip (front ++ rest) cost) (some : 1 ≤ length front) where
     in_all : length front ≤ length (front ++ rest)
@@ -123,7 +108,7 @@ module _ (tariff : Tariff) (trip : Itinerary) (front rest : List Part) where
         let most : unit_of front (length front) ≤ greatest_unit (front ++ rest) (places (front ++ rest)) = subst Q last_unit high in
         let same : own (front ++ rest) (unit_of front (length front)) ≡ own front (unit_of front (length front)) = shut_own tariff trip front rest cost lawful (unit_of front (length front)) least most both.0 in
         let here : is_mistimed tariff trip (front ++ rest) (unit_of front (length front)) ≡ is_mistimed tariff trip front (unit_of front (length front)) =
-        ap (is_outside (front ++ rest)) same ∙ outside_same (own front (unit_of front (length front))) (own_are_first tariff trip front rest (unit_of front (length front))) in
+        ap (is_late (front ++ rest)) same ∙ late_same (own front (unit_of front (length front))) (own_are_first tariff trip front rest (unit_of front (length front))) in
         true_false (sym both.1 ∙ sym here ∙ find_none (is_mistimed tariff trip (front ++ rest)) 1 (greatest_unit (front ++ rest) (places (front ++ rest)) + 1) holds.stay (unit_of front (length front)) least (omega arith))
 
 -- no part is barred where there is none

@@ -15,7 +15,8 @@ use Rattle.fare_rules.specs.ComponentAmount.{component_amount}
 use Rattle.fare_rules.specs.Completion.{Choice, choice, choices_to, first_part_choices, may_begin, record_numbers}
 use Rattle.fare_component.specs.declared.table.entry.Entry.{Entry}
 use Rattle.fare_component.specs.Table.{entries_of, entry_at, is_span}
-use Rattle.fare_branch.specs.Beginnings.{AreCounts, begins, outward, fare_of_entry}
+use Rattle.fare_branch.specs.Beginnings.{AreCounts, begins, outward}
+use Rattle.fare_floors.specs.Costs.{fare_of_entry}
 
 -- the fares of entries that may begin
 abbrev pub fares : List Entry → List ℕ

@@ -3,7 +3,6 @@ pub mod StepLemmas
 pub mod ChoiceLemmas
 pub mod PieceLemmas
 pub mod LeastLemmas
-pub mod EntryLemmas
 pub mod WholeLemmas
 pub mod BarredLemmas
 pub mod DiveLemmas

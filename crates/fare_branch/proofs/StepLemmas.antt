@@ -1,8 +1,8 @@
 -- The steps of a pruned walk: over ends, entries and units, and from some parts to those that follow.
-use Rattle.std.proofs.Common.{◌≡◌, ℕ, ◌+◌, ◌<◌, ◌≤◌, ◌⊎◌, true, false, List, [], ◌∷◌, ◌++◌, length, map, take, get_or, cond, Option, Some, None, refl, ap, subst, sym, ◌∙◌, inl, inr, arith}
+use Rattle.std.proofs.Common.{◌≡◌, ℕ, ◌+◌, ◌<◌, ◌≤◌, ◌⊎◌, true, List, [], ◌∷◌, ◌++◌, length, map, take, get_or, cond, Option, Some, None, refl, ap, subst, sym, ◌∙◌, inl, inr, arith}
 use Rattle.std.specs.List.{filter_map, cons_option}
 use Rattle.std.proofs.lemmas.List.{append_assoc, append-nil, take_more, map-append}
-use Rattle.std.proofs.lemmas.Bool.{cases_lt, lt-ltb, le-leb, ltb-true, leb-true, and_parts}
+use Rattle.std.proofs.lemmas.Bool.{cases_lt, lt-ltb, le-leb}
 use Rattle.fare_trip.specs.Itinerary.{Itinerary, count}
 use Rattle.fare_tariff.specs.Tariff.{Tariff}
 use Rattle.fare_rules.specs.declared.part.Part.{Part}
@@ -16,7 +16,8 @@ use Rattle.fare_units.specs.Walk.{Completes, GoesOn, AnyPart, EndsAt, HasFare, H
 use Rattle.fare_units.proofs.NextLemmas.{next_rises, next_within, next_numbered, next_filed, next_served}
 use Rattle.fare_units.proofs.StepLemmas.{end_before_next}
 use Rattle.fare_component.specs.declared.table.entry.Entry.{Entry}
-use Rattle.fare_floors.specs.Floors.{HasNoCompletion, IsFloor, may_follow}
+use Rattle.fare_floors.specs.Floors.{HasNoCompletion, IsFloor}
+use Rattle.fare_floors.proofs.FollowLemmas.{member_snoc}
 use Rattle.fare_component.specs.Table.{entries_of, entry_of, entry_at, has_amount, is_span}
 use Rattle.fare_branch.specs.Walked.{IsWalk, is_beaten}
 use Rattle.fare_branch.proofs.WalkedLemmas.{walk_left_out, walk_nothing, walk_then, walk_within, beaten_is_passed}
@@ -36,9 +37,6 @@ fare_of_entry entry = entry.fare
 abbrev pub HasEntry : ℕ → List Entry → Part → Type 0
 HasEntry end entries part = (part.end ≡ end) × Member part.fare (map fare_of_entry entries)
 
-true_false : true ≡ false → ⊥
-true_false e = cc
-
 -- a list that goes on in one of two ways
 goes_either : (front : List Part) (M P Q : Part → Type 0) → ((q : Part) → M q → P q ⊎ Q q) → (parts : List Part) → GoesOn front M parts → GoesOn front P parts ⊎ GoesOn front Q parts
 goes_either front M P Q each parts g =
@@ -49,13 +47,6 @@ goes_either front M P Q each parts g =
 
 goes_too : (front : List Part) (M P : Part → Type 0) → ((q : Part) → M q → P q) → (parts : List Part) → GoesOn front M parts → GoesOn front P parts
 goes_too front M P each parts g = record { next = g.next; rest = g.rest; whole = g.whole; meets = each g.next g.meets }
-
--- a fare of some entries and one more is that of one of them or of the one
-pub member_snoc : (xs : List ℕ) (x y : ℕ) → Member y (xs ++ x ∷ []) → Member y xs ⊎ (y ≡ x)
-member_snoc [] x y (inl e) = inr e
-member_snoc [] x y (inr h) = absurd h
-member_snoc (z ∷ xs) x y (inl e) = inl (inl e)
-member_snoc (z ∷ xs) x y (inr h) = elim (member_snoc xs x y h) [ inl m ↦ inl (inr m) | inr e ↦ inr e ]
 
 in_front : (one : Entry) (o : Option Entry) (rest : List Entry) → Member one rest → Member one (cons_option o rest)
 in_front one None rest m = m
@@ -267,27 +258,3 @@ module _ (tariff : Tariff) (trip : Itinerary) (front : List Part) where
       (λ parts price l g.
       let c : Completes (front ++ part ∷ []) parts = completes_part part parts g in
       inr (beaten_is_passed best (front ++ part ∷ []) c.rest parts floor price beaten (up parts price (is_completion part parts price l g)) c.whole))
-
-  -- a part that may not follow completes nothing
-  pub none_follows : (part : Part) → may_follow trip front part ≡ false → HasNoCompletion tariff trip (front ++ part ∷ [])
-  none_follows part none parts price c =
-      let whole : parts ≡ front ++ part ∷ c.begins.0 = c.begins.1 ∙ append_assoc front (part ∷ []) c.begins.0 in
-      let P : List Part → Type 0 = λ xs. IsLawful tariff trip xs price in
-      let l : IsLawful tariff trip (front ++ part ∷ c.begins.0) price = subst P whole c.lawful in
-      let rises : next_start trip front < part.end = next_rises tariff trip front part c.begins.0 price l in
-      let within : part.end ≤ count trip = next_within tariff trip front part c.begins.0 price l in
-      let numbered : (1 ≤ part.unit) × (part.unit ≤ greatest_unit front (places front) + 1) = next_numbered tariff trip front part c.begins.0 price l in
-      let follows : may_follow trip front part ≡ true = rw (lt-ltb (next_start trip front) part.end rises, le-leb part.end (count trip) within, le-leb part.unit (greatest_unit front (places front) + 1) numbered.1) refl in
-      true_false (sym follows ∙ none)
-
--- what a part that may follow meets
-pub record Follows (trip : Itinerary) (front : List Part) (part : Part) : Type 0 where
-  pub rises : next_start trip front < part.end
-  pub within : part.end ≤ count trip
-  pub ordered : part.unit ≤ greatest_unit front (places front) + 1
-
-pub follows : (trip : Itinerary) (front : List Part) (part : Part) → may_follow trip front part ≡ true → Follows trip front part
-follows trip front part h =
-    let first = and_parts _ _ h in
-    let second = and_parts _ _ first.0 in
-    record { rises = ltb-true _ _ second.0; within = leb-true _ _ second.1; ordered = leb-true _ _ first.1 }

@@ -13,10 +13,6 @@ begins entry = is_some entry.out
 abbrev pub outward : List Entry → List Entry
 outward entries = filter begins entries
 
--- the record number of an entry's fare
-abbrev pub fare_of_entry : Entry → ℕ
-fare_of_entry entry = entry.fare
-
 -- counts are of the entries that may begin, by the points where they end
 abbrev pub AreCounts : Tariff → Itinerary → List ℕ → Type 0
 AreCounts tariff trip counts =

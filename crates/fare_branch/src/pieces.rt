@@ -4,7 +4,8 @@
 ghost use Rattle.std.specs.Prelude.{◌≡◌, ◌≤◌, ◌<◌, ◌*◌, length, filter, map, slice_get, IfSome};
 ghost use Rattle.fare_trip.specs.Itinerary.{count};
 ghost use Rattle.fare_rules.specs.Completion.{first_part_choices, choices_to};
-ghost use Rattle.fare_branch.specs.Beginnings.{AreCounts, begins, outward, fare_of_entry};
+ghost use Rattle.fare_branch.specs.Beginnings.{AreCounts, begins, outward};
+ghost use Rattle.fare_floors.specs.Costs.{fare_of_entry};
 
 use fare_component::{Entry, Table};
 use fare_rules::MOST_POINTS;

@@ -1,7 +1,7 @@
 -- A part between the first and the last of a unit is not too dear for a ceiling that its construction is under: twice
 -- its reference from where the unit began is no more than the circle minimum, and that no more than the price.
-use Rattle.std.proofs.Common.{◌≡◌, ℕ, suc, ◌+◌, ◌-◌, ◌*◌, ◌<◌, ◌≤◌, Bool, true, false, ◌&&◌, ◌||◌, eqb, ltb, List, [], ◌∷◌, ◌++◌, length, refl, ap, sym, subst, ◌∙◌, inl, inr, arith}
-use Rattle.std.specs.Prelude.{Option, Some, None, option_and_then, option_map, nat_lt, sum_by, max}
+use Rattle.std.proofs.Common.{◌≡◌, ℕ, ◌+◌, ◌-◌, ◌*◌, ◌<◌, ◌≤◌, Bool, true, false, ◌&&◌, ◌||◌, eqb, ltb, List, [], ◌∷◌, length, refl, ap, sym, subst, ◌∙◌, inl, inr, arith}
+use Rattle.std.specs.Prelude.{Option, Some, None, option_and_then, option_map, sum_by, max}
 use Rattle.std.specs.List.{list_any, list_all, range_with_len}
 use Rattle.std.proofs.lemmas.Bool.{cases_Bool, lt-ltb, le-leb, ltb-true, ne_eqb}
 use Rattle.std.proofs.lemmas.List.Sums.{sum_by-cons}
@@ -16,16 +16,15 @@ use Rattle.fare_tariff.specs.Record.{FareRecord}
 use Rattle.fare_tariff.specs.Tariff.{Tariff}
 use Rattle.fare_tariff.specs.Lookup.{fare_at}
 use Rattle.fare_rules.specs.declared.part.Part.{Part}
-use Rattle.fare_rules.specs.declared.unit_sheet.UnitKind.{UnitKind}
 use Rattle.fare_rules.specs.declared.unit_sheet.UnitKind.TheVariants.{CT}
 use Rattle.fare_rules.specs.Best.{IsLawful}
-use Rattle.fare_rules.specs.Circle.{circle_reference, holds_sector, is_own_sector, own_sectors, part_points, part_stopovers, reference_from_origin, greatest_turning, turning_points, twice, unit_circle_minimum}
-use Rattle.fare_rules.specs.Construction.{end_of, fare_of, greatest_unit, last_of, origin, own, part_at, places, start_of, unit_of, units}
-use Rattle.fare_rules.specs.Indicator.{crosses_atlantic, crosses_pacific, indicator, indicator_by, indicator_of, is_within_one}
+use Rattle.fare_rules.specs.Circle.{circle_reference, holds_sector, is_own_sector, own_sectors, part_points, part_stopovers, greatest_turning, twice, unit_circle_minimum}
+use Rattle.fare_rules.specs.Construction.{end_of, greatest_unit, last_of, origin, own, part_at, places, start_of, unit_of, units}
+use Rattle.fare_rules.specs.Indicator.{crosses_atlantic, crosses_pacific, indicator_by, indicator_of, is_within_one}
 use Rattle.fare_rules.specs.Numbers.{greatest_of, numbers}
 use Rattle.fare_rules.specs.Reference.{reference}
 use Rattle.fare_rules.specs.Shape.{closes, holds_ow, is_jaw, is_open_jaw}
-use Rattle.fare_rules.specs.Span.{first_day, sectors}
+use Rattle.fare_rules.specs.Span.{first_day}
 use Rattle.fare_rules.specs.UnitPrice.{are_two_equal, at_least, is_round_trip, part_cost, price, unit_kind, unit_minimum, unit_price, unit_sheet, unit_sum}
 use Rattle.fare_rules.proofs.LawfulLemmas.{price_of_lawful}
 use Rattle.fare_rules.proofs.MemberLemmas.{Member, member_filter, member_numbers, member_right}

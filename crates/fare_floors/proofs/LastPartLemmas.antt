@@ -1,7 +1,7 @@
 -- Which part may be the last of a unit that goes on behind the first parts of a lawful construction, and that what is
 -- known of its cost is under what is behind.
 use Rattle.std.proofs.Common.{◌≡◌, ℕ, zero, suc, ◌+◌, ◌-◌, ◌<◌, ◌≤◌, Bool, true, false, ◌||◌, not, List, [], ◌∷◌, ◌++◌, length, set, refl, ap, sym, subst, ◌∙◌, inl, inr, arith}
-use Rattle.std.specs.Prelude.{Option, None, filter}
+use Rattle.std.specs.Prelude.{Option, None}
 use Rattle.std.specs.List.{list_any, range_with_len}
 use Rattle.std.proofs.Math.ListN.{length-append}
 use Rattle.std.proofs.lemmas.Bool.{cases_eq}
@@ -12,7 +12,7 @@ use Rattle.fare_trip.specs.Itinerary.{Itinerary}
 use Rattle.fare_tariff.specs.Tariff.{Tariff}
 use Rattle.fare_tariff.specs.Lookup.{fare_at}
 use Rattle.fare_rules.specs.declared.part.Part.{Part}
-use Rattle.fare_rules.specs.Construction.{end_of, fare_of, first_of, greatest_unit, is_own, last_of, own, part_at, places, start_of, unit_of}
+use Rattle.fare_rules.specs.Construction.{end_of, fare_of, first_of, greatest_unit, last_of, own, part_at, places, start_of, unit_of}
 use Rattle.fare_rules.specs.Numbers.{numbers}
 use Rattle.fare_rules.specs.Span.{first_day}
 use Rattle.fare_rules.specs.Shape.{is_ow}
@@ -25,14 +25,14 @@ use Rattle.fare_units.specs.Barred.{is_uncombined}
 use Rattle.fare_units.proofs.NextLemmas.{front_start, front_unit, next_part}
 use Rattle.fare_bounds.specs.Covers.{rest_at}
 use Rattle.fare_homing.specs.Homing.{IsUpTo}
-use Rattle.fare_floors.specs.LastParts.{forbids_any, may_be_last, stay_until}
+use Rattle.fare_floors.specs.LastParts.{may_be_last, stay_until}
 use Rattle.fare_floors.specs.Stack.{goes_on}
+use Rattle.fare_floors.specs.Stays.{forbids_any}
 use Rattle.fare_floors.proofs.GoesOnLemmas.{going_on, not_so}
 use Rattle.fare_floors.proofs.PairLemmas.{allows, fits, last_half, not_true, own_place}
 use Rattle.fare_floors.proofs.SameLemmas.{fare_same}
 use Rattle.fare_floors.proofs.ShutLemmas.{any_at, both_true}
 use Rattle.fare_floors.proofs.StackFloorLemmas.{first_is, firsts, has_first_in}
-use Rattle.fare_floors.proofs.StackRowLemmas.{own_here, own_over, own_done}
 use Rattle.fare_floors.proofs.UnitLemmas.{own_has, unit_in}
 
 true_false : true ≡ false → ⊥
@@ -53,23 +53,6 @@ row_kept row p item within kept i most up =
 -- no number stands past the end of a row
 pub none_past : (row : List (Option ℕ)) (i most : ℕ) → length row ≤ i → IsUpTo most (rest_at row i) → ⊥
 none_past row i most past up = none-some up.0 (sym (get_or_past row i None past) ∙ up.1)
-
--- whether the rule of some part of a unit, of those from a place on, does not allow a stay
-abbrev pub forbids_from : Tariff → List Part → ℕ → ℕ → ℕ → ℕ → Bool
-forbids_from tariff parts unit days k past = list_any (forbids_stay tariff parts days) (filter (is_own parts unit) (numbers k past))
-
-module _ (tariff : Tariff) (parts : List Part) (unit days k past : ℕ) where
-  pub forbids_over : k < past → (unit_of parts k ≡ unit → ⊥) → forbids_from tariff parts unit days k past ≡ forbids_from tariff parts unit days (k + 1) past
-  forbids_over h other = ap (list_any (forbids_stay tariff parts days)) (own_over parts unit k past h other)
-
-  pub forbids_here : k < past → unit_of parts k ≡ unit → forbids_stay tariff parts days k ≡ true → forbids_from tariff parts unit days k past ≡ true
-  forbids_here h mine t = ap (list_any (forbids_stay tariff parts days)) (own_here parts unit k past h mine) ∙ (rw t refl)
-
-  pub forbids_next : k < past → unit_of parts k ≡ unit → forbids_stay tariff parts days k ≡ false → forbids_from tariff parts unit days k past ≡ forbids_from tariff parts unit days (k + 1) past
-  forbids_next h mine f = ap (list_any (forbids_stay tariff parts days)) (own_here parts unit k past h mine) ∙ (rw f refl)
-
-  pub forbids_done : past ≤ k → forbids_from tariff parts unit days k past ≡ false
-  forbids_done h = ap (list_any (forbids_stay tariff parts days)) (own_done parts unit k past h)
 
 -- a test that fails at each number of a range, or for each member of a list, fails for all
 none_in_range : (test : ℕ → Bool) (first n : ℕ) → ((k : ℕ) → first ≤ k → k < first + n → test k ≡ false) → list_any test (range_with_len first n) ≡ false

@@ -3,6 +3,7 @@ pub mod CostLemmas
 pub mod LegLemmas
 pub mod FloorLemmas
 pub mod SameLemmas
+pub mod StayLemmas
 pub mod ShutLemmas
 pub mod OnwardLemmas
 pub mod EndingLemmas
@@ -25,3 +26,5 @@ pub mod OverLemmas
 pub mod AddedLemmas
 pub mod AheadLemmas
 pub mod CircleLemmas
+pub mod FollowLemmas
+pub mod EntryLemmas

@@ -15,6 +15,7 @@ use Rattle.fare_rules.specs.ComponentAmount.{component_amount}
 use Rattle.fare_rules.specs.Direction.{heads_home, is_back_in}
 use Rattle.fare_rules.specs.Shape.{holds_ow, is_hr, is_mixed, mixed, is_chained, comes_home, comes_home_early, ends_at_home, closes, is_jaw, is_open_jaw, must_close, is_unchained, unchained, is_unclosed, unclosed, lie_together}
 use Rattle.fare_rules.specs.UnitPrice.{part_amount}
+use Rattle.fare_rules.specs.UnitRules.{is_mistimed, mistimed}
 use Rattle.fare_rules.specs.Best.{IsLawful}
 use Rattle.fare_rules.proofs.AmountLemmas.{amount_of_part}
 use Rattle.fare_rules.proofs.CoverLemmas.{IsCover, cover, both_false, begins_later, same_end}
@@ -24,11 +25,13 @@ use Rattle.fare_rules.proofs.NumberLemmas.{find_none}
 use Rattle.fare_units.specs.Onward.{must_go_on, is_in_city, is_in_country, points_behind, may_come_home}
 use Rattle.fare_units.specs.Shut.{is_shut, has_gap_before}
 use Rattle.fare_floors.specs.Ending.{is_priced_back, needs_more}
+use Rattle.fare_floors.specs.Stays.{is_outside}
 use Rattle.fare_floors.proofs.ChainLemmas.{chained_front}
 use Rattle.fare_units.proofs.NextLemmas.{front_part, front_start, front_unit}
 use Rattle.fare_floors.proofs.SameLemmas.{AreFirst, holds_same, chained_same, jaw_same, closes_same, start_same, end_same}
 use Rattle.fare_floors.proofs.ShutLemmas.{own_behind, own_in_two, own_are_first, any_at, not_alone, both_true}
 use Rattle.fare_floors.proofs.SumLemmas.{kept_member}
+use Rattle.fare_floors.proofs.StayLemmas.{outside_same}
 
 true_false : true ≡ false → ⊥
 true_false e = cc
@@ -168,13 +171,30 @@ module _ (tariff : Tariff) (trip : Itinerary) (front rest : List Part) (price : 
       both_true (ltb 0 (last_of (x ∷ xs))) (is_some (component_amount tariff trip (start_of trip front (last_of (x ∷ xs))) (end_of front (last_of (x ∷ xs))) (part_at front (last_of (x ∷ xs))).fare true)) (lt-ltb 0 (last_of (x ∷ xs)) (omega arith))
       (subst E (front_part front rest (last_of (x ∷ xs)) low within) (subst D (front_start trip front rest (last_of (x ∷ xs)) low within) (subst C back (subst B e (subst A mine there)))))
 
+  -- and its stay is inside the rules of all its parts
+  ends_timely : (x : ℕ) (xs : List ℕ) → AreFirst tariff trip front rest (x ∷ xs) → own (front ++ rest) unit ≡ x ∷ xs → is_shut tariff trip front (x ∷ xs) ≡ false → is_outside tariff trip front (x ∷ xs) ≡ false
+  unfolding mistimed is_hr
+  ends_timely x xs first e shut =
+      let none : holds_ow tariff (front ++ rest) (x ∷ xs) ≡ false = holds_same tariff trip front rest (x ∷ xs) first ∙ (open_parts tariff trip front (x ∷ xs) shut).0 in
+      let timed : is_mistimed tariff trip (front ++ rest) unit ≡ false = find_none (is_mistimed tariff trip (front ++ rest)) 1 (greatest_unit (front ++ rest) (places (front ++ rest)) + 1) (kept tariff trip (front ++ rest) price lawful).stay unit low (omega arith) in
+      let P : List ℕ → Type 0 = λ ys. (not (holds_ow tariff (front ++ rest) ys) && is_outside tariff trip (front ++ rest) ys) ≡ false in
+      let whole : (not (holds_ow tariff (front ++ rest) (x ∷ xs)) && is_outside tariff trip (front ++ rest) (x ∷ xs)) ≡ false = subst P e timed in
+      sym (outside_same tariff trip front rest (x ∷ xs) first) ∙ half_round (holds_ow tariff (front ++ rest) (x ∷ xs)) (is_outside tariff trip (front ++ rest) (x ∷ xs)) none whole
+    where
+      half_round : (one b : Bool) → one ≡ false → (not one && b) ≡ false → b ≡ false
+      half_round true b e h = absurd (true_false e)
+      half_round false b e h = h
+
   ends_short : (x : ℕ) (xs : List ℕ) → AreFirst tariff trip front rest (x ∷ xs) → own (front ++ rest) unit ≡ x ∷ xs → needs_more tariff trip front (x ∷ xs) ≡ true → ⊥
   ends_short x xs first e more =
-      elim (or_cases (must_go_on tariff trip front (x ∷ xs)) (not (is_shut tariff trip front (x ∷ xs)) && not (is_priced_back tariff trip front (last_of (x ∷ xs)))) more) [
+      elim (or_cases (must_go_on tariff trip front (x ∷ xs)) (not (is_shut tariff trip front (x ∷ xs)) && (not (is_priced_back tariff trip front (last_of (x ∷ xs))) || is_outside tariff trip front (x ∷ xs))) more) [
         | inl must ↦ ends_open x xs first e must
         | inr lacks ↦
-            let both = and_parts (not (is_shut tariff trip front (x ∷ xs))) (not (is_priced_back tariff trip front (last_of (x ∷ xs)))) lacks in
-            true_false (sym (ends_back x xs first e (not-true (is_shut tariff trip front (x ∷ xs)) both.0)) ∙ not-true (is_priced_back tariff trip front (last_of (x ∷ xs))) both.1)
+            let both = and_parts (not (is_shut tariff trip front (x ∷ xs))) (not (is_priced_back tariff trip front (last_of (x ∷ xs))) || is_outside tariff trip front (x ∷ xs)) lacks in
+            elim (or_cases (not (is_priced_back tariff trip front (last_of (x ∷ xs)))) (is_outside tariff trip front (x ∷ xs)) both.1) [
+              | inl unpriced ↦ true_false (sym (ends_back x xs first e (not-true (is_shut tariff trip front (x ∷ xs)) both.0)) ∙ not-true (is_priced_back tariff trip front (last_of (x ∷ xs))) unpriced)
+              | inr outside ↦ true_false (sym outside ∙ ends_timely x xs first e (not-true (is_shut tariff trip front (x ∷ xs)) both.0))
+            ]
       ]
 
   -- so some part comes to it behind them

@@ -1,5 +1,5 @@
 -- Why some first parts have no completion, by the unit of the last of them.
-use Rattle.std.proofs.Common.{◌≡◌, ℕ, ◌+◌, ◌-◌, ◌≤◌, true, false, ◌&&◌, not, List, [], ◌∷◌, ◌++◌, length, refl, ap, sym, subst, ◌∙◌, arith}
+use Rattle.std.proofs.Common.{◌≡◌, ℕ, ◌+◌, ◌-◌, ◌≤◌, true, false, ◌&&◌, ◌||◌, not, List, [], ◌∷◌, ◌++◌, length, refl, ap, sym, subst, ◌∙◌, arith}
 use Rattle.std.specs.Prelude.{is_some, is_none, Option, Some, None, filter}
 use Rattle.std.specs.List.{range_with_len}
 use Rattle.std.proofs.Math.ListN.{length-append}
@@ -21,6 +21,7 @@ use Rattle.fare_units.proofs.NextLemmas.{front_unit, next_part, next_numbered}
 use Rattle.fare_floors.specs.Floors.{HasNoCompletion}
 use Rattle.fare_floors.specs.Ending.{is_priced_back, needs_more}
 use Rattle.fare_floors.specs.Refusals.{onward_amount, is_worthless, is_broken_off}
+use Rattle.fare_floors.specs.Stays.{is_outside}
 use Rattle.fare_floors.proofs.OnwardLemmas.{comes_home_behind, amount_onward, chained_onward, either_left}
 use Rattle.fare_floors.proofs.ShutLemmas.{own_behind, shut_alone, own_in_two, own_are_first}
 use Rattle.fare_floors.proofs.SumLemmas.{unit_up_to}
@@ -90,7 +91,7 @@ module _ (tariff : Tariff) (trip : Itinerary) (front : List Part) (part : Part) 
   -- a unit that must go on must have more parts
   more_by_must : (x : ℕ) (xs : List ℕ) → must_go_on tariff trip (front ++ part ∷ []) (x ∷ xs) ≡ true → needs_more tariff trip (front ++ part ∷ []) (x ∷ xs) ≡ true
   more_by_must x xs must =
-      either_left (must_go_on tariff trip (front ++ part ∷ []) (x ∷ xs)) (not (is_shut tariff trip (front ++ part ∷ []) (x ∷ xs)) && not (is_priced_back tariff trip (front ++ part ∷ []) (last_of (x ∷ xs)))) must
+      either_left (must_go_on tariff trip (front ++ part ∷ []) (x ∷ xs)) (not (is_shut tariff trip (front ++ part ∷ []) (x ∷ xs)) && (not (is_priced_back tariff trip (front ++ part ∷ []) (last_of (x ∷ xs))) || is_outside tariff trip (front ++ part ∷ []) (x ∷ xs))) must
 
   -- the last part's unit must go on, and yet does not come home
   pub stranded_is_none : is_stranded tariff trip (front ++ part ∷ []) part.unit ≡ true → HasNoCompletion tariff trip (front ++ part ∷ [])

@@ -6,6 +6,7 @@ use Rattle.fare_tariff.specs.Tariff.{Tariff}
 use Rattle.fare_rules.specs.declared.part.Part.{Part}
 use Rattle.fare_rules.specs.Construction.{start_of, end_of, part_at, own, unit_of, units}
 use Rattle.fare_rules.specs.Shape.{is_ow}
+use Rattle.fare_component.specs.declared.table.entry.Entry.{Entry}
 use Rattle.fare_component.specs.Table.{entry_of}
 use Rattle.fare_rules.specs.UnitPrice.{part_cost, unit_price}
 use Rattle.fare_units.specs.Shut.{is_shut}
@@ -16,6 +17,10 @@ use Rattle.fare_floors.specs.declared.costs.TheConstants.{MOST_UNITS}
 abbrev pub or_nothing : Option ℕ → ℕ
 or_nothing None = 0
 or_nothing (Some amount) = amount
+
+-- the record number of an entry's fare
+abbrev pub fare_of_entry : Entry → ℕ
+fare_of_entry entry = entry.fare
 
 -- what a fare costs at least for a span: the price of a one way unit, or the lesser amount of a half round trip
 abbrev pub fare_least : Tariff → Itinerary → ℕ → ℕ → ℕ → Option ℕ

@@ -3,28 +3,24 @@
 use Rattle.std.specs.Prelude.{◌≡◌, ℕ, ◌+◌, ◌-◌, ◌<◌, ◌≤◌, Bool, true, false, not, ◌&&◌}
 use Rattle.std.specs.Prelude.{List, [], ◌∷◌, ◌++◌, length, Option}
 use Rattle.std.specs.Prelude.{Some, Contains}
-use Rattle.std.specs.List.{list_any}
 use Rattle.fare_codes.specs.Day.{day_number}
 use Rattle.fare_trip.specs.Itinerary.{Itinerary, count}
 use Rattle.fare_tariff.specs.Tariff.{Tariff}
 use Rattle.fare_rules.specs.declared.part.Part.{Part}
 use Rattle.fare_rules.specs.Span.{first_day}
 use Rattle.fare_rules.specs.Construction.{end_of, first_of, own, start_of}
-use Rattle.fare_rules.specs.UnitRules.{forbids_stay, part_day}
+use Rattle.fare_rules.specs.UnitRules.{part_day}
 use Rattle.fare_component.specs.declared.table.entry.Entry.{Entry}
 use Rattle.fare_component.specs.Table.{Pricing, entries_of}
 use Rattle.fare_units.specs.Barred.{is_uncombined}
 use Rattle.fare_units.specs.declared.construction.TheConstants.{MOST_PARTS}
 use Rattle.fare_bounds.specs.Covers.{rest_at}
 use Rattle.fare_homing.specs.Homing.{IsUpTo, back_cost}
+use Rattle.fare_floors.specs.Stays.{forbids_any}
 
 -- the stay of a unit of some parts whose last part begins at a point: the days from the first sector of its first part
 abbrev pub stay_until : Itinerary → List Part → ℕ → ℕ → ℕ
 stay_until trip parts unit s = day_number (first_day trip s) - part_day trip parts (first_of (own parts unit))
-
--- the rule of some part of a unit does not allow a stay
-abbrev pub forbids_any : Tariff → List Part → ℕ → ℕ → Bool
-forbids_any tariff parts unit days = list_any (forbids_stay tariff parts days) (own parts unit)
 
 -- a part that begins at a point may be the last of its unit behind some parts: it combines with each of them, and the
 -- rule of each part of the unit allows the stay

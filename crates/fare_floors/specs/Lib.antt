@@ -4,6 +4,7 @@ pub use Rattle.fare_component.specs.Table
 pub use Rattle.fare_bounds.specs.Covers
 pub use Rattle.fare_homing.specs.Homing
 pub mod Floors
+pub mod Stays
 pub mod Ending
 pub mod Refusals
 pub mod Joining

@@ -17,8 +17,9 @@ ghost use Rattle.fare_floors.specs.Stack.{AreOver, IsStack};
 
 use crate::costs::{MOST_UNITS, entry_least};
 use crate::floors::lowered_to;
-use crate::joining::{first_place, is_stuck};
+use crate::joining::is_stuck;
 use crate::partial::Partial;
+use crate::places::first_place;
 use crate::stack::Stack;
 use crate::stacking::{Open, homes_of, may_come_to, over_point};
 use fare_component::{Entry, Table};

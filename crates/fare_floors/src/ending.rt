@@ -7,6 +7,8 @@ ghost use Rattle.fare_rules.specs.Construction.{last_of, own};
 ghost use Rattle.fare_units.specs.Advance.{Advances};
 ghost use Rattle.fare_floors.specs.Ending.{is_priced, is_priced_back, needs_more};
 
+use crate::places::last_place;
+use crate::stays::is_outside;
 use fare_component::{Entry, Table};
 use fare_rules::Part;
 use fare_units::{MOST_PARTS, is_shut_unit, must_go_on, part_at, start_of};
@@ -36,22 +38,6 @@ pub(crate) fn has_amount(table: &Table, a: usize, b: usize, fare: u32, back: boo
     false
 }
 
-/// The last of the places of a unit; 0 where there is none.
-#[tactic(auto, using(crate::proofs::EndingLemmas::last_of_all, crate::proofs::EndingLemmas::last_here, crate::proofs::EndingLemmas::last_over, crate::proofs::EndingLemmas::last_done), unfolding(fare_rules::specs::Construction::own))]
-pub(crate) fn last_place(parts: &[Part], unit: usize) -> usize
-    ensures value { result ≡ last_of (own parts.now unit) }
-    ensures within { result ≤ length parts.now }
-{
-    let mut last = 0;
-    for k in 1..parts.len() + 1 {
-        if part_at(parts, k).unit as usize != unit {
-            continue;
-        }
-        last = k;
-    }
-    last
-}
-
 /// Whether a place has a part, and this has an amount priced back.
 fn is_priced_back(table: &Table, parts: &[Part], k: usize) -> bool
     requires advances { Advances table.now.trip parts.now }
@@ -72,7 +58,7 @@ fn is_priced_back(table: &Table, parts: &[Part], k: usize) -> bool
 }
 
 /// Whether a unit of first parts must have more parts: it is not shut, and is no open jaw as it stands, or one whose
-/// last part has no amount back.
+/// last part has no amount back, or whose stay one of its rules doesn't allow.
 pub(crate) fn needs_more(table: &Table, parts: &[Part], unit: usize) -> bool
     requires few { length parts.now ≤ MOST_PARTS }
     requires advances { Advances table.now.trip parts.now }
@@ -81,5 +67,6 @@ pub(crate) fn needs_more(table: &Table, parts: &[Part], unit: usize) -> bool
     let (edition, trip) = (table.edition(), table.trip());
     must_go_on(edition, trip, parts, unit)
         || !is_shut_unit(edition, trip, parts, unit)
-            && !is_priced_back(table, parts, last_place(parts, unit))
+            && (!is_priced_back(table, parts, last_place(parts, unit))
+                || is_outside(table, parts, unit))
 }

@@ -10,26 +10,13 @@ ghost use Rattle.fare_units.specs.Walk.{IsFront};
 ghost use Rattle.fare_floors.specs.Floors.{IsMadeWith};
 ghost use Rattle.fare_floors.specs.Joining.{is_blocked, is_stuck, may_join};
 
-use crate::ending::last_place;
 use crate::partial::Partial;
+use crate::places::{first_place, last_place};
 use fare_codes::City;
 use fare_component::Table;
 use fare_rules::Part;
 use fare_trip::Trip;
 use fare_units::{MOST_PARTS, part_at, start_of};
-
-/// The first of the places of a unit; 0 where there is none.
-#[tactic(auto, using(crate::proofs::StackRowLemmas::own_here, crate::proofs::StackRowLemmas::own_over, crate::proofs::StackRowLemmas::own_done), unfolding(fare_rules::specs::Construction::own))]
-pub(crate) fn first_place(parts: &[Part], unit: usize) -> usize
-    ensures { result ≡ first_of (own parts.now unit) }
-{
-    for k in 1..parts.len() + 1 {
-        if part_at(parts, k).unit as usize == unit {
-            return k;
-        }
-    }
-    0
-}
 
 /// The point where the last part of a unit ended; 0 where it has none.
 pub(crate) fn standing_point(parts: &[Part], unit: usize) -> usize

@@ -7,19 +7,18 @@ ghost use Rattle.fare_trip.specs.Itinerary.{count};
 ghost use Rattle.fare_component.specs.declared.table.entry.Entry.{Entry};
 ghost use Rattle.fare_component.specs.Table.{IsInBounds, entries_of};
 ghost use Rattle.fare_rules.specs.Construction.{end_of, first_of, own, start_of};
-ghost use Rattle.fare_rules.specs.UnitRules.{forbids_stay};
 ghost use Rattle.fare_bounds.specs.Covers.{rest_at};
 ghost use Rattle.fare_homing.specs.Homing.{IsKeptBy, IsUpTo, back_cost};
 ghost use Rattle.fare_floors.specs.Floors.{IsMadeWith};
 ghost use Rattle.fare_floors.specs.LastParts.{AreLasts, AreOverLasts, IsGoing, IsUnderLast, IsUnderLasts};
-ghost use Rattle.fare_floors.specs.LastParts.{forbids_any, may_be_last};
+ghost use Rattle.fare_floors.specs.LastParts.{may_be_last};
 
 use crate::partial::{Partial, with_last};
+use crate::stays::forbids_any;
 use fare_component::{Entry, Table};
 use fare_homing::{Floor, NOTHING, day_behind, greater, lesser, number_at};
 use fare_rules::{MOST_POINTS, Part};
-use fare_tariff::Edition;
-use fare_units::{MOST_PARTS, is_uncombined, part_at};
+use fare_units::{MOST_PARTS, is_uncombined};
 
 /// A unit of first parts that goes on.
 #[derive(Clone, Copy)]
@@ -38,35 +37,6 @@ struct LastSpan {
     home: usize,
     /// What is behind its end at least.
     behind: u64,
-}
-
-/// Whether the rule of a part's fare does not allow a stay.
-fn forbids_stay(edition: &Edition, parts: &[Part], days: u32, k: usize) -> bool
-    ensures { result ≡ forbids_stay edition.now parts.now days k }
-{
-    match edition.fare_at(part_at(parts, k).fare) {
-        None => true,
-        Some(fare) => match edition.terms(fare.rule) {
-            None => true,
-            Some(asked) => days < asked.min_stay || asked.max_stay < days,
-        },
-    }
-}
-
-/// Whether the rule of some part of a unit does not allow a stay.
-#[tactic(auto, using(crate::proofs::LastPartLemmas::forbids_next, crate::proofs::LastPartLemmas::forbids_over, crate::proofs::LastPartLemmas::forbids_done), unfolding(fare_rules::specs::Construction::own))]
-fn forbids_any(edition: &Edition, parts: &[Part], unit: usize, days: u32) -> bool
-    ensures { result ≡ forbids_any edition.now parts.now unit days }
-{
-    for k in 1..parts.len() + 1 {
-        if part_at(parts, k).unit as usize != unit {
-            continue;
-        }
-        if forbids_stay(edition, parts, days, k) {
-            return true;
-        }
-    }
-    false
 }
 
 /// Whether a part that begins at a point may be the last of its unit.

@@ -1,6 +1,8 @@
 //! What first parts of a construction cost at least with all that may follow, and which first parts are not gone on
 //! from. No call takes memory.
 //!
+//! - `places`: the first and the last part of a unit;
+//! - `stays`: whether the rules of a unit's parts allow a stay;
 //! - `ending`: whether a unit of first parts may end as it stands;
 //! - `refusals`: why some first parts are not gone on from;
 //! - `partial`: first parts of constructions, part by part;
@@ -23,10 +25,12 @@ mod floors;
 mod joining;
 mod lasting;
 mod partial;
+mod places;
 mod refusals;
 mod stack;
 mod stacking;
 mod stage;
+mod stays;
 
 pub use ahead::{Ahead, ahead_of, floor_ahead, floor_with};
 pub use floors::floor_of;

@@ -46,7 +46,7 @@ impl Partial {
     }
 
     /// The same parts once more.
-    pub(crate) fn copy(&self) -> Partial
+    pub fn copy(&self) -> Partial
         ensures { result ≡ self.now }
     {
         Partial {

@@ -14,9 +14,10 @@ ghost use Rattle.fare_floors.specs.Stack.{IsOpenUnit, may_come_to};
 
 use crate::costs::MOST_UNITS;
 use crate::ending::needs_more;
-use crate::joining::{first_place, is_stuck, part_count, standing_point};
+use crate::joining::{is_stuck, part_count, standing_point};
 use crate::lasting::{Going, greater_of, over_lasts};
 use crate::partial::Partial;
+use crate::places::first_place;
 use fare_component::Table;
 use fare_homing::{
     Floor, Homing, NOTHING, added, closing_from, jaw_from, lesser, lie_near, number_at,

@@ -1,4 +1,4 @@
-use Rattle.std.proofs.Common.{◌≡◌, ℕ, ◌≤◌, ◌∙◌, Option, None, arith}
+use Rattle.std.proofs.Common.{◌∙◌, None, arith}
 use Rattle.fare_branch.proofs.DiveLemmas.{dived_none, dived_then}
 use Rattle.fare_branch.proofs.opening.dives.Goals as goal
 

@@ -1,5 +1,5 @@
 -- what the dives so far came to
-use Rattle.std.proofs.Common.{◌≡◌, Option, None}
+use Rattle.std.proofs.Common.{◌≡◌, None}
 use Rattle.fare_homing.specs.Rows.{AreHomingsOf}
 use Rattle.fare_branch.specs.Dive.{IsDived}
 use Rattle.fare_branch.proofs.opening.dives.Given as goal

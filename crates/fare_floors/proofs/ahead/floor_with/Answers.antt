@@ -1,5 +1,5 @@
-use Rattle.std.proofs.Common.{◌≡◌, ◌+◌, ◌≤◌, ◌∙◌, ap, arith}
-use Rattle.std.specs.Prelude.{Some, option_map}
+use Rattle.std.proofs.Common.{◌≡◌, ◌+◌, ◌∙◌, ap, arith}
+use Rattle.std.specs.Prelude.{option_map}
 use Rattle.fare_bounds.specs.Covers.{least_cost}
 use Rattle.fare_floors.specs.Costs.{or_nothing}
 use Rattle.fare_homing.specs.Floor.{capped_sum}

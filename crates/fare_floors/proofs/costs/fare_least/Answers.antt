@@ -2,9 +2,9 @@ use Rattle.std.proofs.Common.{◌≡◌, List, length, take, map, ap, sym, subst
 use Rattle.std.proofs.Math.Seq.{take-length}
 use Rattle.fare_rules.proofs.MemberLemmas.{Member}
 use Rattle.fare_component.specs.declared.table.entry.Entry.{Entry}
-use Rattle.fare_branch.specs.Beginnings.{fare_of_entry}
+use Rattle.fare_floors.specs.Costs.{fare_of_entry}
 use Rattle.fare_floors.specs.Costs.{or_nothing}
-use Rattle.fare_branch.proofs.EntryLemmas.{fare_not_so_far, least_of_entry, least_of_none}
+use Rattle.fare_floors.proofs.EntryLemmas.{fare_not_so_far, least_of_entry, least_of_none}
 use Rattle.fare_floors.proofs.costs.fare_least.Goals as goal
 
 pub returns-then-entry-fare-clause-value : goal.returns-then-entry-fare-clause-value

@@ -1,7 +1,7 @@
 -- no entry so far has the fare
 use Rattle.std.proofs.Common.{take, map}
 use Rattle.fare_rules.proofs.MemberLemmas.{Member}
-use Rattle.fare_branch.specs.Beginnings.{fare_of_entry}
+use Rattle.fare_floors.specs.Costs.{fare_of_entry}
 use Rattle.fare_floors.proofs.costs.fare_least.Given as goal
 
 abbrev pub invariant-loop-entry : goal.invariant-loop-entry

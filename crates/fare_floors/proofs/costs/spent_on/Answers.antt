@@ -1,7 +1,7 @@
-use Rattle.std.proofs.Common.{◌≡◌, ℕ, ◌+◌, ◌≤◌, arith}
+use Rattle.std.proofs.Common.{◌≡◌, ◌+◌, ◌≤◌, arith}
 use Rattle.std.specs.Prelude.{slice_index, sum_by}
 use Rattle.fare_rules.specs.Numbers.{numbers}
-use Rattle.fare_rules.proofs.NumberLemmas.{sum_done, sum_next}
+use Rattle.fare_rules.proofs.NumberLemmas.{sum_next}
 use Rattle.fare_floors.proofs.costs.spent_on.Goals as goal
 
 pub loop-unit-preserved : goal.loop-unit-preserved

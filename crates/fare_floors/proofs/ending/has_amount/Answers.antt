@@ -2,8 +2,8 @@ use Rattle.std.proofs.Common.{◌≡◌, List, length, take, map, ap, sym, subst
 use Rattle.std.proofs.Math.Seq.{take-length}
 use Rattle.fare_rules.proofs.MemberLemmas.{Member}
 use Rattle.fare_component.specs.declared.table.entry.Entry.{Entry}
-use Rattle.fare_branch.specs.Beginnings.{fare_of_entry}
-use Rattle.fare_branch.proofs.EntryLemmas.{fare_not_so_far, priced_entry, priced_none}
+use Rattle.fare_floors.specs.Costs.{fare_of_entry}
+use Rattle.fare_floors.proofs.EntryLemmas.{fare_not_so_far, priced_entry, priced_none}
 use Rattle.fare_floors.proofs.ending.has_amount.Goals as goal
 
 pub returns-then-entry-fare : goal.returns-then-entry-fare

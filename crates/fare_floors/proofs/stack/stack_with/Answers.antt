@@ -1,5 +1,5 @@
-use Rattle.std.proofs.Common.{◌≡◌, ℕ, ◌+◌, ◌<◌, ◌≤◌, [], List, length, subst, sym, ap, ◌∙◌, arith}
-use Rattle.std.specs.Prelude.{Option, Some, option_map, slice_index_or, sum_by}
+use Rattle.std.proofs.Common.{◌≡◌, ℕ, ◌+◌, ◌≤◌, [], length, subst, ap, ◌∙◌, arith}
+use Rattle.std.specs.Prelude.{Some, option_map, slice_index_or, sum_by}
 use Rattle.fare_homing.specs.Floor.{capped_sum}
 use Rattle.fare_bounds.specs.Covers.{rest_at}
 use Rattle.fare_trip.specs.Itinerary.{count}

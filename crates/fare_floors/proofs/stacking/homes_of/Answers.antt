@@ -1,4 +1,4 @@
-use Rattle.std.proofs.Common.{◌≡◌, ℕ, true, false, length-set, Option, refl, sym, ◌∙◌, arith}
+use Rattle.std.proofs.Common.{◌≡◌, ℕ, true, false, length-set, Option, sym, ◌∙◌, arith}
 use Rattle.fare_bounds.specs.Covers.{rest_at}
 use Rattle.fare_floors.specs.Stack.{may_come_to}
 use Rattle.fare_floors.proofs.StackRowLemmas.{row_put, row_over}

@@ -1,4 +1,4 @@
-use Rattle.std.proofs.Common.{rules, ◌≡◌, ℕ, ◌+◌, ◌-◌, ◌≤◌, [], List, length, length-set, replicate, set, subst, ◌∙◌, ap, arith}
+use Rattle.std.proofs.Common.{rules, ◌≡◌, ℕ, ◌-◌, ◌≤◌, [], length, length-set, replicate, set, subst, ◌∙◌, ap, arith}
 use Rattle.std.specs.Prelude.{None, slice_index_or}
 use Rattle.fare_trip.specs.Itinerary.{count}
 use Rattle.fare_rules.specs.Construction.{end_of, greatest_unit, places}

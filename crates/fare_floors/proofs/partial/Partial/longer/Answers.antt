@@ -2,7 +2,7 @@ use Rattle.std.proofs.Common.{◌≡◌, ◌<◌, ◌++◌, ◌∷◌, [], lengt
 use Rattle.fare_trip.specs.Itinerary.{count}
 use Rattle.fare_units.specs.Walk.{IsFront}
 use Rattle.fare_units.proofs.FrontLemmas.{front_more, front_short}
-use Rattle.fare_branch.proofs.StepLemmas.{follows, Follows}
+use Rattle.fare_floors.proofs.FollowLemmas.{follows, Follows}
 use Rattle.fare_floors.proofs.partial.Partial.longer.Goals as goal
 
 pub returns : goal.returns

@@ -8,7 +8,7 @@ use Rattle.fare_units.specs.Shut.{is_priceless}
 use Rattle.fare_units.specs.Walk.{is_fruitless}
 use Rattle.fare_floors.specs.Floors.{HasNoCompletion, may_follow}
 use Rattle.fare_floors.specs.Refusals.{is_hopeless, is_worthless, is_broken_off}
-use Rattle.fare_branch.proofs.StepLemmas.{none_follows}
+use Rattle.fare_floors.proofs.FollowLemmas.{none_follows}
 use Rattle.fare_floors.proofs.ShutLemmas.{fruitless_is_none, priceless_is_none}
 use Rattle.fare_floors.proofs.RefusalLemmas.{shut_is_none, stranded_is_none, worthless_is_none, broken_is_none}
 use Rattle.fare_floors.proofs.partial.Partial.next.Goals as goal

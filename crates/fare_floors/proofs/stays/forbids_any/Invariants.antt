@@ -4,8 +4,8 @@ use Rattle.std.specs.List.{list_any}
 use Rattle.fare_rules.specs.Construction.{is_own}
 use Rattle.fare_rules.specs.Numbers.{numbers}
 use Rattle.fare_rules.specs.UnitRules.{forbids_stay}
-use Rattle.fare_floors.proofs.LastPartLemmas.{forbids_from}
-use Rattle.fare_floors.proofs.lasting.forbids_any.Given as goal
+use Rattle.fare_floors.proofs.StayLemmas.{forbids_from}
+use Rattle.fare_floors.proofs.stays.forbids_any.Given as goal
 
 abbrev pub invariant-loop-k : goal.invariant-loop-k
 invariant-loop-k l =

@@ -2,7 +2,7 @@
 use Rattle.std.proofs.Common.{◌≡◌, ◌+◌, length, filter}
 use Rattle.fare_rules.specs.Construction.{is_own}
 use Rattle.fare_rules.specs.Numbers.{numbers}
-use Rattle.fare_floors.proofs.joining.first_place.Given as goal
+use Rattle.fare_floors.proofs.places.first_place.Given as goal
 
 abbrev pub invariant-loop-k : goal.invariant-loop-k
 invariant-loop-k l =

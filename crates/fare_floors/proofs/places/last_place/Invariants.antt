@@ -3,7 +3,7 @@ use Rattle.std.proofs.Common.{◌≡◌, ◌+◌, ◌≤◌, length, filter}
 use Rattle.fare_rules.specs.Construction.{is_own, last_of}
 use Rattle.fare_rules.specs.Numbers.{numbers}
 use Rattle.fare_floors.proofs.EndingLemmas.{last_from}
-use Rattle.fare_floors.proofs.ending.last_place.Given as goal
+use Rattle.fare_floors.proofs.places.last_place.Given as goal
 
 abbrev pub invariant-loop-k : goal.invariant-loop-k
 invariant-loop-k l = record {

@@ -15,10 +15,9 @@ use Rattle.fare_component.specs.declared.table.entry.Entry.{Entry}
 use Rattle.fare_component.specs.Table.{IsEntry, entries_of, entry_of, has_amount, single_price, single_of}
 use Rattle.fare_component.proofs.LawLemmas.{amount_is_entry, entry_is_of_fare}
 use Rattle.fare_bounds.specs.Covers.{least_cost}
-use Rattle.fare_branch.specs.Beginnings.{fare_of_entry}
-use Rattle.fare_floors.specs.Costs.{fare_least}
+use Rattle.fare_floors.specs.Costs.{fare_least, fare_of_entry}
 use Rattle.fare_floors.specs.Ending.{is_priced}
-use Rattle.fare_branch.proofs.StepLemmas.{member_snoc}
+use Rattle.fare_floors.proofs.FollowLemmas.{member_snoc}
 
 true_false : true ≡ false → ⊥
 true_false e = cc
