@@ -13,7 +13,7 @@ use crate::walking::{Wanted, walk};
 use fare_branch::{best_of, dived_front, is_far};
 use fare_component::Table;
 use fare_floors::{Partial, Stage, ahead_of, stack_of};
-use fare_homing::{Homing, homing_of};
+use fare_homing::{Homing, homing_of, number_at};
 use fare_outside::NoMemory;
 use fare_rules::{PRICE_LIMIT, edition_is_valid, price_is_bounded};
 use fare_tariff::Edition;
@@ -23,8 +23,12 @@ use std::alloc::Global;
 /// How many walks have a limit, each twice as far above the least price as the one before.
 const MOST_WALKS: u32 = 8;
 
-/// Into how many steps the least price is cut: the first limit is one of them above it.
+/// Into how many steps the least price is cut, of which the first limit is one above it at least.
 const STEPS: u64 = 128;
+
+/// Which part of what the least price is above the floor of all the first limit is above it at least: where floors are
+/// far below what is lawful, so are those of what is a little dearer, and each walk costs as much as another.
+const GAP_PARTS: u64 = 4;
 
 /// How many of the last parts of what a dive comes to are tried otherwise for a limit.
 const OPEN_PARTS: usize = 4;
@@ -90,6 +94,12 @@ fn search_far(table: &Table, homing: &Homing, k: usize, least: u64, found: &mut 
     }
 }
 
+/// How far the first limit is above the least price.
+fn first_rise(homing: &Homing, least: u64) -> u64 {
+    let floor = number_at(&homing.rest, 0).amount().unwrap_or(least);
+    (least / STEPS).max(least.saturating_sub(floor) / GAP_PARTS)
+}
+
 /// Finds the first `k`, by walks whose limit rises from the least price on until that many cost no more.
 fn walk_up(table: &Table, homing: &Homing, k: usize, least: u64, found: &mut BestList)
     requires homing { AreHomingsOf table.now.edition table.now.trip homing.now }
@@ -98,7 +108,7 @@ fn walk_up(table: &Table, homing: &Homing, k: usize, least: u64, found: &mut Bes
     requires ranked { IsRanked table.now.edition table.now.trip k found.old }
     ensures { IsFirstK table.now.edition table.now.trip k found.new }
 {
-    let mut above = least / STEPS;
+    let mut above = first_rise(homing, least);
     for _walk in 0..MOST_WALKS {
         let limit = least.saturating_add(above);
         walk_all(table, homing, Wanted { count: k, limit }, found);
