@@ -1,5 +1,6 @@
 -- How the parts of a construction are priced, as the line and the worksheet tell it.
-use Rattle.std.specs.Prelude.{ℕ, ◌+◌, ◌-◌, Bool, List, Option, Some, None, option_map, option_and_then, nat_le, filter_map}
+use Rattle.std.specs.Prelude.{ℕ, ◌+◌, ◌-◌, Bool, List, Option, Some, None, option_map, option_and_then, nat_le}
+use Rattle.std.specs.Prelude.{filter_map}
 use Rattle.std.specs.Prelude.{if◌then◌else◌}
 use Rattle.fare_codes.specs.declared.city.City.{City}
 use Rattle.fare_codes.specs.declared.nuc.Nuc.{Nuc}
@@ -13,7 +14,8 @@ use Rattle.fare_rules.specs.Span.{is_surface}
 use Rattle.fare_rules.specs.Indicator.{country, indicator}
 use Rattle.fare_rules.specs.Mileage.{mileage}
 use Rattle.fare_rules.specs.Base.{Compared, higher}
-use Rattle.fare_rules.specs.Construction.{places, part_at, start_of, end_of, unit_of, fare_of, start_city, end_city, own}
+use Rattle.fare_rules.specs.Construction.{places, part_at, start_of, end_of, unit_of, fare_of, start_city, end_city}
+use Rattle.fare_rules.specs.Construction.{own}
 use Rattle.fare_rules.specs.Direction.{is_back}
 use Rattle.fare_rules.specs.UnitPrice.{part_cost}
 use Rattle.fare_calc.specs.declared.part_sheet.PartSheet.{PartSheet}

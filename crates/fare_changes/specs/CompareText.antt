@@ -8,7 +8,8 @@ use Rattle.fare_tariff.specs.Tariff.{Tariff}
 use Rattle.fare_changes.specs.declared.compared.Compared.{Compared}
 use Rattle.fare_changes.specs.declared.compared.Compared.TheVariants.{Faulty, Unknown, Totals}
 use Rattle.fare_changes.specs.declared.outcome.Outcome.{Outcome}
-use Rattle.fare_changes.specs.declared.outcome.Outcome.TheVariants.{Same, Dearer, Cheaper, Opened, Closed, Neither, Fault}
+use Rattle.fare_changes.specs.declared.outcome.Outcome.TheVariants.{Same, Dearer, Cheaper, Opened, Closed, Neither}
+use Rattle.fare_changes.specs.declared.outcome.Outcome.TheVariants.{Fault}
 use Rattle.fare_changes.specs.Compared.{AreCompared}
 
 -- a total, `-` where no construction is lawful

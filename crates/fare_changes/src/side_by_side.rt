@@ -1,6 +1,7 @@
 //! Items that are answered side by side.
 
-ghost use Rattle.std.specs.Prelude.{◌≡◌, ◌++◌, ◌<◌, ℕ, Option, List, Some, IfOk, IfSome, OnOk, map, length, slice_index_or};
+ghost use Rattle.std.specs.Prelude.{◌≡◌, ◌++◌, ◌<◌, ℕ, Option, List, Some, IfOk, IfSome, OnOk, map, length};
+ghost use Rattle.std.specs.Prelude.{slice_index_or};
 ghost use Rattle.serde_json.specs.View.{items_view, view};
 ghost use Rattle.serde_json.specs.declared.value.Value.{Value};
 ghost use Rattle.fare_trip.specs.ItineraryText.{trip_of};

@@ -9,7 +9,8 @@ use Rattle.fare_answers.specs.declared.quote_fault.QuoteFault.TheVariants.{Memor
 use Rattle.fare_http.specs.declared.reply.Form.{Form}
 use Rattle.fare_http.specs.declared.reply.Form.TheVariants.{Text, Json}
 use Rattle.fare_http.specs.declared.reply.Reply.{Reply}
-use Rattle.fare_http.specs.declared.reply.Status.TheVariants.{BadRequest, InsufficientStorage, Okay, UnprocessableContent}
+use Rattle.fare_http.specs.declared.reply.Status.TheVariants.{BadRequest, InsufficientStorage, Okay}
+use Rattle.fare_http.specs.declared.reply.Status.TheVariants.{UnprocessableContent}
 use Rattle.fare_json.specs.Quotation.{QuotesJson}
 use Rattle.fare_sentences.specs.declared.fault.Fault.TheVariants as fault
 use Rattle.fare_desk.specs.Replies.{line, refused, says}

@@ -1,5 +1,6 @@
 -- How the values of the answers are spelled, piece by piece, as they are written.
-use Rattle.std.specs.Prelude.{ℕ, zero, suc, ◌+◌, ◌-◌, Bool, true, false, List, [], ◌∷◌, ◌++◌, Option, Some, None, codes, decimal}
+use Rattle.std.specs.Prelude.{ℕ, zero, suc, ◌+◌, ◌-◌, Bool, true, false, List, [], ◌∷◌, ◌++◌, Option, Some, None, codes}
+use Rattle.std.specs.Prelude.{decimal}
 use Rattle.std.specs.Prelude.{flat_map, length}
 use Rattle.json.specs.Print.{quoted}
 use Rattle.fare_codes.specs.declared.cabin.Cabin.{Cabin}

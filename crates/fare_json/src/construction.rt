@@ -9,7 +9,8 @@ ghost use Rattle.fare_calc.specs.Worksheet.{local_text};
 ghost use Rattle.fare_line.specs.LineText.{line_text};
 ghost use Rattle.fare_rules.specs.UnitPrice.{price};
 ghost use Rattle.fare_calc.specs.PartSheets.{home_currency};
-ghost use Rattle.fare_json.specs.Spelled.{after_comma, amount_json, array_json, construction_front_json, construction_json};
+ghost use Rattle.fare_json.specs.Spelled.{after_comma, amount_json, array_json, construction_front_json};
+ghost use Rattle.fare_json.specs.Spelled.{construction_json};
 ghost use Rattle.fare_json.specs.Spelled.{construction_rest_json, local_json, part_json};
 ghost use Rattle.fare_json.specs.Spelled.{rate_json, string_json, unit_json};
 

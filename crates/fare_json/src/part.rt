@@ -1,7 +1,8 @@
 //! A part of a construction.
 
 ghost use Rattle.std.specs.Prelude.{◌≡◌, ◌++◌, OnOk};
-ghost use Rattle.fare_json.specs.Spelled.{fare_front_json, fare_json, fare_rest_json, higher_json, measured_json, miles_json};
+ghost use Rattle.fare_json.specs.Spelled.{fare_front_json, fare_json, fare_rest_json, higher_json, measured_json};
+ghost use Rattle.fare_json.specs.Spelled.{miles_json};
 ghost use Rattle.fare_json.specs.Spelled.{pair_json, part_front_json, part_json, part_rest_json, rule_json};
 
 use crate::sectors::push_sectors;

@@ -9,7 +9,8 @@ use Rattle.fare_tariff.specs.declared.records.record.Record.TheVariants as filed
 use Rattle.fare_tariff.specs.Record.{RuleRecord}
 use Rattle.fare_tariff.specs.Tariff.{Tariff}
 use Rattle.fare_relaxed.specs.declared.term.Term.{Term}
-use Rattle.fare_relaxed.specs.declared.term.Term.TheVariants.{Advance, Stay, Stopovers, Transfers, Surcharge, Units, Ends}
+use Rattle.fare_relaxed.specs.declared.term.Term.TheVariants.{Advance, Stay, Stopovers, Transfers, Surcharge, Units}
+use Rattle.fare_relaxed.specs.declared.term.Term.TheVariants.{Ends}
 
 -- a rule that asks for as little by a kind of condition as a record can: no days of advance, any stay of up to 999
 -- days, 16 stopovers, 16 transfers, every surcharge, or every rule in a unit or end on end

@@ -1,7 +1,8 @@
 -- The kinds of condition that a rule can ask.
 use Rattle.std.specs.Prelude.{ℕ, List, [], ◌∷◌, codes}
 use Rattle.fare_relaxed.specs.declared.term.Term.{Term}
-use Rattle.fare_relaxed.specs.declared.term.Term.TheVariants.{Advance, Stay, Stopovers, Transfers, Surcharge, Units, Ends}
+use Rattle.fare_relaxed.specs.declared.term.Term.TheVariants.{Advance, Stay, Stopovers, Transfers, Surcharge, Units}
+use Rattle.fare_relaxed.specs.declared.term.Term.TheVariants.{Ends}
 
 -- the seven kinds, in their order
 abbrev pub all_terms : List Term

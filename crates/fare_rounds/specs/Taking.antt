@@ -1,5 +1,6 @@
 -- How the connections of a round are taken from a door.
-use Rattle.std.specs.Prelude.{◌≡◌, ◌⊎◌, ◌≤◌, ℕ, ◌+◌, ◌-◌, ◌^◌, List, [], ◌∷◌, ◌++◌, Option, None, Some, All, IfSome, length, map, min}
+use Rattle.std.specs.Prelude.{◌≡◌, ◌⊎◌, ◌≤◌, ℕ, ◌+◌, ◌-◌, ◌^◌, List, [], ◌∷◌, ◌++◌, Option, None, Some, All, IfSome}
+use Rattle.std.specs.Prelude.{length, map, min}
 use Rattle.std.specs.Prelude.{option_map, option_to_list, ⊤}
 use Rattle.fare_http.specs.Serving.{BringsTooLittle}
 use Rattle.fare_rounds.specs.declared.entry.Entry.{Entry}

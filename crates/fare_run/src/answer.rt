@@ -145,6 +145,8 @@ fn service_of<'g>(
     ensures port { result.port ≡ port }
     ensures count { result.count ≡ count }
     ensures round { result.round ≡ round }
+    ensures workers { result.workers ≡ quoter.now.workers }
+    ensures gate { result.gate.now ≡ quoter.now.gate.now }
     ensures some_workers { 1 ≤ result.workers }
     ensures few_workers { result.workers ≤ MOST_WORKERS }
 {

@@ -5,7 +5,8 @@ use Rattle.fare_book.specs.declared.damage.Damage.{Damage}
 use Rattle.fare_book.specs.declared.damage.Damage.TheVariants as damage
 use Rattle.fare_book.specs.DamageText.{damage_text}
 use Rattle.fare_sentences.specs.declared.fault.Fault.{Fault}
-use Rattle.fare_sentences.specs.declared.fault.Fault.TheVariants.{Trip, NoBatch, NoRequest, NoTrip, NoLine, BadLine, SourceLimit}
+use Rattle.fare_sentences.specs.declared.fault.Fault.TheVariants.{Trip, NoBatch, NoRequest, NoTrip, NoLine, BadLine}
+use Rattle.fare_sentences.specs.declared.fault.Fault.TheVariants.{SourceLimit}
 use Rattle.fare_sentences.specs.declared.fault.Fault.TheVariants.{BatchLimit, NoEdition, UnknownPlace, NoRoute, Method}
 use Rattle.fare_sentences.specs.declared.fault.Fault.TheVariants.{ReadFault, KeeperFault, Damaged}
 use Rattle.fare_sentences.specs.declared.fault.OneMethod.{OneMethod}

@@ -2,7 +2,8 @@
 
 ghost use Rattle.std.specs.Prelude.{◌≡◌, ◌++◌, IfOk, OnOk, codes, decimal};
 ghost use Rattle.fare_book.specs.DamageText.{damage_text};
-ghost use Rattle.fare_sentences.specs.FaultWords.{damage_words, desk_text, desk_words, fault_text, fault_words, method_name};
+ghost use Rattle.fare_sentences.specs.FaultWords.{damage_words, desk_text, desk_words, fault_text, fault_words};
+ghost use Rattle.fare_sentences.specs.FaultWords.{method_name};
 
 use crate::fault::{Fault, OneMethod};
 use crate::sentence::push_around;

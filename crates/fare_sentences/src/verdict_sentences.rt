@@ -1,7 +1,8 @@
 //! The sentences of the verdicts of an audit.
 
 ghost use Rattle.std.specs.Prelude.{◌≡◌, ◌++◌, IfOk, OnOk};
-ghost use Rattle.fare_sentences.specs.VerdictWords.{dearer_words, figures_words, lawful_words, other_trip_words, verdict_words};
+ghost use Rattle.fare_sentences.specs.VerdictWords.{dearer_words, figures_words, lawful_words, other_trip_words};
+ghost use Rattle.fare_sentences.specs.VerdictWords.{verdict_words};
 
 use crate::broken_words::push_broken;
 use crate::sentence::push_around;

@@ -20,7 +20,8 @@ pub record NamedState (A : Type 0) : Type 0 where
 abbrev pub named_code : {A : Type 0} → Coded A → Coded (NamedState A)
 named_code {A} store =
     code_by (List ℕ × (Option (KeeperState A) × (Bool × (Bool × ℕ))))
-    (coded× (coded_list coded_ℕ) (coded× (coded_option (keeper_code store)) (coded× coded_bool (coded× coded_bool coded_ℕ))))
+    (coded× (coded_list coded_ℕ) (coded× (coded_option (keeper_code store))
+        (coded× coded_bool (coded× coded_bool coded_ℕ))))
     (λ k. (k.name, (k.table, (k.is_as_found, (k.is_ready, k.faults)))))
     (λ p. record { name = p.0; table = p.1.0; is_as_found = p.1.1.0; is_ready = p.1.1.1.0; faults = p.1.1.1.1 })
     (λ _. refl)
@@ -57,7 +58,8 @@ module _ {A : Type 0} (g : Ghosts A) where
 
   -- where the disk returned what was written, a crash leaves what it could leave before, or the bodies of a table after
   -- this change
-  abbrev pub MayLeaveChanged : Option (KeeperState A) → Option (KeeperState A) → (List (List ℕ) → List (List ℕ)) → Type 0
+  abbrev pub MayLeaveChanged : Option (KeeperState A) → Option (KeeperState A)
+      → (List (List ℕ) → List (List ℕ)) → Type 0
   MayLeaveChanged None new change = ⊤
   MayLeaveChanged (Some old) None change = ⊥
   MayLeaveChanged (Some old) (Some new) change = HasCleanDisk (state g new.conn) →

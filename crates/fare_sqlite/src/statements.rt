@@ -1,6 +1,7 @@
 //! The statements on the table, each a call of its own.
 
-ghost use Rattle.std.specs.Prelude.{◌≡◌, ◌<◌, ◌≤◌, ◌+◌, ◌-◌, pos, length, slice_set, ◌++◌, ◌∷◌, [], true, None, Some, Err, IfOk};
+ghost use Rattle.std.specs.Prelude.{◌≡◌, ◌<◌, ◌≤◌, ◌+◌, ◌-◌, pos, length, slice_set, ◌++◌, ◌∷◌, [], true, None, Some};
+ghost use Rattle.std.specs.Prelude.{Err, IfOk};
 ghost use Rattle.std.specs.Prelude.{IfSome, IsTrue, OnOk, OnErr};
 ghost use Rattle.std.specs.List.{filter};
 ghost use Rattle.std.specs.Option.{ForSome};

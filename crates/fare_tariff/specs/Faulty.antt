@@ -1,6 +1,7 @@
 -- The first fault of a list, by the place of the first record that has a kind.
 use Rattle.std.specs.Prelude.{◌≡◌, ℕ, ◌+◌, ◌<◌, Bool, false, List, [], ◌∷◌, Option, Some, None, length, position}
-use Rattle.std.specs.Prelude.{count_by, nat_le, ◌==◌, ◌&&◌, ◌||◌, take, is_some, option_and_then, slice_get, slice_index_or}
+use Rattle.std.specs.Prelude.{count_by, nat_le, ◌==◌, ◌&&◌, ◌||◌, take, is_some, option_and_then, slice_get}
+use Rattle.std.specs.Prelude.{slice_index_or}
 use Rattle.std.specs.List.{position_from, range_with_len}
 use Rattle.fare_tariff.specs.declared.records.record.Record.{Record}
 use Rattle.fare_tariff.specs.declared.records.record.Record.TheVariants as filed

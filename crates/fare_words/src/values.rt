@@ -3,7 +3,8 @@
 ghost use Rattle.std.specs.Prelude.{◌≡◌, IfSome};
 ghost use Rattle.fare_words.specs.Limits.{IsBetween, most_best, most_count, most_edition, most_extra, most_port};
 ghost use Rattle.fare_words.specs.Limits.{most_round, most_sectors, most_seed, most_workers};
-ghost use Rattle.fare_words.specs.Values.{asked_by, asked_in, best_in, count_in, edition_in, extra_in, from_in, json_in};
+ghost use Rattle.fare_words.specs.Values.{asked_by, asked_in, best_in, count_in, edition_in, extra_in, from_in};
+ghost use Rattle.fare_words.specs.Values.{json_in};
 ghost use Rattle.fare_words.specs.Values.{port_in, round_in, sectors_in, seed_in, store_in, to_in, workers_in};
 ghost use Rattle.fare_words.specs.WithinLimits.{IsFew};
 
