@@ -21,7 +21,7 @@ abbrev pub named_code : {A : Type 0} → Coded A → Coded (NamedState A)
 named_code {A} store =
     code_by (List ℕ × (Option (KeeperState A) × (Bool × (Bool × ℕ))))
     (coded× (coded_list coded_ℕ) (coded× (coded_option (keeper_code store))
-        (coded× coded_bool (coded× coded_bool coded_ℕ))))
+    (coded× coded_bool (coded× coded_bool coded_ℕ))))
     (λ k. (k.name, (k.table, (k.is_as_found, (k.is_ready, k.faults)))))
     (λ p. record { name = p.0; table = p.1.0; is_as_found = p.1.1.0; is_ready = p.1.1.1.0; faults = p.1.1.1.1 })
     (λ _. refl)
