@@ -13,7 +13,7 @@ use crate::walking::{Wanted, walk};
 use fare_branch::{best_of, dived_front, is_far};
 use fare_component::Table;
 use fare_floors::{Partial, Stage, ahead_of, stack_of};
-use fare_homing::{Homing, homing_of, number_at};
+use fare_homing::{Homing, homing_of, number_at, with_barred};
 use fare_outside::NoMemory;
 use fare_rules::{PRICE_LIMIT, edition_is_valid, price_is_bounded};
 use fare_tariff::Edition;
@@ -67,7 +67,7 @@ fn rise(table: &Table, k: usize, least: u64, found: &mut BestList)
     requires ranked { IsRanked table.now.edition table.now.trip k found.old }
     ensures { IsFirstK table.now.edition table.now.trip k found.new }
 {
-    let homing = homing_of(table, None);
+    let homing = with_barred(table, homing_of(table, None));
     if is_far(&homing, least) {
         return search_far(table, &homing, k, least, found);
     }
@@ -218,7 +218,8 @@ fn walk_under(
     ensures { IsWalk table.now.edition table.now.trip wanted.count wanted.limit (Completes []) found.old found.new }
 {
     if ceiling.is_some() {
-        return walk_all(table, &homing_of(table, ceiling), wanted, found);
+        let homing = with_barred(table, homing_of(table, ceiling));
+        return walk_all(table, &homing, wanted, found);
     }
     walk_all(table, homing, wanted, found)
 }

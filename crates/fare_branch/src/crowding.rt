@@ -83,7 +83,7 @@ fn may_come(edition: &Edition, parts: &[Part], entry: &Entry) -> bool
 fn takes_rule(edition: &Edition, fares: &[u32; MOST_LONELY], entry: &Entry) -> bool
     ensures { result ≡ takes_rule edition.now fares.now entry.now }
 {
-    entry.single.is_some() && is_rule_of(edition, fares, rule_at(edition, entry.fare))
+    entry.single.is_some() && is_rule_of(edition, fares.as_slice(), rule_at(edition, entry.fare))
 }
 
 /// How many rules a part with an entry takes, with those behind its end; the greatest number where it may not come.

@@ -13,7 +13,7 @@ use crate::descent::dive;
 use crate::pieces::Piece;
 use crate::walking::{Found, keep};
 use fare_component::Table;
-use fare_homing::{Homing, homing_of, number_at};
+use fare_homing::{Homing, homing_of, number_at, with_barred};
 
 /// Under how many ceilings a search dives.
 const MOST_CEILINGS: u32 = 4;
@@ -93,6 +93,17 @@ pub(crate) fn raised(table: &Table, homing: Homing, least: u64) -> Homing
         Some(ceiling) if ceiling.price < least && !homing.rest[0].is_nothing() => {
             homing_of(table, Some(least))
         }
+        _ => homing,
+    }
+}
+
+/// The same with what is behind each point where some fares are barred, unless all costs no less than the price known.
+pub(crate) fn closer(table: &Table, homing: Homing, least: u64) -> Homing
+    requires homing { AreHomingsOf table.now.edition table.now.trip homing }
+    ensures homing { AreHomingsOf table.now.edition table.now.trip result }
+{
+    match number_at(&homing.rest, 0).amount() {
+        Some(floor) if floor < least => with_barred(table, homing),
         _ => homing,
     }
 }

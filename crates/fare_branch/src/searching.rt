@@ -9,7 +9,7 @@ ghost use Rattle.fare_branch.specs.Search.{IsLeastPrice, BeginsIn, BeginsBy, IsS
 ghost use Rattle.fare_branch.specs.Walked.{IsWalk, IsUnderAll};
 
 use crate::bound::Bound;
-use crate::opening::{dives, raised};
+use crate::opening::{closer, dives, raised};
 use crate::pieces::{Counts, Piece, choice, choices, counts_of};
 use crate::walking::{Found, follow};
 use fare_bounds::Rest;
@@ -34,7 +34,7 @@ pub fn search<B: Bound>(
 {
     let (homing, first) = dives(table, piece, bound);
     let known = bound.seen();
-    let homing = raised(table, homing, known);
+    let homing = closer(table, raised(table, homing, known), known);
     let found = walk_piece(table, &homing, piece, first, bound);
     let least = bound.seen();
     kept_at(found, least)

@@ -16,6 +16,7 @@ pub mod CrossingLemmas
 pub mod StackRowLemmas
 pub mod StackFloorLemmas
 pub mod StackLemmas
+pub mod BarringLemmas
 pub mod StandLemmas
 pub mod PairLemmas
 pub mod LastPartLemmas

@@ -10,7 +10,7 @@ use Rattle.fare_trip.specs.Itinerary.{Itinerary, count, point}
 use Rattle.fare_tariff.specs.Tariff.{Tariff}
 use Rattle.fare_rules.specs.declared.part.Part.{Part}
 use Rattle.fare_rules.specs.Span.{is_surface, sectors}
-use Rattle.fare_rules.specs.Construction.{begin_after, start_of, end_of, places, own, origin, unit_of, first_of, last_of, but_last, greatest_unit}
+use Rattle.fare_rules.specs.Construction.{begin_after, part_at, start_of, end_of, places, own, origin, unit_of, first_of, last_of, but_last, greatest_unit}
 use Rattle.fare_rules.specs.Lawful.{holds_gap}
 use Rattle.fare_rules.specs.Shape.{is_ow, holds_ow, is_jaw, ends_in, comes_home, comes_home_early, ends_at_home, lie_together}
 use Rattle.fare_rules.proofs.MemberLemmas.{Member}
@@ -24,7 +24,7 @@ use Rattle.fare_component.specs.Table.{entries_of}
 use Rattle.fare_homing.specs.declared.ceiling.Ceiling.{Ceiling}
 use Rattle.fare_homing.specs.Ceiling.{IsCeiling, IsWithin, below_ceiling}
 use Rattle.fare_homing.specs.Homing.{IsUpTo, homing_at, is_same_city, may_end_at, may_go_on, back_cost, between_cost, heads_to}
-use Rattle.fare_homing.specs.HomingRows.{AreHomings}
+use Rattle.fare_homing.specs.Barred.{is_barred}
 use Rattle.fare_floors.proofs.CircleLemmas.{below_every}
 use Rattle.fare_floors.proofs.CostLemmas.{member_place, unit_from_one}
 use Rattle.fare_floors.proofs.UnitLemmas.{all, own_has, unit_in, alone_in, holds_none}
@@ -35,8 +35,8 @@ use Rattle.fare_floors.proofs.PairLemmas.{pair_of}
 use Rattle.fare_floors.proofs.OnwardLemmas.{ends_rise, must_close_from, closed_whole, ends_home, either_left, either_right}
 use Rattle.fare_floors.specs.Costs.{true_cost}
 use Rattle.fare_floors.specs.Stack.{goes_on, stand_of, IsOver, LastsBy}
-use Rattle.fare_homing.proofs.UnderLemmas.{alone_under, between_under, first_under, last_closes_under, last_jaw_under, nothing_left}
-use Rattle.fare_floors.proofs.StackLemmas.{home_at, begins_at, lasts_more, AreSame, over_more, over_same, over_down, over_up, Opens, opens, from_open, step_over}
+use Rattle.fare_homing.proofs.UnderLemmas.{alone_free_under, alone_under, between_under, first_free_under, first_under, last_closes_under, last_jaw_under, nothing_free_left}
+use Rattle.fare_floors.proofs.StackLemmas.{IsBehind, home_at, begins_at, lasts_more, AreSame, over_more, over_same, over_down, over_up, Opens, opens, from_open, step_over}
 use Rattle.fare_floors.proofs.ShutLemmas.{any_at, long_ends_at_home}
 use Rattle.fare_floors.proofs.StandLemmas.{point_behind, ends_before, begins_between, begins_near, begins_there, stand_here, stand_low, stand_over}
 use Rattle.fare_floors.proofs.SumLemmas.{greatest_fewer, unit_up_to}
@@ -150,7 +150,7 @@ module _ (tariff : Tariff) (trip : Itinerary) (parts : List Part) (price : ℕ) 
       either j last (inl home) = either_left (bytes_eq (point trip (end_of parts last)) (point trip (start_of trip parts j))) (lie_together tariff (point trip (end_of parts last)) (point trip (start_of trip parts j))) home
       either j last (inr near) = either_right (bytes_eq (point trip (end_of parts last)) (point trip (start_of trip parts j))) (lie_together tariff (point trip (end_of parts last)) (point trip (start_of trip parts j))) near
 
-  module _ (ceiling : Option Ceiling) (alike : IsCeiling tariff trip ceiling) (cheap : IsWithin ceiling price) (closing jaw : ℕ → ℕ → ℕ → Option ℕ) (whole : ℕ → ℕ → Option ℕ) (left : ℕ → Option ℕ) (are : AreHomings tariff trip ceiling closing jaw whole left) where
+  module _ (ceiling : Option Ceiling) (alike : IsCeiling tariff trip ceiling) (cheap : IsWithin ceiling price) (closing jaw : ℕ → ℕ → ℕ → Option ℕ) (whole : ℕ → ℕ → Option ℕ) (left : ℕ → Option ℕ) {from : ℕ} (are : IsBehind tariff trip ceiling closing jaw whole left parts from) where
     abbrev Stands : ℕ → ℕ → ℕ → ℕ → Type 0
     Stands k u i cost = IsOver tariff trip closing jaw left parts k u i cost
 
@@ -269,10 +269,12 @@ module _ (tariff : Tariff) (trip : Itinerary) (parts : List Part) (price : ℕ) 
             let same : AreSame tariff trip closing jaw left parts (k + 1) k (greatest_unit parts (places parts)) = λ v low most. (alone_same v, alone_stands v) in
             over_same tariff trip closing jaw left parts (k + 1) k (greatest_unit parts (places parts)) (end_of parts (k + 1)) behind same over
 
-        alone_over : Stands k (greatest_unit parts (places parts)) (point_behind parts k) (true_cost tariff trip parts (k + 1) + behind)
-        alone_over =
-            let up : IsUpTo (true_cost tariff trip parts (k + 1)) (whole (point_behind parts k) (end_of parts (k + 1))) = alone_under are (point_behind parts k) (end_of parts (k + 1)) (entry tariff trip parts price lawful (k + 1)) (true_cost tariff trip parts (k + 1)) contained (alone_cost tariff trip parts price lawful (k + 1) (omega arith) high way) in
-            step_over tariff trip ceiling closing jaw whole left are parts k (greatest_unit parts (places parts)) (point_behind parts k) (end_of parts (k + 1)) (true_cost tariff trip parts (k + 1)) behind rises within up (λ v low most t. home_and_stand v (alone_same v) t) alone_behind
+        alone_over : from ≤ k → Stands k (greatest_unit parts (places parts)) (point_behind parts k) (true_cost tariff trip parts (k + 1) + behind)
+        alone_over past =
+            let first : first_of (own parts (unit_of parts (k + 1))) ≡ k + 1 = alone_at.0 in
+            let free : IsUpTo (true_cost tariff trip parts (k + 1)) (are.outer (point_behind parts k) (end_of parts (k + 1))) = alone_free_under are.rests (point_behind parts k) (end_of parts (k + 1)) (entry tariff trip parts price lawful (k + 1)) (true_cost tariff trip parts (k + 1)) contained (are.clear (k + 1) (omega arith) high (omega arith)) (alone_cost tariff trip parts price lawful (k + 1) (omega arith) high way) in
+            let up : IsUpTo (true_cost tariff trip parts (k + 1)) (whole (point_behind parts k) (end_of parts (k + 1))) = alone_under are.homings (point_behind parts k) (end_of parts (k + 1)) (entry tariff trip parts price lawful (k + 1)) (true_cost tariff trip parts (k + 1)) contained (alone_cost tariff trip parts price lawful (k + 1) (omega arith) high way) in
+            step_over tariff trip ceiling closing jaw whole left parts are k (greatest_unit parts (places parts)) (point_behind parts k) (end_of parts (k + 1)) (true_cost tariff trip parts (k + 1)) behind rises within up free (λ v low most t. home_and_stand v (alone_same v) t) alone_behind
 
       -- a half round trip stands first, between or last in its unit
       module _ (way : is_ow tariff parts (k + 1) ≡ false) where
@@ -326,8 +328,8 @@ module _ (tariff : Tariff) (trip : Itinerary) (parts : List Part) (price : ℕ) 
               → IsUpTo (true_cost tariff trip parts (k + 1)) (homing_at trip (closing (stand_of parts k (unit_of parts (k + 1)))) (jaw (stand_of parts k (unit_of parts (k + 1)))) (begins_at trip parts (unit_of parts (k + 1))) (point_behind parts k) (end_of parts (k + 1)))
           last_up cost =
               elim (cases_Bool (is_same_city trip (begins_at trip parts (unit_of parts (k + 1))) (end_of parts (k + 1)))) [
-                | inl t ↦ rw t (last_closes_under are (stand_of parts k (unit_of parts (k + 1))) (point_behind parts k) (end_of parts (k + 1)) (entry tariff trip parts price lawful (k + 1)) (true_cost tariff trip parts (k + 1)) stand_before near contained cost)
-                | inr f ↦ rw f (last_jaw_under are (stand_of parts k (unit_of parts (k + 1))) (point_behind parts k) (end_of parts (k + 1)) (entry tariff trip parts price lawful (k + 1)) (true_cost tariff trip parts (k + 1)) stand_before (there_last f) contained cost)
+                | inl t ↦ rw t (last_closes_under are.homings (stand_of parts k (unit_of parts (k + 1))) (point_behind parts k) (end_of parts (k + 1)) (entry tariff trip parts price lawful (k + 1)) (true_cost tariff trip parts (k + 1)) stand_before near contained cost)
+                | inr f ↦ rw f (last_jaw_under are.homings (stand_of parts k (unit_of parts (k + 1))) (point_behind parts k) (end_of parts (k + 1)) (entry tariff trip parts price lawful (k + 1)) (true_cost tariff trip parts (k + 1)) stand_before (there_last f) contained cost)
               ]
 
         -- with other parts of its unit behind it
@@ -386,8 +388,8 @@ module _ (tariff : Tariff) (trip : Itinerary) (parts : List Part) (price : ℕ) 
               city = λ first. shape.1 (three first less);
             }
 
-        first_over : first_of (own parts (unit_of parts (k + 1))) ≡ k + 1 → Stands k (greatest_unit parts (places parts)) (point_behind parts k) (true_cost tariff trip parts (k + 1) + behind)
-        first_over first =
+        first_over : from ≤ k → first_of (own parts (unit_of parts (k + 1))) ≡ k + 1 → Stands k (greatest_unit parts (places parts)) (point_behind parts k) (true_cost tariff trip parts (k + 1) + behind)
+        first_over past first =
             let both : first_of (own parts (unit_of parts (k + 1))) < last_of (own parts (unit_of parts (k + 1))) = apart in
             let less : k + 1 < last_of (own parts (unit_of parts (k + 1))) = omega arith in
             let c = opened less in
@@ -405,15 +407,24 @@ module _ (tariff : Tariff) (trip : Itinerary) (parts : List Part) (price : ℕ) 
             let g = going_on tariff trip parts price lawful (k + 1) (unit_of parts (k + 1)) (goes less) in
             let F : ℕ → Type 0 = λ f. end_of parts f ≤ start_of trip parts (last_of (own parts (unit_of parts (k + 1)))) in
             let G : ℕ → Type 0 = λ f. true_cost tariff trip parts f + true_cost tariff trip parts (last_of (own parts (unit_of parts (k + 1)))) ≤ true_cost tariff trip parts (k + 1) + c.0 in
-            let H : ℕ → Type 0 = λ a. HasPair tariff trip a (home_at parts (unit_of parts (k + 1))) (true_cost tariff trip parts (k + 1) + c.0) in
-            let pair : HasPair tariff trip (begin_after trip (point_behind parts k)) (home_at parts (unit_of parts (k + 1))) (true_cost tariff trip parts (k + 1) + c.0) =
-            subst H begins (pair_of tariff trip parts price lawful (unit_of parts (k + 1)) mine_low mine_high apart (true_cost tariff trip parts (k + 1) + c.0) (subst F (sym first) (starts_behind (k + 1) (last_of (own parts (unit_of parts (k + 1)))) (omega arith) less g.within)) (subst G (sym first) (omega arith))) in
+            let pair : (barred : List ℕ) → is_barred tariff barred (part_at parts (first_of (own parts (unit_of parts (k + 1))))).fare ≡ false → is_barred tariff barred (part_at parts (last_of (own parts (unit_of parts (k + 1))))).fare ≡ false
+            → HasPair tariff trip barred (begin_after trip (point_behind parts k)) (home_at parts (unit_of parts (k + 1))) (true_cost tariff trip parts (k + 1) + c.0) =
+            λ barred begin_free end_free.
+            let H : ℕ → Type 0 = λ a. HasPair tariff trip barred a (home_at parts (unit_of parts (k + 1))) (true_cost tariff trip parts (k + 1) + c.0) in
+            subst H begins (pair_of tariff trip parts price lawful (unit_of parts (k + 1)) mine_low mine_high apart barred begin_free end_free (true_cost tariff trip parts (k + 1) + c.0) (subst F (sym first) (starts_behind (k + 1) (last_of (own parts (unit_of parts (k + 1)))) (omega arith) less g.within)) (subst G (sym first) (omega arith))) in
             let up : IsUpTo (true_cost tariff trip parts (k + 1) + c.0) (whole (point_behind parts k) (home_at parts (unit_of parts (k + 1)))) =
-            first_under are (point_behind parts k) (end_of parts (k + 1)) (home_at parts (unit_of parts (k + 1))) (entry tariff trip parts price lawful (k + 1)) (true_cost tariff trip parts (k + 1)) c.0 (true_cost tariff trip parts (k + 1) + c.0) contained cost h.0 may homing (omega arith) pair in
+            first_under are.homings (point_behind parts k) (end_of parts (k + 1)) (home_at parts (unit_of parts (k + 1))) (entry tariff trip parts price lawful (k + 1)) (true_cost tariff trip parts (k + 1)) c.0 (true_cost tariff trip parts (k + 1) + c.0) contained cost h.0 may homing (omega arith) (pair [] refl refl) in
+            let here_free : is_barred tariff are.barred (part_at parts (k + 1)).fare ≡ false = are.clear (k + 1) (omega arith) high (omega arith) in
+            let B : ℕ → Type 0 = λ j. is_barred tariff are.barred (part_at parts j).fare ≡ false in
+            let K : ℕ → Type 0 = λ u. from < first_of (own parts u) in
+            let last_free : is_barred tariff are.barred (part_at parts (last_of (own parts (unit_of parts (k + 1))))).fare ≡ false =
+            are.clear (last_of (own parts (unit_of parts (k + 1)))) (omega arith) g.within (subst K (sym g.last_own) (omega arith)) in
+            let free : IsUpTo (true_cost tariff trip parts (k + 1) + c.0) (are.outer (point_behind parts k) (home_at parts (unit_of parts (k + 1)))) =
+            first_free_under are.rests (point_behind parts k) (end_of parts (k + 1)) (home_at parts (unit_of parts (k + 1))) (entry tariff trip parts price lawful (k + 1)) (true_cost tariff trip parts (k + 1)) c.0 (true_cost tariff trip parts (k + 1) + c.0) contained here_free cost h.0 may homing (omega arith) (pair are.barred (subst B (sym first) here_free) last_free) in
             let rise : point_behind parts k < end_of parts (k + 1) = rises in
-            let past : end_of parts (k + 1) < home_at parts (unit_of parts (k + 1)) = h.0 in
+            let home_past : end_of parts (k + 1) < home_at parts (unit_of parts (k + 1)) = h.0 in
             let o : Stands k (unit_of parts (k + 1) - 1) (point_behind parts k) ((true_cost tariff trip parts (k + 1) + c.0) + c.1) =
-            step_over tariff trip ceiling closing jaw whole left are parts k (unit_of parts (k + 1) - 1) (point_behind parts k) (home_at parts (unit_of parts (k + 1))) (true_cost tariff trip parts (k + 1) + c.0) c.1 (omega arith) h.1 up
+            step_over tariff trip ceiling closing jaw whole left parts are k (unit_of parts (k + 1) - 1) (point_behind parts k) (home_at parts (unit_of parts (k + 1))) (true_cost tariff trip parts (k + 1) + c.0) c.1 (omega arith) h.1 up free
             (λ v low most t. (home_behind tariff trip parts price lawful k v low high (omega arith) first less (other_same v (λ e. omega arith) ∙ t), stand_low tariff trip parts price lawful k v t)) (under_same (home_at parts (unit_of parts (k + 1))) c.1 c.4) in
             let here : goes_on parts k (unit_of parts (k + 1)) ≡ false = goes_not parts k (unit_of parts (k + 1)) (λ a b. omega arith) in
             let m : Stands k (greatest_unit parts (places parts)) (point_behind parts k) ((true_cost tariff trip parts (k + 1) + c.0) + c.1) =
@@ -436,7 +447,7 @@ module _ (tariff : Tariff) (trip : Itinerary) (parts : List Part) (price : ℕ) 
             let stand : ℕ = stand_of parts k (unit_of parts (k + 1)) in
             let elsewhere : is_same_city trip home (end_of parts (k + 1)) ≡ false = ends_apart (unit_of parts (k + 1)) (k + 1) mine_low mine_high long (own_has tariff trip parts price lawful (k + 1) (omega arith) high) less city in
             let up : IsUpTo (true_cost tariff trip parts (k + 1) + c.0) (closing stand (point_behind parts k) home) =
-            between_under are stand (point_behind parts k) (end_of parts (k + 1)) home (entry tariff trip parts price lawful (k + 1)) (true_cost tariff trip parts (k + 1)) c.0 (stand_before first) (there_between first long) contained cost h.0 h.1 elsewhere closes in
+            between_under are.homings stand (point_behind parts k) (end_of parts (k + 1)) home (entry tariff trip parts price lawful (k + 1)) (true_cost tariff trip parts (k + 1)) c.0 (stand_before first) (there_between first long) contained cost h.0 h.1 elsewhere closes in
             let here : goes_on parts k (unit_of parts (k + 1)) ≡ true = goes_on_from parts k (unit_of parts (k + 1)) (omega arith) (omega arith) in
             let o : Stands k (unit_of parts (k + 1)) (point_behind parts k) ((true_cost tariff trip parts (k + 1) + c.0) + c.1) = from_open tariff trip closing jaw left parts k (unit_of parts (k + 1)) (point_behind parts k) (true_cost tariff trip parts (k + 1) + c.0) c.1 mine_low here (from_city stand (begins_at trip parts (unit_of parts (k + 1))) (point_behind parts k) (home_at parts (unit_of parts (k + 1))) (true_cost tariff trip parts (k + 1) + c.0) city up) (under_same (home_at parts (unit_of parts (k + 1))) c.1 c.4)
             (lasts_more tariff trip parts (last_of (own parts (unit_of parts (k + 1)))) (point_behind parts k) (end_of parts (k + 1)) c.0 (true_cost tariff trip parts (k + 1) + c.0) (omega arith) (omega arith) c.5) in
@@ -462,10 +473,10 @@ module _ (tariff : Tariff) (trip : Itinerary) (parts : List Part) (price : ℕ) 
             let m : Stands k (unit_of parts (k + 1)) (point_behind parts k) (true_cost tariff trip parts (k + 1) + behind) = from_open tariff trip closing jaw left parts k (unit_of parts (k + 1)) (point_behind parts k) (true_cost tariff trip parts (k + 1)) behind mine_low here (subst P home up) (subst Q home (under_same (end_of parts (k + 1)) behind o)) by_last in
             over_up tariff trip closing jaw left parts k (unit_of parts (k + 1)) (greatest_unit parts (places parts)) (point_behind parts k) (true_cost tariff trip parts (k + 1) + behind) mine_high (λ v low most. above_not v low) m
 
-        half_over : Stands k (greatest_unit parts (places parts)) (point_behind parts k) (true_cost tariff trip parts (k + 1) + behind)
-        half_over =
+        half_over : from ≤ k → Stands k (greatest_unit parts (places parts)) (point_behind parts k) (true_cost tariff trip parts (k + 1) + behind)
+        half_over past =
             elim (cases_eq (first_of (own parts (unit_of parts (k + 1)))) (k + 1)) [
-              | inl first ↦ first_over first
+              | inl first ↦ first_over past first
               | inr later ↦ elim (cases_eq (last_of (own parts (unit_of parts (k + 1)))) (k + 1)) [
                 | inl last ↦ last_over (below (first_of (own parts (unit_of parts (k + 1)))) (k + 1) first_by later) last
                 | inr earlier ↦ between_over (below (first_of (own parts (unit_of parts (k + 1)))) (k + 1) first_by later) (above (last_of (own parts (unit_of parts (k + 1)))) (k + 1) last_by earlier)
@@ -473,25 +484,25 @@ module _ (tariff : Tariff) (trip : Itinerary) (parts : List Part) (price : ℕ) 
             ]
 
       -- a part that comes before it costs what it does
-      part_over : Stands k (greatest_unit parts (places parts)) (point_behind parts k) (true_cost tariff trip parts (k + 1) + behind)
-      part_over =
-          elim (cases_Bool (is_ow tariff parts (k + 1))) [ inl way ↦ alone_over way | inr way ↦ half_over way ]
+      part_over : from ≤ k → Stands k (greatest_unit parts (places parts)) (point_behind parts k) (true_cost tariff trip parts (k + 1) + behind)
+      part_over past =
+          elim (cases_Bool (is_ow tariff parts (k + 1))) [ inl way ↦ alone_over way past | inr way ↦ half_over way past ]
 
     -- what the parts behind a place cost is over the units that go on there
-    pub all_over : (m k : ℕ) → k + m ≡ length parts → Stands k (greatest_unit parts (places parts)) (point_behind parts k) (sum_by (true_cost tariff trip parts) (range_with_len (k + 1) m))
-    all_over zero k whole_list =
+    pub all_over : (m k : ℕ) → from ≤ k → k + m ≡ length parts → Stands k (greatest_unit parts (places parts)) (point_behind parts k) (sum_by (true_cost tariff trip parts) (range_with_len (k + 1) m))
+    all_over zero k past whole_list =
         let here : k ≡ length parts = omega arith in
         let last : point_behind parts (length parts) ≡ count trip = behind_all parts ∙ (all tariff trip parts price lawful).last in
         let P : ℕ → Type 0 = λ j. left (point_behind parts j) ≡ Some 0 in
-        let end : left (point_behind parts k) ≡ Some 0 = subst P (sym here) (ap left last ∙ nothing_left are) in
+        let end : left (point_behind parts k) ≡ Some 0 = subst P (sym here) (ap left last ∙ nothing_free_left are.rests) in
         over_up tariff trip closing jaw left parts k 0 (greatest_unit parts (places parts)) (point_behind parts k) 0 (omega arith) (λ v low most. none_behind v) (0, end, omega arith)
       where
         none_behind : (v : ℕ) → goes_on parts k v ≡ false
         none_behind v = not_so (goes_on parts k v) (λ t. let g = going_on tariff trip parts price lawful k v t in let past : k < last_of (own parts v) = g.behind in let most : last_of (own parts v) ≤ length parts = g.within in omega arith)
-    all_over (suc m) k whole_list =
-        let more : Stands (k + 1) (greatest_unit parts (places parts)) (point_behind parts (k + 1)) (sum_by (true_cost tariff trip parts) (range_with_len (k + 1 + 1) m)) = all_over m (k + 1) (omega arith) in
+    all_over (suc m) k past whole_list =
+        let more : Stands (k + 1) (greatest_unit parts (places parts)) (point_behind parts (k + 1)) (sum_by (true_cost tariff trip parts) (range_with_len (k + 1 + 1) m)) = all_over m (k + 1) (omega arith) (omega arith) in
         let P : ℕ → Type 0 = λ j. Stands (k + 1) (greatest_unit parts (places parts)) j (sum_by (true_cost tariff trip parts) (range_with_len (k + 1 + 1) m)) in
-        let o : Stands k (greatest_unit parts (places parts)) (point_behind parts k) (true_cost tariff trip parts (k + 1) + sum_by (true_cost tariff trip parts) (range_with_len (k + 1 + 1) m)) = part_over k (omega arith) (sum_by (true_cost tariff trip parts) (range_with_len (k + 1 + 1) m)) (subst P (behind_next parts k) more) in
+        let o : Stands k (greatest_unit parts (places parts)) (point_behind parts k) (true_cost tariff trip parts (k + 1) + sum_by (true_cost tariff trip parts) (range_with_len (k + 1 + 1) m)) = part_over k (omega arith) (sum_by (true_cost tariff trip parts) (range_with_len (k + 1 + 1) m)) (subst P (behind_next parts k) more) past in
         let Q : ℕ → Type 0 = λ x. Stands k (greatest_unit parts (places parts)) (point_behind parts k) x in
         subst Q (sym (sum_by-cons (true_cost tariff trip parts) (k + 1) (range_with_len (k + 1 + 1) m))) o
 
@@ -521,12 +532,12 @@ module _ (tariff : Tariff) (trip : Itinerary) (front rest : List Part) (price : 
       omega arith)
 
 -- what the parts behind the first parts of a lawful construction cost is over the units of these that go on
-pub behind_is_over : (tariff : Tariff) (trip : Itinerary) (ceiling : Option Ceiling) → IsCeiling tariff trip ceiling → (closing jaw : ℕ → ℕ → ℕ → Option ℕ) (whole : ℕ → ℕ → Option ℕ) (left : ℕ → Option ℕ) → AreHomings tariff trip ceiling closing jaw whole left
-    → (front rest : List Part) (price : ℕ) → IsLawful tariff trip (front ++ rest) price → IsWithin ceiling price
+pub behind_is_over : (tariff : Tariff) (trip : Itinerary) (ceiling : Option Ceiling) → IsCeiling tariff trip ceiling → (closing jaw : ℕ → ℕ → ℕ → Option ℕ) (whole : ℕ → ℕ → Option ℕ) (left : ℕ → Option ℕ)
+    → (front rest : List Part) → IsBehind tariff trip ceiling closing jaw whole left (front ++ rest) (length front) → (price : ℕ) → IsLawful tariff trip (front ++ rest) price → IsWithin ceiling price
     → IsOver tariff trip closing jaw left (front ++ rest) (length front) (greatest_unit front (places front)) (end_of front (length front)) (sum_by (true_cost tariff trip (front ++ rest)) (range_with_len (length front + 1) (length rest)))
-behind_is_over tariff trip ceiling alike closing jaw whole left are front rest price lawful cheap =
+behind_is_over tariff trip ceiling alike closing jaw whole left front rest are price lawful cheap =
     let n : length (front ++ rest) ≡ length front + length rest = length-append front rest in
-    let o = all_over tariff trip (front ++ rest) price lawful ceiling alike cheap closing jaw whole left are (length rest) (length front) (sym n) in
+    let o = all_over tariff trip (front ++ rest) price lawful ceiling alike cheap closing jaw whole left are (length rest) (length front) (omega arith) (sym n) in
     let P : ℕ → Type 0 = λ i. IsOver tariff trip closing jaw left (front ++ rest) (length front) (greatest_unit (front ++ rest) (places (front ++ rest))) i (sum_by (true_cost tariff trip (front ++ rest)) (range_with_len (length front + 1) (length rest))) in
     over_down tariff trip closing jaw left (front ++ rest) (length front) (greatest_unit front (places front)) (greatest_unit (front ++ rest) (places (front ++ rest))) (end_of front (length front)) (sum_by (true_cost tariff trip (front ++ rest)) (range_with_len (length front + 1) (length rest)))
     (fewer tariff trip front rest price lawful) (λ v low high. none_new tariff trip front rest price lawful v low) (subst P (behind_front front rest) o)

@@ -14,7 +14,8 @@ use Rattle.fare_rules.specs.Best.{IsLawful}
 use Rattle.fare_rules.proofs.LawfulLemmas.{kept}
 use Rattle.fare_rules.proofs.MemberLemmas.{Member, member_numbers}
 use Rattle.fare_rules.proofs.NumberLemmas.{find_none}
-use Rattle.fare_homing.specs.Pairs.{HasPair, days_between, may_pair}
+use Rattle.fare_homing.specs.Barred.{is_barred}
+use Rattle.fare_homing.specs.Pairs.{HasPair, are_mates, days_between, may_pair}
 use Rattle.fare_floors.specs.Costs.{true_cost}
 use Rattle.fare_floors.proofs.GoesOnLemmas.{first_member, last_member, not_so}
 use Rattle.fare_floors.proofs.ShutLemmas.{any_at, both_true}
@@ -108,16 +109,20 @@ module _ (tariff : Tariff) (trip : Itinerary) (parts : List Part) (price : ℕ) 
       not_so (is_misfit tariff parts last first) (λ t. true_false (sym (any_at (is_misfit tariff parts last) first (numbers 1 last) (member_numbers 1 last first first_place.0 less) t) ∙ fits)) in
       so_true (are_unit_mates tariff parts first last) (second_false _ (not (are_unit_mates tariff parts first last)) (eq-eqb (unit_of parts last) (unit_of parts first) (last_place.2 ∙ sym first_place.2)) agree)
 
-  may : may_pair tariff (days_between trip (start_of trip parts first) (start_of trip parts last)) (part_at parts first).fare (part_at parts last).fare ≡ true
+  agree : are_mates tariff (days_between trip (start_of trip parts first) (start_of trip parts last)) (part_at parts first).fare (part_at parts last).fare ≡ true
   unfolding stay
-  may =
+  agree =
       let begin : allows_stay_of tariff (stay trip parts (own parts unit)) (fare_of tariff parts first) ≡ true = so_true _ (allows first first_in) in
       let end : allows_stay_of tariff (stay trip parts (own parts unit)) (fare_of tariff parts last) ≡ true = so_true _ (allows last last_in) in
       both_true (are_unit_mates tariff parts first last) _ mates (both_true _ _ begin end)
 
-  -- so both are a pair, which the unit costs at least
-  pub pair_of : (cost : ℕ) → end_of parts first ≤ start_of trip parts last → true_cost tariff trip parts first + true_cost tariff trip parts last ≤ cost → HasPair tariff trip (start_of trip parts first) (end_of parts last) cost
-  pair_of cost later sum =
+  may : (barred : List ℕ) → is_barred tariff barred (part_at parts first).fare ≡ false → is_barred tariff barred (part_at parts last).fare ≡ false
+      → may_pair tariff barred (days_between trip (start_of trip parts first) (start_of trip parts last)) (part_at parts first).fare (part_at parts last).fare ≡ true
+  may barred begin end = both_true (are_mates tariff (days_between trip (start_of trip parts first) (start_of trip parts last)) (part_at parts first).fare (part_at parts last).fare) _ agree (both_true _ _ (ap not begin) (ap not end))
+
+  -- so both are a pair, which the unit costs at least, where neither is barred
+  pub pair_of : (barred : List ℕ) → is_barred tariff barred (part_at parts first).fare ≡ false → is_barred tariff barred (part_at parts last).fare ≡ false → (cost : ℕ) → end_of parts first ≤ start_of trip parts last → true_cost tariff trip parts first + true_cost tariff trip parts last ≤ cost → HasPair tariff trip barred (start_of trip parts first) (end_of parts last) cost
+  pair_of barred begin end cost later sum =
       let first_own : first_of (own parts (unit_of parts first)) ≡ first = ap (λ u. first_of (own parts u)) first_place.2 in
       let last_own : last_of (own parts (unit_of parts last)) ≡ last = ap (λ u. last_of (own parts u)) last_place.2 in
       let P : ℕ → Type 0 = λ u. first < last_of (own parts u) in
@@ -133,6 +138,6 @@ module _ (tariff : Tariff) (trip : Itinerary) (parts : List Part) (price : ℕ) 
         last_there = entry_there tariff trip parts price lawful last last_place.0 last_place.1;
         last_amount = true_cost tariff trip parts last;
         last_costs = back_costs tariff trip parts price lawful last last_place.0 last_place.1 (half last last_in) last_own;
-        may = may;
+        may = may barred begin end;
         sum = sum;
       }

@@ -1,21 +1,31 @@
 -- What the parts behind the first parts of a lawful construction cost is no less than what the units that go on say.
-use Rattle.std.proofs.Common.{◌≡◌, ℕ, zero, suc, ◌+◌, ◌-◌, ◌<◌, ◌≤◌, true, false, List, sym, subst, ◌∙◌, inl, inr, arith}
+use Rattle.std.proofs.Common.{◌≡◌, ℕ, zero, suc, ◌+◌, ◌-◌, ◌<◌, ◌≤◌, true, false, List, length, sym, subst, ◌∙◌, inl, inr, arith}
 use Rattle.std.specs.Prelude.{Option}
 use Rattle.std.proofs.lemmas.Bool.{cases_Bool, cases_lt}
 use Rattle.fare_trip.specs.Itinerary.{Itinerary, count}
 use Rattle.fare_tariff.specs.Tariff.{Tariff}
 use Rattle.fare_rules.specs.declared.part.Part.{Part}
-use Rattle.fare_rules.specs.Construction.{start_of, end_of, own, first_of, last_of}
+use Rattle.fare_rules.specs.Construction.{start_of, end_of, own, first_of, last_of, part_at, unit_of}
 use Rattle.fare_homing.specs.declared.ceiling.Ceiling.{Ceiling}
+use Rattle.fare_homing.specs.Barred.{is_barred}
 use Rattle.fare_homing.specs.Homing.{IsUpTo, homing_at, is_same_city}
-use Rattle.fare_homing.specs.HomingRows.{AreHomings}
+use Rattle.fare_homing.specs.HomingRows.{AreHomings, AreRests}
 use Rattle.fare_floors.specs.Costs.{true_cost}
 use Rattle.fare_floors.specs.Stack.{goes_on, stand_of, IsOver, LastsBy}
 use Rattle.fare_homing.proofs.ReachLemmas.{up_more}
-use Rattle.fare_homing.proofs.UnderLemmas.{nested_closes_under, nested_jaw_under, onward_under}
+use Rattle.fare_homing.proofs.UnderLemmas.{nested_closes_under, nested_jaw_under, onward_free_under}
 
 true_false : true ≡ false → ⊥
 true_false e = cc
+
+-- what is behind the points of a trip, where some fares are barred from each unit that begins behind so many parts
+pub record IsBehind (tariff : Tariff) (trip : Itinerary) (ceiling : Option Ceiling) (closing jaw : ℕ → ℕ → ℕ → Option ℕ) (whole : ℕ → ℕ → Option ℕ) (left : ℕ → Option ℕ) (parts : List Part) (from : ℕ) : Type 0 where
+  pub kept : ℕ → Option ℕ
+  pub homings : AreHomings tariff trip ceiling closing jaw whole kept
+  pub barred : List ℕ
+  pub outer : ℕ → ℕ → Option ℕ
+  pub rests : AreRests tariff trip barred closing jaw outer left
+  pub clear : (j : ℕ) → 1 ≤ j → j ≤ length parts → from < first_of (own parts (unit_of parts j)) → is_barred tariff barred (part_at parts j).fare ≡ false
 
 -- where a unit begins, and where it comes home
 abbrev pub begins_at : Itinerary → List Part → ℕ → ℕ
@@ -130,16 +140,17 @@ module _ (tariff : Tariff) (trip : Itinerary) (ceiling : Option Ceiling) (closin
         | inr f ↦ rw f (nested_jaw_under are c i b j w x stands low less high up (rw f at more))
       ]
 
-  -- a whole unit stands before what is over the others, each of which comes home behind it and stands before it
-  pub step_over : (parts : List Part) (k n i b w x : ℕ) → i < b → b ≤ count trip → IsUpTo w (whole i b)
+-- a whole unit stands before what is over the others, each of which comes home behind it and stands before it
+module _ (tariff : Tariff) (trip : Itinerary) (ceiling : Option Ceiling) (closing jaw : ℕ → ℕ → ℕ → Option ℕ) (whole : ℕ → ℕ → Option ℕ) (left : ℕ → Option ℕ) (parts : List Part) {from : ℕ} (are : IsBehind tariff trip ceiling closing jaw whole left parts from) where
+  pub step_over : (k n i b w x : ℕ) → i < b → b ≤ count trip → IsUpTo w (whole i b) → IsUpTo w (are.outer i b)
       → ((v : ℕ) → 1 ≤ v → v ≤ n → goes_on parts k v ≡ true → (b < home_at parts v) × (stand_of parts k v ≤ i))
       → IsOver tariff trip closing jaw left parts k n b x → IsOver tariff trip closing jaw left parts k n i (w + x)
-  step_over parts k zero i b w x low high up homes o = onward_under are i b w x low high up o
-  step_over parts k (suc u) i b w x low high up homes o = (
+  step_over k zero i b w x low high up free homes o = onward_free_under are.rests i b w x low high free o
+  step_over k (suc u) i b w x low high up free homes o = (
     λ t.
         let c = o.0 t in
         let s : c.0 + c.1 ≤ x = c.2 in
         let h = homes (suc u) (omega arith) (omega arith) t in
-        (w + c.0, c.1, omega arith, nested (stand_of parts k (suc u)) (begins_at trip parts (suc u)) i b (home_at parts (suc u)) w c.0 h.1 low h.0 high up c.3, c.4, lasts_more tariff trip parts (last_of (own parts (suc u))) i b c.0 (w + c.0) (omega arith) (omega arith) c.5),
-    λ f. step_over parts k u i b w x low high up (λ v one most. homes v one (omega arith)) (o.1 f),
+        (w + c.0, c.1, omega arith, nested tariff trip ceiling closing jaw whole are.kept are.homings (stand_of parts k (suc u)) (begins_at trip parts (suc u)) i b (home_at parts (suc u)) w c.0 h.1 low h.0 high up c.3, c.4, lasts_more tariff trip parts (last_of (own parts (suc u))) i b c.0 (w + c.0) (omega arith) (omega arith) c.5),
+    λ f. step_over k u i b w x low high up free (λ v one most. homes v one (omega arith)) (o.1 f),
   )

@@ -11,6 +11,7 @@ use Rattle.fare_component.specs.Table.{Pricing}
 use Rattle.fare_bounds.specs.Covers.{rest_at}
 use Rattle.fare_floors.specs.declared.ahead.Ahead.{Ahead}
 use Rattle.fare_homing.specs.declared.homing.Homing.{Homing}
+use Rattle.fare_floors.specs.Barring.{left_of}
 use Rattle.fare_floors.specs.Costs.{part_least, AreUnitFloors}
 use Rattle.fare_floors.specs.Floors.{IsMadeWith}
 use Rattle.fare_homing.specs.Ceiling.{IsWithin}
@@ -46,7 +47,7 @@ AreBehindHalf table homing first unit numbers =
     (part : Part) (rest : List Part) (price cost : ℕ)
     → IsLawful table.edition table.trip (first ++ part ∷ rest) price → IsWithin homing.ceiling price → part.unit ≡ unit
     → is_ow table.edition (first ++ part ∷ rest) (length first + 1) ≡ false
-    → IsOver table.edition table.trip (closing_from homing) (jaw_from homing) (rest_at homing.rest)
+    → IsOver table.edition table.trip (closing_from homing) (jaw_from homing) (rest_at (left_of table.edition homing first))
     (first ++ part ∷ rest) (length first + 1) (greatest_unit (first ++ part ∷ rest) (places (first ++ part ∷ rest)))
     (end_of (first ++ part ∷ rest) (length first + 1)) cost → IsUpTo cost (rest_at numbers part.end)
 

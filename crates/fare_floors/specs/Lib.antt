@@ -12,3 +12,4 @@ pub mod Costs
 pub mod LastParts
 pub mod Stack
 pub mod Ahead
+pub mod Barring

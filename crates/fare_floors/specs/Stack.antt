@@ -12,6 +12,7 @@ use Rattle.fare_bounds.specs.Covers.{rest_at}
 use Rattle.fare_homing.specs.declared.homing.Homing.{Homing}
 use Rattle.fare_floors.specs.declared.stacking.Open.{Open}
 use Rattle.fare_floors.specs.declared.stack.Stack.{Stack}
+use Rattle.fare_floors.specs.Barring.{left_of}
 use Rattle.fare_floors.specs.Costs.{true_cost, units_floor, AreUnitFloors}
 use Rattle.fare_floors.specs.Ending.{needs_more}
 use Rattle.fare_floors.specs.Floors.{IsFloorAnswer}
@@ -55,7 +56,7 @@ abbrev pub AreOver : Pricing → Homing → List Part → ℕ → List (Option �
 AreOver table homing first unit numbers =
     (rest : List Part) (price i cost : ℕ) → IsLawful table.edition table.trip (first ++ rest) price
     → IsWithin homing.ceiling price → end_of first (length first) ≤ i → i ≤ count table.trip
-    → IsOver table.edition table.trip (closing_from homing) (jaw_from homing) (rest_at homing.rest) (first ++ rest)
+    → IsOver table.edition table.trip (closing_from homing) (jaw_from homing) (rest_at (left_of table.edition homing first)) (first ++ rest)
     (length first) unit i cost → IsUpTo cost (rest_at numbers i)
 
 -- a unit that begins at a point may come home at another: in the same city, or, where it has one part so far, in its

@@ -10,6 +10,7 @@
 //! - `costs`: what parts cost at least;
 //! - `floors`: what first parts cost at least, with all that may follow;
 //! - `lasting`: what the last part of a unit that goes on costs at least;
+//! - `barring`: what is behind first parts where no unit is open, without the fares that they bar;
 //! - `stacking`: what is behind each point at least over the units of first parts, since what begins must end;
 //! - `stack`: what is known of first parts by their units: what each costs at least, what is behind, and a floor;
 //! - `ahead`: what is behind the part that comes next at least;
@@ -19,6 +20,7 @@
 #![tactic(auto)]
 
 mod ahead;
+mod barring;
 mod costs;
 mod ending;
 mod floors;

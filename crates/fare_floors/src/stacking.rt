@@ -12,6 +12,7 @@ ghost use Rattle.fare_homing.specs.Rows.{AreHomingsOf, closing_from, jaw_from};
 ghost use Rattle.fare_floors.specs.Stack.{AreOver, AreOverUnits, AreHomes, IsUntilHome, IsOverOpen};
 ghost use Rattle.fare_floors.specs.Stack.{IsOpenUnit, may_come_to};
 
+use crate::barring::left_of;
 use crate::costs::MOST_UNITS;
 use crate::ending::needs_more;
 use crate::joining::{is_stuck, part_count, standing_point};
@@ -249,7 +250,7 @@ pub(crate) fn over_units(
 {
     let _sectors = table.trip().count();
     let mut over = [[NOTHING; MOST_POINTS]; MOST_UNITS];
-    over[0] = homing.rest;
+    over[0] = left_of(table, homing, partial.parts());
     for unit in 1..partial.greatest_unit() + 1 {
         over[unit] = over_unit(table, homing, partial, unit, &over[unit - 1]);
     }

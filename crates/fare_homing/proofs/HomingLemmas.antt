@@ -15,7 +15,7 @@ use Rattle.fare_homing.proofs.HomingRowLemmas.{closings_same, jaws_same, wholes_
 
 -- the numbers of a trip are known from a point on
 pub record AreHomingsFrom (tariff : Tariff) (trip : Itinerary) (p : ℕ) (homing : Homing) : Type 0 where
-  pub wholes : (i : ℕ) → p ≤ i → i < count trip → AreWholes tariff trip (closing_from homing) (jaw_from homing) i (cell homing.whole i)
+  pub wholes : (i : ℕ) → p ≤ i → i < count trip → AreWholes tariff trip [] (closing_from homing) (jaw_from homing) i (cell homing.whole i)
   pub closes : (c i : ℕ) → p ≤ c → c ≤ i → i < count trip → AreClosings tariff trip homing.ceiling (λ b. closing_from homing b b) (cell homing.whole i) (closing_from homing c) c i (closing_from homing c i)
   pub ends : (c i : ℕ) → p ≤ c → c ≤ i → i < count trip → AreJaws tariff trip (cell homing.whole i) (jaw_from homing c) c i (jaw_from homing c i)
   pub onward : (i : ℕ) → p ≤ i → i < count trip → IsOnward trip (cell homing.whole i) (rest_at homing.rest) i (rest_at homing.rest i)
@@ -42,14 +42,14 @@ no_homings tariff trip homing end = record {
 -- one point more
 module _ (tariff : Tariff) (trip : Itinerary) (homing : Homing) (p : ℕ) (before : p < count trip) (row : List (Option ℕ)) (number : Option ℕ) (new : Standing)
     (long_standing : p < length homing.standing) (long_whole : p < length homing.whole) (long_rest : p < length homing.rest) (known : AreHomingsFrom tariff trip (p + 1) homing)
-    (wholes_here : AreWholes tariff trip (closing_from homing) (jaw_from homing) p (rest_at row)) (onward_here : IsOnward trip (rest_at row) (rest_at homing.rest) p number) where
+    (wholes_here : AreWholes tariff trip [] (closing_from homing) (jaw_from homing) p (rest_at row)) (onward_here : IsOnward trip (rest_at row) (rest_at homing.rest) p number) where
   -- the whole units and the rest of the point are put
   abbrev pub half : Homing
-  half = record { standing = homing.standing; whole = set homing.whole p row; rest = set homing.rest p number; countries = homing.countries; lonely = homing.lonely; ceiling = homing.ceiling }
+  half = record { standing = homing.standing; whole = set homing.whole p row; rest = set homing.rest p number; countries = homing.countries; lonely = homing.lonely; ceiling = homing.ceiling; onwards = homing.onwards }
 
   -- and what is behind each point for a unit that stands there
   abbrev pub all : Homing
-  all = record { standing = set homing.standing p new; whole = set homing.whole p row; rest = set homing.rest p number; countries = homing.countries; lonely = homing.lonely; ceiling = homing.ceiling }
+  all = record { standing = set homing.standing p new; whole = set homing.whole p row; rest = set homing.rest p number; countries = homing.countries; lonely = homing.lonely; ceiling = homing.ceiling; onwards = homing.onwards }
 
   this_whole : (j : ℕ) → cell (set homing.whole p row) p j ≡ rest_at row j
   this_whole j = ap (λ (xs : List (Option ℕ)). slice_index_or xs j None) (get_or-set_same homing.whole p row [] long_whole)
@@ -78,10 +78,10 @@ module _ (tariff : Tariff) (trip : Itinerary) (homing : Homing) (p : ℕ) (befor
     put_homings = record {
       wholes = λ i low high. elim (cases_eq i p) [
         | inl same ↦
-            let P : ℕ → Type 0 = λ k. AreWholes tariff trip (closing_from all) (jaw_from all) k (cell all.whole k) in
-            subst P (sym same) (wholes_same tariff trip (closing_from homing) (jaw_from homing) (closing_from all) (jaw_from all) p (rest_at row) (cell all.whole p)
+            let P : ℕ → Type 0 = λ k. AreWholes tariff trip [] (closing_from all) (jaw_from all) k (cell all.whole k) in
+            subst P (sym same) (wholes_same tariff trip [] (closing_from homing) (jaw_from homing) (closing_from all) (jaw_from all) p (rest_at row) (cell all.whole p)
             (λ b j past. other_closing b b j (λ e. omega arith)) (λ b j past. other_jaw b b j (λ e. omega arith)) this_whole wholes_here)
-        | inr other ↦ wholes_same tariff trip (closing_from homing) (jaw_from homing) (closing_from all) (jaw_from all) i (cell homing.whole i) (cell all.whole i)
+        | inr other ↦ wholes_same tariff trip [] (closing_from homing) (jaw_from homing) (closing_from all) (jaw_from all) i (cell homing.whole i) (cell all.whole i)
             (λ b j past. other_closing b b j (λ e. omega arith)) (λ b j past. other_jaw b b j (λ e. omega arith)) (λ j. other_whole i j other) (known.wholes i (omega arith) high)
       ];
       closes = λ c i low mid high. elim (cases_eq c p) [

@@ -14,6 +14,7 @@ use Rattle.fare_component.specs.Table.{entries_of}
 use Rattle.fare_component.proofs.LawLemmas.{entry_is_of_fare}
 use Rattle.fare_bounds.specs.Covers.{lesser, rest_at}
 use Rattle.fare_homing.specs.declared.ceiling.Ceiling.{Ceiling}
+use Rattle.fare_homing.specs.Barred.{unless_barred}
 use Rattle.fare_homing.specs.Ceiling.{below_ceiling}
 use Rattle.fare_homing.specs.Homing.{IsUpTo, back_cost, between_cost, first_cost, heads_to, homing_at, is_same_city}
 use Rattle.fare_homing.specs.HomingRows.{AreClosings, AreJaws, AreWholes, IsBetween, IsPart, IsUnderBoth}
@@ -99,12 +100,12 @@ pub lies_there : (tariff : Tariff) (trip : Itinerary) (countries : List (Option 
 lies_there tariff trip countries a b are low high = rw (sym (are a low), sym (are b high)) refl
 
 -- numbers are under the same by rows that are the same behind a point
-pub wholes_same : (tariff : Tariff) (trip : Itinerary) (closing jaw new_closing new_jaw : ℕ → ℕ → ℕ → Option ℕ) (i : ℕ) (whole new : ℕ → Option ℕ) → ((b j : ℕ) → i < b → new_closing b b j ≡ closing b b j)
-    → ((b j : ℕ) → i < b → new_jaw b b j ≡ jaw b b j) → ((j : ℕ) → new j ≡ whole j) → AreWholes tariff trip closing jaw i whole → AreWholes tariff trip new_closing new_jaw i new
-wholes_same tariff trip closing jaw new_closing new_jaw i whole new closes ends same are = record {
+pub wholes_same : (tariff : Tariff) (trip : Itinerary) (barred : List ℕ) (closing jaw new_closing new_jaw : ℕ → ℕ → ℕ → Option ℕ) (i : ℕ) (whole new : ℕ → Option ℕ) → ((b j : ℕ) → i < b → new_closing b b j ≡ closing b b j)
+    → ((b j : ℕ) → i < b → new_jaw b b j ≡ jaw b b j) → ((j : ℕ) → new j ≡ whole j) → AreWholes tariff trip barred closing jaw i whole → AreWholes tariff trip barred new_closing new_jaw i new
+wholes_same tariff trip barred closing jaw new_closing new_jaw i whole new closes ends same are = record {
   alone = λ j cost part. subst (IsUpTo cost) (sym (same j)) (are.alone j cost part);
   first = λ b j x y cost may part less up sum pair.
-      let after = part_after tariff trip first_cost i b x part in
+      let after = part_after tariff trip (unless_barred tariff barred first_cost) i b x part in
       subst (IsUpTo cost) (sym (same j)) (are.first b j x y cost may part less (until b j y (begin_after trip i) after.0 up) sum pair);
 }
   where

@@ -4,3 +4,7 @@ pub mod HomingRowLemmas
 pub mod UnderLemmas
 pub mod LegLemmas
 pub mod HomingLemmas
+pub mod OnwardLemmas
+pub mod RestLemmas
+pub mod BarringLemmas
+pub mod LinkLemmas

@@ -1,5 +1,5 @@
 -- The numbers of homing are no more than what each next part costs, with what is then behind it.
-use Rattle.std.proofs.Common.{◌≡◌, ℕ, ◌+◌, ◌<◌, ◌≤◌, true, false, arith}
+use Rattle.std.proofs.Common.{◌≡◌, List, [], ℕ, ◌+◌, ◌<◌, ◌≤◌, true, false, arith}
 use Rattle.std.specs.Prelude.{Option, Some, Contains}
 use Rattle.fare_trip.specs.Itinerary.{Itinerary, count}
 use Rattle.fare_tariff.specs.Tariff.{Tariff}
@@ -7,9 +7,10 @@ use Rattle.fare_rules.specs.Construction.{begin_after}
 use Rattle.fare_component.specs.declared.table.entry.Entry.{Entry}
 use Rattle.fare_component.specs.Table.{entries_of}
 use Rattle.fare_homing.specs.declared.ceiling.Ceiling.{Ceiling}
+use Rattle.fare_homing.specs.Barred.{is_barred, unless_barred}
 use Rattle.fare_homing.specs.Ceiling.{below_ceiling}
 use Rattle.fare_homing.specs.Homing.{IsUpTo, single_cost, first_cost, between_cost, back_cost, heads_to, may_end_at, may_go_on, is_same_city, homing_at}
-use Rattle.fare_homing.specs.HomingRows.{AreHomings, IsBetween, IsPart}
+use Rattle.fare_homing.specs.HomingRows.{AreHomings, AreRests, IsBetween, IsPart}
 use Rattle.fare_homing.specs.Pairs.{HasPair}
 use Rattle.fare_homing.proofs.HomingRowLemmas.{part_after}
 
@@ -21,7 +22,7 @@ module _ {tariff : Tariff} {trip : Itinerary} {ceiling : Option Ceiling} {closin
       (are.wholes i (omega (arith, after.0, after.1))).alone j cost part
 
   pub first_under : (i b j : ℕ) (entry : Entry) (cost behind all : ℕ) → Contains (entries_of tariff trip (begin_after trip i) b) entry → first_cost entry ≡ Some cost → b < j
-      → may_end_at tariff trip (begin_after trip i) j ≡ true → IsUpTo behind (homing_at trip (closing b) (jaw b) (begin_after trip i) b j) → cost + behind ≤ all → HasPair tariff trip (begin_after trip i) j all → IsUpTo all (whole i j)
+      → may_end_at tariff trip (begin_after trip i) j ≡ true → IsUpTo behind (homing_at trip (closing b) (jaw b) (begin_after trip i) b j) → cost + behind ≤ all → HasPair tariff trip [] (begin_after trip i) j all → IsUpTo all (whole i j)
   first_under i b j entry cost behind all there e less ends later sum pair =
       let part : IsPart tariff trip first_cost (begin_after trip i) b cost = record { entry = entry; there = there; costs = e } in
       let after = part_after tariff trip first_cost i b cost part in
@@ -57,3 +58,28 @@ module _ {tariff : Tariff} {trip : Itinerary} {ceiling : Option Ceiling} {closin
 
   pub nothing_left : left (count trip) ≡ Some 0
   nothing_left = are.nothing
+
+-- what isn't barred costs what it does
+free_cost : (tariff : Tariff) (barred : List ℕ) (cost_of : Entry → Option ℕ) (entry : Entry) (cost : ℕ) → is_barred tariff barred entry.fare ≡ false → cost_of entry ≡ Some cost → unless_barred tariff barred cost_of entry ≡ Some cost
+free_cost tariff barred cost_of entry cost free e = rw free e
+
+-- where some fares are barred
+module _ {tariff : Tariff} {trip : Itinerary} {barred : List ℕ} {closing jaw : ℕ → ℕ → ℕ → Option ℕ} {whole : ℕ → ℕ → Option ℕ} {left : ℕ → Option ℕ} (are : AreRests tariff trip barred closing jaw whole left) where
+  pub alone_free_under : (i j : ℕ) (entry : Entry) (cost : ℕ) → Contains (entries_of tariff trip (begin_after trip i) j) entry → is_barred tariff barred entry.fare ≡ false → entry.single ≡ Some cost → IsUpTo cost (whole i j)
+  alone_free_under i j entry cost there free e =
+      let part : IsPart tariff trip (unless_barred tariff barred single_cost) (begin_after trip i) j cost = record { entry = entry; there = there; costs = free_cost tariff barred single_cost entry cost free e } in
+      let after = part_after tariff trip (unless_barred tariff barred single_cost) i j cost part in
+      (are.wholes i (omega (arith, after.0, after.1))).alone j cost part
+
+  pub first_free_under : (i b j : ℕ) (entry : Entry) (cost behind all : ℕ) → Contains (entries_of tariff trip (begin_after trip i) b) entry → is_barred tariff barred entry.fare ≡ false → first_cost entry ≡ Some cost → b < j
+      → may_end_at tariff trip (begin_after trip i) j ≡ true → IsUpTo behind (homing_at trip (closing b) (jaw b) (begin_after trip i) b j) → cost + behind ≤ all → HasPair tariff trip barred (begin_after trip i) j all → IsUpTo all (whole i j)
+  first_free_under i b j entry cost behind all there free e less ends later sum pair =
+      let part : IsPart tariff trip (unless_barred tariff barred first_cost) (begin_after trip i) b cost = record { entry = entry; there = there; costs = free_cost tariff barred first_cost entry cost free e } in
+      let after = part_after tariff trip (unless_barred tariff barred first_cost) i b cost part in
+      (are.wholes i (omega (arith, after.0, after.1))).first b j cost behind all ends part less later sum pair
+
+  pub onward_free_under : (i b cost behind : ℕ) → i < b → b ≤ count trip → IsUpTo cost (whole i b) → IsUpTo behind (left b) → IsUpTo (cost + behind) (left i)
+  onward_free_under i b cost behind low high up later = are.onward i (omega arith) b cost behind low high up later
+
+  pub nothing_free_left : left (count trip) ≡ Some 0
+  nothing_free_left = are.nothing

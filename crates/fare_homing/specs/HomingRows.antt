@@ -1,11 +1,12 @@
 -- HomingRows: the numbers of homing at each point, by those of the points behind it.
-use Rattle.std.specs.Prelude.{◌≡◌, ℕ, ◌+◌, ◌<◌, ◌≤◌, true, false, Option, Some}
+use Rattle.std.specs.Prelude.{◌≡◌, ℕ, ◌+◌, ◌<◌, ◌≤◌, true, false, List, [], Option, Some}
 use Rattle.fare_trip.specs.Itinerary.{Itinerary, count}
 use Rattle.fare_tariff.specs.Tariff.{Tariff}
 use Rattle.fare_rules.specs.Construction.{begin_after}
 use Rattle.fare_component.specs.declared.table.entry.Entry.{Entry}
 use Rattle.fare_component.specs.Table.{entries_of}
 use Rattle.fare_homing.specs.declared.ceiling.Ceiling.{Ceiling}
+use Rattle.fare_homing.specs.Barred.{unless_barred}
 use Rattle.fare_homing.specs.Ceiling.{below_ceiling}
 use Rattle.fare_homing.specs.Homing.{single_cost, first_cost, between_cost, back_cost, heads_to, may_end_at}
 use Rattle.fare_homing.specs.Homing.{IsUpTo, homing_at, is_same_city, may_go_on}
@@ -23,14 +24,16 @@ IsBetween tariff trip ceiling a home b =
     IsPart tariff trip (below_ceiling tariff trip ceiling a home b (between_cost (heads_to tariff trip a b home))) a b
 
 -- numbers are under what one unit costs that begins behind a point, by the point where it ends: a part alone in it; or
--- the unit's first and last part, which may pair, with all that is between them, from the city where the first ends
-pub record AreWholes (tariff : Tariff) (trip : Itinerary) (closing jaw : ℕ → ℕ → ℕ → Option ℕ) (i : ℕ)
+-- the unit's first and last part, which may pair, with all that is between them, from the city where the first ends;
+-- unless the fares of these are barred
+pub record AreWholes (tariff : Tariff) (trip : Itinerary) (barred : List ℕ) (closing jaw : ℕ → ℕ → ℕ → Option ℕ) (i : ℕ)
     (whole : ℕ → Option ℕ) : Type 0 where
-  pub alone : (j cost : ℕ) → IsPart tariff trip single_cost (begin_after trip i) j cost → IsUpTo cost (whole j)
+  pub alone : (j cost : ℕ) → IsPart tariff trip (unless_barred tariff barred single_cost) (begin_after trip i) j cost
+      → IsUpTo cost (whole j)
   pub first : (b j x y cost : ℕ) → may_end_at tariff trip (begin_after trip i) j ≡ true
-      → IsPart tariff trip first_cost (begin_after trip i) b x → b < j
+      → IsPart tariff trip (unless_barred tariff barred first_cost) (begin_after trip i) b x → b < j
       → IsUpTo y (homing_at trip (closing b) (jaw b) (begin_after trip i) b j) → x + y ≤ cost
-      → HasPair tariff trip (begin_after trip i) j cost → IsUpTo cost (whole j)
+      → HasPair tariff trip barred (begin_after trip i) j cost → IsUpTo cost (whole j)
 
 -- a number of one row with one of another is under a third, from a point to any between it and another
 abbrev pub IsUnderBoth : (ℕ → Option ℕ) → (ℕ → ℕ → Option ℕ) → ℕ → (ℕ → Option ℕ) → Type 0
@@ -68,9 +71,17 @@ IsOnward trip whole rests i rest =
 -- ends at j, `rest i` up to the trip's end where no unit is open
 pub record AreHomings (tariff : Tariff) (trip : Itinerary) (ceiling : Option Ceiling)
     (closing jaw : ℕ → ℕ → ℕ → Option ℕ) (whole : ℕ → ℕ → Option ℕ) (rest : ℕ → Option ℕ) : Type 0 where
-  pub wholes : (i : ℕ) → i < count trip → AreWholes tariff trip closing jaw i (whole i)
+  pub wholes : (i : ℕ) → i < count trip → AreWholes tariff trip [] closing jaw i (whole i)
   pub closes : (c i : ℕ) → c ≤ i → i < count trip
       → AreClosings tariff trip ceiling (λ b. closing b b) (whole i) (closing c) c i (closing c i)
   pub ends : (c i : ℕ) → c ≤ i → i < count trip → AreJaws tariff trip (whole i) (jaw c) c i (jaw c i)
+  pub onward : (i : ℕ) → i < count trip → IsOnward trip (whole i) rest i (rest i)
+  pub nothing : rest (count trip) ≡ Some 0
+
+-- numbers are what the parts behind each point cost at least up to the trip's end where no unit is open, and some fares
+-- are barred from units that begin there: `whole i j` one unit that begins behind i and ends at j, and `rest i` all
+pub record AreRests (tariff : Tariff) (trip : Itinerary) (barred : List ℕ) (closing jaw : ℕ → ℕ → ℕ → Option ℕ)
+    (whole : ℕ → ℕ → Option ℕ) (rest : ℕ → Option ℕ) : Type 0 where
+  pub wholes : (i : ℕ) → i < count trip → AreWholes tariff trip barred closing jaw i (whole i)
   pub onward : (i : ℕ) → i < count trip → IsOnward trip (whole i) rest i (rest i)
   pub nothing : rest (count trip) ≡ Some 0

@@ -1,5 +1,7 @@
 pub use Rattle.fare_component.specs.Table
 pub use Rattle.fare_bounds.specs.Covers
+pub mod Barred
+pub mod Barring
 pub mod Ceiling
 pub mod Floor
 pub mod Homing
@@ -8,4 +10,5 @@ pub mod Pairs
 pub mod HomingRows
 pub mod Legs
 pub mod Lonely
+pub mod Onward
 pub mod Rows

@@ -1,5 +1,5 @@
 -- Rows: the numbers of homing by two points of a trip.
-use Rattle.std.specs.Prelude.{◌≡◌, ℕ, ◌≤◌, Bool, not, ◌&&◌, List, [], Option, None, slice_index_or, if◌then◌else◌}
+use Rattle.std.specs.Prelude.{◌≡◌, ℕ, ◌≤◌, Bool, not, ◌&&◌, List, [], Option, None, slice_index_or}
 use Rattle.fare_trip.specs.Itinerary.{Itinerary, count, point}
 use Rattle.fare_tariff.specs.Tariff.{Tariff}
 use Rattle.fare_codes.specs.declared.country.Country.{Country}
@@ -11,6 +11,7 @@ use Rattle.fare_homing.specs.declared.homing.Standing.{Standing}
 use Rattle.fare_homing.specs.Ceiling.{IsCeiling}
 use Rattle.fare_homing.specs.HomingRows.{AreHomings}
 use Rattle.fare_homing.specs.Lonely.{AreLonely}
+use Rattle.fare_homing.specs.Onward.{AreOnwards}
 
 -- a number by its two points; none where there is no such row or place
 abbrev pub cell : List (List (Option ℕ)) → ℕ → ℕ → Option ℕ
@@ -34,12 +35,14 @@ AreCountries tariff trip countries =
     (i : ℕ) → i ≤ count trip → slice_index_or countries i None ≡ country tariff (point trip i)
 
 -- the numbers of a trip are no more than what its parts cost under a ceiling that is one of it, its countries are those
--- of its points, and its lonely fares have rules that combine with no fare of their own
+-- of its points, its lonely fares have rules that combine with no fare of their own, and so are its numbers by what is
+-- barred
 pub record AreHomingsOf (tariff : Tariff) (trip : Itinerary) (homing : Homing) : Type 0 where
   pub known : AreHomings tariff trip homing.ceiling (closing_from homing) (jaw_from homing) (cell homing.whole)
       (rest_at homing.rest)
   pub countries : AreCountries tariff trip homing.countries
   pub lonely : AreLonely tariff homing.lonely
+  pub onwards : AreOnwards tariff trip (closing_from homing) (jaw_from homing) homing.onwards
   pub ceiling : IsCeiling tariff trip homing.ceiling
 
 -- the country of a point among those of a trip's points

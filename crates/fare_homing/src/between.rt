@@ -1,6 +1,6 @@
 //! Parts between the first and the last of a unit: what is behind a point until a unit closes, by one that comes next.
 
-ghost use Rattle.std.specs.Prelude.{◌≡◌, ℕ, ◌+◌, ◌<◌, ◌≤◌, Some, false};
+ghost use Rattle.std.specs.Prelude.{◌≡◌, ℕ, ◌+◌, ◌<◌, ◌≤◌, List, [], Some, false};
 ghost use Rattle.fare_trip.specs.Itinerary.{count};
 ghost use Rattle.fare_bounds.specs.Covers.{rest_at};
 ghost use Rattle.fare_component.specs.Table.{entries_of};
@@ -26,10 +26,14 @@ use fare_units::is_same_country;
 /// A point where parts begin, with what they cost at least.
 #[derive(Clone, Copy)]
 pub(crate) struct Start<'a> {
+    /// The point behind which that is.
+    pub(crate) behind: usize,
     pub(crate) point: usize,
     pub(crate) legs: &'a LegRows,
     /// The countries of the points of the trip.
     pub(crate) countries: &'a [Option<Country>; MOST_POINTS],
+    /// Fares whose rules no unit that begins there may have.
+    pub(crate) barred: &'a [u32],
 }
 
 /// The start behind a point, of those of a trip.
@@ -37,22 +41,27 @@ pub(crate) fn start_at<'a>(
     table: &Table,
     legs: &'a [LegRows; MOST_POINTS],
     countries: &'a [Option<Country>; MOST_POINTS],
+    barred: &'a [u32],
     i: usize,
 ) -> Start<'a>
     requires within { i < count table.now.trip }
     requires countries { AreCountries table.now.edition table.now.trip countries.now }
-    requires legs { AreLegsBehind table.now.edition table.now.trip legs.now }
+    ensures behind { result.behind ≡ i }
     ensures point { result.point ≡ begin_after table.now.trip i }
     ensures inside { result.point ≤ count table.now.trip }
     ensures countries { AreCountries table.now.edition table.now.trip result.countries.now }
-    ensures legs { AreLegsOf table.now.edition table.now.trip result.point result.legs.now }
+    ensures barred { result.barred.now ≡ barred.now }
+    ensures legs { (barred : List ℕ) → AreLegsBehind table.now.edition table.now.trip barred legs.now
+        → AreLegsOf table.now.edition table.now.trip barred result.point result.legs.now }
 {
     let trip = table.trip();
     let _sectors = trip.count();
     Start {
+        behind: i,
         point: begin_after(trip, i),
         legs: &legs[i],
         countries,
+        barred,
     }
 }
 
@@ -117,7 +126,7 @@ fn step_to(table: &Table, ceiling: Option<Ceiling>, start: &Start, home: usize, 
     requires end { b ≤ count table.now.trip }
     requires home { home ≤ count table.now.trip }
     requires countries { AreCountries table.now.edition table.now.trip start.now.countries.now }
-    requires legs { AreLegsOf table.now.edition table.now.trip start.now.point start.now.legs.now }
+    requires legs { AreLegsOf table.now.edition table.now.trip [] start.now.point start.now.legs.now }
     ensures { (x : ℕ) → IsBetween table.now.edition table.now.trip ceiling start.now.point home b x
         → IsUpTo x result }
 {
@@ -138,7 +147,7 @@ fn reach_between(table: &Table, homing: &Homing, start: &Start, home: usize) -> 
     requires inside { start.now.point ≤ count table.now.trip }
     requires within { home ≤ count table.now.trip }
     requires countries { AreCountries table.now.edition table.now.trip start.now.countries.now }
-    requires legs { AreLegsOf table.now.edition table.now.trip start.now.point start.now.legs.now }
+    requires legs { AreLegsOf table.now.edition table.now.trip [] start.now.point start.now.legs.now }
     ensures { (b x y : ℕ) → start.now.point < b → b < home → is_same_city table.now.trip home b ≡ false
         → IsBetween table.now.edition table.now.trip homing.now.ceiling start.now.point home b x
         → IsUpTo y (closing_from homing.now b b home) → IsUpTo (x + y) result }
@@ -172,7 +181,7 @@ pub(crate) fn with_between(
     requires inside { start.now.point ≤ count table.now.trip }
     requires rises { i < count table.now.trip }
     requires countries { AreCountries table.now.edition table.now.trip start.now.countries.now }
-    requires legs { AreLegsOf table.now.edition table.now.trip start.now.point start.now.legs.now }
+    requires legs { AreLegsOf table.now.edition table.now.trip [] start.now.point start.now.legs.now }
     ensures kept { (j most : ℕ) → IsUpTo most (rest_at row.now j) → IsUpTo most (rest_at result j) }
     ensures between { (b j x y : ℕ) → i < j → start.now.point < b → b < j → j ≤ count table.now.trip
         → is_same_city table.now.trip j b ≡ false

@@ -12,6 +12,7 @@ use crate::floor::{Floor, NOTHING, number_at};
 use crate::legs::legs_behind;
 use crate::lonely::{MOST_LONELY, lonely_fares};
 use crate::nearness::countries_of;
+use crate::onward::{Onwards, without_barred};
 use crate::reaching::least_onward;
 use crate::standing::standing_at;
 use crate::whole::wholes_at;
@@ -45,6 +46,8 @@ pub struct Homing {
     pub lonely: [u32; MOST_LONELY],
     /// The ceiling under which the numbers hold: of what costs more they say nothing.
     pub ceiling: Option<Ceiling>,
+    /// All that is behind the point, where no unit is open and some fares are barred.
+    pub onwards: Onwards,
 }
 
 /// A number by its two points.
@@ -136,6 +139,7 @@ fn unknown(
         countries,
         lonely,
         ceiling,
+        onwards: without_barred(&rest),
     }
 }
 
@@ -146,16 +150,19 @@ pub fn homing_of(table: &Table, price: Option<u64>) -> Homing
 {
     let trip = table.trip();
     let count = trip.count();
-    let legs = legs_behind(table);
+    let none: [u32; 0] = [];
+    let barred = none.as_slice();
+    let legs = legs_behind(table, barred);
     let ceiling = ceiling_of(table, price);
     let mut homing = unknown(count, countries_of(table), lonely_fares(table), ceiling);
     for c in (0..count).rev() {
-        let start = start_at(table, &legs, &homing.countries, c);
-        let whole = wholes_at(table, &homing, &start, c);
+        let start = start_at(table, &legs, &homing.countries, barred, c);
+        let whole = wholes_at(table, &homing, &start);
         homing.whole[c] = whole;
         homing.rest[c] = least_onward(&whole, &homing.rest, c, count + 1);
         let standing = standing_at(table, &homing.countries, &legs, &homing, c);
         homing.standing[c] = standing;
     }
+    homing.onwards = without_barred(&homing.rest);
     homing
 }

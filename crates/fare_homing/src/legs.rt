@@ -7,10 +7,12 @@ ghost use Rattle.fare_bounds.specs.Covers.{hundredths_of};
 ghost use Rattle.fare_homing.specs.Homing.{half_cost, single_cost};
 ghost use Rattle.fare_homing.specs.Legs.{AreLeastOf, AreLegsBehind, AreLegsOf};
 
+use crate::barred::{is_barred, unless};
 use crate::floor::{Floor, NOTHING, lesser};
 use fare_bounds::begin_after;
 use fare_component::{Amount, Entry, Table};
 use fare_rules::MOST_POINTS;
+use fare_tariff::Edition;
 
 /// What a part costs at least, by what it is in its unit.
 #[derive(Clone, Copy)]
@@ -74,20 +76,25 @@ pub(crate) fn half_cost(entry: &Entry, found: &Option<Amount>) -> Option<u64>
     }
 }
 
-/// What a part costs at least by some entries, where it is known by all but the last.
-fn lesser_with(least: Least, entry: &Entry) -> Least
-    ensures { (entries : List Entry) → AreLeastOf entries least → AreLeastOf (entries ++ entry.now ∷ []) result }
+/// What a part costs at least by some entries, where it is known by all but the last, unless its fare is barred.
+fn lesser_with(edition: &Edition, barred: &[u32], least: Least, entry: &Entry) -> Least
+    ensures { (entries : List Entry) → AreLeastOf edition.now barred.now entries least
+        → AreLeastOf edition.now barred.now (entries ++ entry.now ∷ []) result }
 {
+    let out_of_use = is_barred(edition, barred, entry.fare);
+    let alone = unless(out_of_use, single_cost(entry));
+    let first = unless(out_of_use, half_cost(entry, &entry.out));
+    let last = unless(out_of_use, half_cost(entry, &entry.back));
     Least {
-        alone: lesser(least.alone, Floor::of(single_cost(entry))),
-        first: lesser(least.first, Floor::of(half_cost(entry, &entry.out))),
-        last: lesser(least.last, Floor::of(half_cost(entry, &entry.back))),
+        alone: lesser(least.alone, Floor::of(alone)),
+        first: lesser(least.first, Floor::of(first)),
+        last: lesser(least.last, Floor::of(last)),
     }
 }
 
-/// What a part costs at least by some entries.
-fn cheapest(entries: &[Entry]) -> Least
-    ensures { AreLeastOf entries.now result }
+/// What a part costs at least by some entries, unless its fare is barred.
+fn cheapest(edition: &Edition, barred: &[u32], entries: &[Entry]) -> Least
+    ensures { AreLeastOf edition.now barred.now entries.now result }
 {
     let mut least = Least {
         alone: NOTHING,
@@ -95,15 +102,15 @@ fn cheapest(entries: &[Entry]) -> Least
         last: NOTHING,
     };
     for entry in entries {
-        least = lesser_with(least, entry);
+        least = lesser_with(edition, barred, least, entry);
     }
     least
 }
 
-/// The least that the parts from a point cost.
-fn legs(table: &Table, a: usize) -> LegRows
+/// The least that the parts from a point cost, unless their fares are barred.
+fn legs(table: &Table, barred: &[u32], a: usize) -> LegRows
     requires { a ≤ count table.now.trip }
-    ensures { AreLegsOf table.now.edition table.now.trip a result }
+    ensures { AreLegsOf table.now.edition table.now.trip barred.now a result }
 {
     let count = table.trip().count();
     let none = [NOTHING; MOST_POINTS];
@@ -113,7 +120,7 @@ fn legs(table: &Table, a: usize) -> LegRows
         last: none,
     };
     for b in a + 1..count + 1 {
-        let least = cheapest(table.entries(a, b));
+        let least = cheapest(table.edition(), barred, table.entries(a, b));
         legs.alone[b] = least.alone;
         legs.first[b] = least.first;
         legs.last[b] = least.last;
@@ -121,9 +128,9 @@ fn legs(table: &Table, a: usize) -> LegRows
     legs
 }
 
-/// The least that the parts behind each point cost.
-pub(crate) fn legs_behind(table: &Table) -> [LegRows; MOST_POINTS]
-    ensures { AreLegsBehind table.now.edition table.now.trip result }
+/// The least that the parts behind each point cost, unless their fares are barred.
+pub(crate) fn legs_behind(table: &Table, barred: &[u32]) -> [LegRows; MOST_POINTS]
+    ensures { AreLegsBehind table.now.edition table.now.trip barred.now result }
 {
     let trip = table.trip();
     let none = LegRows {
@@ -133,7 +140,7 @@ pub(crate) fn legs_behind(table: &Table) -> [LegRows; MOST_POINTS]
     };
     let mut rows = [none; MOST_POINTS];
     for i in 0..trip.count() {
-        rows[i] = legs(table, begin_after(trip, i));
+        rows[i] = legs(table, barred, begin_after(trip, i));
     }
     rows
 }

@@ -16,6 +16,8 @@
 //! Each of these stands on those above it.
 #![tactic(auto)]
 
+mod barred;
+mod barring;
 mod between;
 mod ceiling;
 mod floor;
@@ -23,14 +25,20 @@ mod homing;
 mod legs;
 mod lonely;
 mod nearness;
+mod onward;
 mod pairs;
 mod reaching;
+mod rests;
+mod rule_sets;
 mod standing;
+mod steps;
 mod whole;
 
+pub use barring::with_barred;
 pub use ceiling::Ceiling;
 pub use floor::{Floor, GREATEST_FLOOR, NOTHING, added, greater, lesser, number_at, paid_with};
 pub use homing::{Homing, Standing, cell, closing_from, homing_of, jaw_from, lie_near};
 pub use lonely::{MOST_LONELY, is_rule_of, rule_at};
 pub use nearness::are_near;
+pub use onward::{MOST_RULES, MOST_SETS, Onward, Onwards, next_set};
 pub use pairs::day_behind;

@@ -30,7 +30,7 @@ pub fn rule_at(edition: &Edition, number: u32) -> Option<RuleId>
 }
 
 /// Whether a rule is there, and this one.
-fn is_rule(rule: Option<RuleId>, id: RuleId) -> bool
+pub(crate) fn is_rule(rule: Option<RuleId>, id: RuleId) -> bool
     ensures { result ≡ is_rule id rule }
 {
     match rule {
@@ -40,7 +40,7 @@ fn is_rule(rule: Option<RuleId>, id: RuleId) -> bool
 }
 
 /// Whether one of some fares has a rule.
-fn have_rule(edition: &Edition, fares: &[u32; MOST_LONELY], id: RuleId) -> bool
+fn have_rule(edition: &Edition, fares: &[u32], id: RuleId) -> bool
     ensures { result ≡ list_any (has_rule edition.now id) fares.now }
 {
     fares
@@ -49,7 +49,7 @@ fn have_rule(edition: &Edition, fares: &[u32; MOST_LONELY], id: RuleId) -> bool
 }
 
 /// Whether a rule is there, and that of one of some fares.
-pub fn is_rule_of(edition: &Edition, fares: &[u32; MOST_LONELY], rule: Option<RuleId>) -> bool
+pub fn is_rule_of(edition: &Edition, fares: &[u32], rule: Option<RuleId>) -> bool
     ensures { result ≡ is_rule_of edition.now fares.now rule }
 {
     match rule {
@@ -70,7 +70,7 @@ fn put_fare(edition: &Edition, fares: &mut [u32; MOST_LONELY], number: u32)
     if suits_itself(edition, id) {
         return;
     }
-    if have_rule(edition, fares, id) {
+    if have_rule(edition, fares.as_slice(), id) {
         return;
     }
     if let Some(place) = fares.iter().position(|fare| *fare == 0) {

@@ -9,9 +9,10 @@ ghost use Rattle.fare_rules.specs.UnitRules.{allows_stay_of};
 ghost use Rattle.fare_component.specs.declared.table.entry.Entry.{Entry};
 ghost use Rattle.fare_component.specs.Table.{entries_of};
 ghost use Rattle.fare_homing.specs.Pairs.{HasPair, IsUnderPair, IsUnderPairsAt, IsUnderPairsFrom};
-ghost use Rattle.fare_homing.specs.Pairs.{IsUnderPairsOf, days_between, may_pair};
+ghost use Rattle.fare_homing.specs.Pairs.{IsUnderPairsOf, are_mates, days_between, may_pair};
 ghost use Rattle.fare_homing.specs.Homing.{IsKeptBy, IsUpTo};
 
+use crate::barred::is_barred;
 use crate::legs::half_cost;
 use fare_component::{Entry, Table};
 use fare_tariff::{Edition, FareRec};
@@ -21,6 +22,8 @@ use fare_trip::Trip;
 #[derive(Clone, Copy)]
 pub(crate) struct Pairing<'a> {
     pub(crate) table: &'a Table<'a>,
+    /// Fares whose rules none of its parts may have.
+    pub(crate) barred: &'a [u32],
     pub(crate) start: usize,
     pub(crate) home: usize,
     pub(crate) floor: u64,
@@ -54,9 +57,9 @@ fn allows_stay(edition: &Edition, days: u32, fare: &FareRec) -> bool
     }
 }
 
-/// Whether two fares may be the first and the last of a unit of so many days.
-fn may_pair(edition: &Edition, days: u32, one: u32, other: u32) -> bool
-    ensures { result ≡ may_pair edition.now days one other }
+/// Whether two fares combine in a unit of so many days.
+fn are_mates(edition: &Edition, days: u32, one: u32, other: u32) -> bool
+    ensures { result ≡ are_mates edition.now days one other }
 {
     match (edition.fare_at(one), edition.fare_at(other)) {
         (Some(one), Some(other)) => {
@@ -65,6 +68,14 @@ fn may_pair(edition: &Edition, days: u32, one: u32, other: u32) -> bool
         }
         _ => false,
     }
+}
+
+/// Whether two fares may be the first and the last of a unit of so many days, where some are barred.
+fn may_pair(edition: &Edition, barred: &[u32], days: u32, one: u32, other: u32) -> bool
+    ensures { result ≡ may_pair edition.now barred.now days one other }
+{
+    are_mates(edition, days, one, other)
+        && (!is_barred(edition, barred, one) && !is_barred(edition, barred, other))
 }
 
 /// The lesser of a number and what a first part costs with a last one, where they may pair; no less than the floor.
@@ -77,7 +88,7 @@ fn lesser_pair(
 ) -> Option<u64>
     ensures kept { IsKeptBy least result }
     ensures pair { (begin : ℕ) → days ≡ days_between pairing.now.table.now.trip pairing.now.start begin
-        → IsUnderPair pairing.now.table.now pairing.now.start pairing.now.floor first.fare first.amount begin last.now
+        → IsUnderPair pairing.now.table.now pairing.now.barred.now pairing.now.start pairing.now.floor first.fare first.amount begin last.now
         result }
 {
     let Some(back) = half_cost(last, &last.back) else {
@@ -89,7 +100,8 @@ fn lesser_pair(
     {
         return least;
     }
-    if may_pair(pairing.table.edition(), days, first.fare, last.fare) {
+    let edition = pairing.table.edition();
+    if may_pair(edition, pairing.barred, days, first.fare, last.fare) {
         Some(cost)
     } else {
         least
@@ -101,7 +113,7 @@ fn least_at(pairing: &Pairing, first: FirstPart, begin: usize, least: Option<u64
     requires start { pairing.now.start < count pairing.now.table.now.trip }
     requires begin { begin < count pairing.now.table.now.trip }
     ensures kept { IsKeptBy least result }
-    ensures pairs { IsUnderPairsAt pairing.now.table.now pairing.now.start pairing.now.home pairing.now.floor first.fare
+    ensures pairs { IsUnderPairsAt pairing.now.table.now pairing.now.barred.now pairing.now.start pairing.now.home pairing.now.floor first.fare
         first.amount begin result }
 {
     let trip = pairing.table.trip();
@@ -118,7 +130,7 @@ fn least_behind(pairing: &Pairing, first: FirstPart, least: Option<u64>) -> Opti
     requires start { pairing.now.start < count pairing.now.table.now.trip }
     requires home { pairing.now.home ≤ count pairing.now.table.now.trip }
     ensures kept { IsKeptBy least result }
-    ensures pairs { IsUnderPairsFrom pairing.now.table.now pairing.now.start pairing.now.home pairing.now.floor
+    ensures pairs { IsUnderPairsFrom pairing.now.table.now pairing.now.barred.now pairing.now.start pairing.now.home pairing.now.floor
         first.fare first.amount first.end result }
 {
     let mut least = least;
@@ -133,7 +145,7 @@ fn least_with(pairing: &Pairing, entry: &Entry, end: usize, least: Option<u64>) 
     requires start { pairing.now.start < count pairing.now.table.now.trip }
     requires home { pairing.now.home ≤ count pairing.now.table.now.trip }
     ensures kept { IsKeptBy least result }
-    ensures pairs { IsUnderPairsOf pairing.now.table.now pairing.now.start pairing.now.home pairing.now.floor end
+    ensures pairs { IsUnderPairsOf pairing.now.table.now pairing.now.barred.now pairing.now.start pairing.now.home pairing.now.floor end
         entry.now result }
 {
     let Some(amount) = half_cost(entry, &entry.out) else {
@@ -153,7 +165,7 @@ fn least_to(pairing: &Pairing, end: usize, least: Option<u64>) -> Option<u64>
     requires home { pairing.now.home ≤ count pairing.now.table.now.trip }
     ensures kept { IsKeptBy least result }
     ensures pairs { (first : Entry) → Contains (entries_of pairing.now.table.now.edition pairing.now.table.now.trip
-        pairing.now.start end) first → IsUnderPairsOf pairing.now.table.now pairing.now.start pairing.now.home
+        pairing.now.start end) first → IsUnderPairsOf pairing.now.table.now pairing.now.barred.now pairing.now.start pairing.now.home
         pairing.now.floor end first result }
 {
     let mut least = least;
@@ -168,7 +180,7 @@ fn least_to(pairing: &Pairing, end: usize, least: Option<u64>) -> Option<u64>
 pub(crate) fn least_pair(pairing: &Pairing) -> Option<u64>
     requires start { pairing.now.start < count pairing.now.table.now.trip }
     requires home { pairing.now.home ≤ count pairing.now.table.now.trip }
-    ensures { (cost : ℕ) → HasPair pairing.now.table.now.edition pairing.now.table.now.trip pairing.now.start
+    ensures { (cost : ℕ) → HasPair pairing.now.table.now.edition pairing.now.table.now.trip pairing.now.barred.now pairing.now.start
         pairing.now.home cost → pairing.now.floor ≤ cost → IsUpTo cost result }
 {
     let mut least = None;

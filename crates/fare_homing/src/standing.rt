@@ -1,7 +1,7 @@
 //! What is behind each point until a unit comes home that stands in the city of one point: its next part begins there,
 //! whatever whole units come before.
 
-ghost use Rattle.std.specs.Prelude.{◌≡◌, ℕ, ◌<◌, ◌≤◌, true};
+ghost use Rattle.std.specs.Prelude.{◌≡◌, ℕ, ◌<◌, ◌≤◌, [], true};
 ghost use Rattle.fare_trip.specs.Itinerary.{count};
 ghost use Rattle.fare_rules.specs.Construction.{begin_after};
 ghost use Rattle.fare_bounds.specs.Covers.{rest_at};
@@ -70,7 +70,7 @@ fn closings_at(
     requires stand { unit.stand ≤ unit.i }
     requires rises { unit.i < count table.now.trip }
     requires countries { AreCountries table.now.edition table.now.trip start.now.countries.now }
-    requires legs { AreLegsOf table.now.edition table.now.trip start.now.point start.now.legs.now }
+    requires legs { AreLegsOf table.now.edition table.now.trip [] start.now.point start.now.legs.now }
     ensures { AreClosings table.now.edition table.now.trip homing.now.ceiling (λ b. closing_from homing.now b b)
         (cell homing.now.whole unit.i) (cell stays.now) unit.stand unit.i (rest_at result) }
 {
@@ -100,7 +100,7 @@ fn jaws_at(
     requires point { start.now.point ≡ begin_after table.now.trip unit.i }
     requires stand { unit.stand ≤ unit.i }
     requires rises { unit.i < count table.now.trip }
-    requires legs { AreLegsOf table.now.edition table.now.trip start.now.point start.now.legs.now }
+    requires legs { AreLegsOf table.now.edition table.now.trip [] start.now.point start.now.legs.now }
     ensures { AreJaws table.now.edition table.now.trip (cell homing.now.whole unit.i) (cell stays.now) unit.stand unit.i
         (rest_at result) }
 {
@@ -121,7 +121,7 @@ pub(crate) fn standing_at(
 ) -> Standing
     requires within { stand < count table.now.trip }
     requires countries { AreCountries table.now.edition table.now.trip countries.now }
-    requires legs { AreLegsBehind table.now.edition table.now.trip legs.now }
+    requires legs { AreLegsBehind table.now.edition table.now.trip [] legs.now }
     ensures closes { (i : ℕ) → stand ≤ i → i < count table.now.trip
         → AreClosings table.now.edition table.now.trip homing.now.ceiling (λ b. closing_from homing.now b b)
         (cell homing.now.whole i) (cell result.closing) stand i (cell result.closing i) }
@@ -134,8 +134,9 @@ pub(crate) fn standing_at(
         closing: rows,
         jaw: rows,
     };
+    let none: [u32; 0] = [];
     for i in (stand..trip.count()).rev() {
-        let start = start_at(table, legs, countries, i);
+        let start = start_at(table, legs, countries, none.as_slice(), i);
         let unit = GoingOn { stand, i };
         let closing = closings_at(table, homing, &start, &standing.closing, unit);
         let jaw = jaws_at(table, homing, &start, &standing.jaw, unit);

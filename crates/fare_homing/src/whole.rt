@@ -4,6 +4,7 @@ ghost use Rattle.std.specs.Prelude.{◌≡◌, ℕ, ◌+◌, ◌<◌, ◌≤◌,
 ghost use Rattle.fare_trip.specs.Itinerary.{count};
 ghost use Rattle.fare_rules.specs.Construction.{begin_after};
 ghost use Rattle.fare_bounds.specs.Covers.{rest_at};
+ghost use Rattle.fare_homing.specs.Barred.{unless_barred};
 ghost use Rattle.fare_homing.specs.Homing.{IsUpTo, first_cost, homing_at, may_end_at, single_cost};
 ghost use Rattle.fare_homing.specs.HomingRows.{AreWholes, IsPart};
 ghost use Rattle.fare_homing.specs.Legs.{AreLegsOf};
@@ -19,21 +20,23 @@ use fare_rules::MOST_POINTS;
 
 /// What one unit costs at least that begins at a point and ends at another: one part alone, or half round trips, by
 /// what they cost at least and by the first and the last of them.
-fn with_half(table: &Table, start: usize, home: usize, half: Floor, alone: Floor) -> Floor
+fn with_half(table: &Table, start: &Start, home: usize, half: Floor, alone: Floor) -> Floor
     requires home { home ≤ count table.now.trip }
     ensures alone { (most : ℕ) → IsUpTo most alone → IsUpTo most result }
     ensures half { (most cost : ℕ) → IsUpTo most half → most ≤ cost
-        → HasPair table.now.edition table.now.trip start home cost → IsUpTo cost result }
+        → HasPair table.now.edition table.now.trip start.now.barred.now start.now.point home cost
+        → IsUpTo cost result }
 {
     let Some(floor) = half.amount() else {
         return alone;
     };
-    if start >= table.trip().count() || alone.amount().unwrap_or(u64::MAX) <= floor {
+    if start.point >= table.trip().count() || alone.amount().unwrap_or(u64::MAX) <= floor {
         return lesser(alone, half);
     }
     let pairing = Pairing {
         table,
-        start,
+        barred: start.barred,
+        start: start.point,
         home,
         floor,
     };
@@ -74,19 +77,25 @@ fn reach_first(
 }
 
 /// What one unit costs at least that begins behind a point and ends at another.
-fn whole_to(table: &Table, homing: &Homing, start: &Start, i: usize, home: usize) -> Floor
-    requires point { start.now.point ≡ begin_after table.now.trip i }
+fn whole_to(table: &Table, homing: &Homing, start: &Start, home: usize) -> Floor
+    requires point { start.now.point ≡ begin_after table.now.trip start.now.behind }
     requires inside { start.now.point ≤ count table.now.trip }
-    requires rises { i < home }
+    requires rises { start.now.behind < home }
     requires within { home ≤ count table.now.trip }
     requires countries { AreCountries table.now.edition table.now.trip start.now.countries.now }
-    requires legs { AreLegsOf table.now.edition table.now.trip start.now.point start.now.legs.now }
-    ensures alone { (cost : ℕ) → IsPart table.now.edition table.now.trip single_cost start.now.point home cost
+    requires legs { AreLegsOf table.now.edition table.now.trip start.now.barred.now start.now.point
+        start.now.legs.now }
+    ensures alone { (cost : ℕ) → IsPart table.now.edition table.now.trip
+        (unless_barred table.now.edition start.now.barred.now single_cost) start.now.point home cost
         → IsUpTo cost result }
-    ensures first { (b x y cost : ℕ) → may_end_at table.now.edition table.now.trip start.now.point home ≡ true
-        → IsPart table.now.edition table.now.trip first_cost start.now.point b x → b < home
-        → IsUpTo y (homing_at table.now.trip (closing_from homing.now b) (jaw_from homing.now b) start.now.point b home)
-        → x + y ≤ cost → HasPair table.now.edition table.now.trip start.now.point home cost → IsUpTo cost result }
+    ensures first { (b x y cost : ℕ)
+        → may_end_at table.now.edition table.now.trip start.now.point home ≡ true
+        → IsPart table.now.edition table.now.trip (unless_barred table.now.edition start.now.barred.now first_cost)
+        start.now.point b x → b < home
+        → IsUpTo y (homing_at table.now.trip (closing_from homing.now b) (jaw_from homing.now b)
+        start.now.point b home) → x + y ≤ cost
+        → HasPair table.now.edition table.now.trip start.now.barred.now start.now.point home cost
+        → IsUpTo cost result }
 {
     let trip = table.trip();
     let count = trip.count();
@@ -97,29 +106,25 @@ fn whole_to(table: &Table, homing: &Homing, start: &Start, i: usize, home: usize
     if !closes && !lie_together(start.countries, home, start.point) {
         return alone;
     }
-    let half = reach_first(homing, &start.legs.first, closes, i, home);
-    with_half(table, start.point, home, half, alone)
+    let half = reach_first(homing, &start.legs.first, closes, start.behind, home);
+    with_half(table, start, home, half, alone)
 }
 
 /// What one unit costs at least that begins behind a point, by the points where it ends.
-pub(crate) fn wholes_at(
-    table: &Table,
-    homing: &Homing,
-    start: &Start,
-    i: usize,
-) -> [Floor; MOST_POINTS]
-    requires point { start.now.point ≡ begin_after table.now.trip i }
+pub(crate) fn wholes_at(table: &Table, homing: &Homing, start: &Start) -> [Floor; MOST_POINTS]
+    requires point { start.now.point ≡ begin_after table.now.trip start.now.behind }
     requires inside { start.now.point ≤ count table.now.trip }
-    requires within { i < count table.now.trip }
+    requires within { start.now.behind < count table.now.trip }
     requires countries { AreCountries table.now.edition table.now.trip start.now.countries.now }
-    requires legs { AreLegsOf table.now.edition table.now.trip start.now.point start.now.legs.now }
-    ensures { AreWholes table.now.edition table.now.trip (closing_from homing.now) (jaw_from homing.now) i
-        (rest_at result) }
+    requires legs { AreLegsOf table.now.edition table.now.trip start.now.barred.now start.now.point
+        start.now.legs.now }
+    ensures { AreWholes table.now.edition table.now.trip start.now.barred.now (closing_from homing.now)
+        (jaw_from homing.now) start.now.behind (rest_at result) }
 {
     let count = table.trip().count();
     let mut row = [NOTHING; MOST_POINTS];
-    for home in i + 1..count + 1 {
-        row[home] = whole_to(table, homing, start, i, home);
+    for home in start.behind + 1..count + 1 {
+        row[home] = whole_to(table, homing, start, home);
     }
     row
 }

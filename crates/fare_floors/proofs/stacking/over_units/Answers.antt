@@ -1,7 +1,10 @@
-use Rattle.std.proofs.Common.{rules, ◌≡◌, ℕ, ◌-◌, ◌≤◌, [], length, length-set, replicate, set, subst, ◌∙◌, ap, arith}
+use Rattle.std.proofs.Common.{rules, ◌≡◌, ℕ, ◌-◌, ◌≤◌, [], length, length-set, replicate, set, sym, subst, ◌∙◌, ap, arith}
 use Rattle.std.specs.Prelude.{None, slice_index_or}
 use Rattle.fare_trip.specs.Itinerary.{count}
 use Rattle.fare_rules.specs.Construction.{end_of, greatest_unit, places}
+use Rattle.fare_bounds.specs.Covers.{rest_at}
+use Rattle.fare_homing.specs.Homing.{IsUpTo}
+use Rattle.fare_floors.specs.Barring.{left_of}
 use Rattle.fare_floors.specs.Stack.{AreOver}
 use Rattle.fare_floors.proofs.AheadLemmas.{rows_more}
 use Rattle.fare_floors.proofs.stacking.over_units.Goals as goal
@@ -14,8 +17,9 @@ loop-unit-init c = record {
   long = search rules;
   over = λ unit less.
       let none : 0 ≡ unit = omega arith in
-      let P : ℕ → Type 0 = λ u. AreOver c.args.table.now c.args.homing.now c.args.partial.now u (slice_index_or (set (replicate 18 (replicate 17 None)) 0 c.args.homing.now.rest) u []) in
-      subst P none (λ rest price i cost lawful cheap low most over. over);
+      let same : c.left_of.result ≡ left_of c.args.table.now.edition c.args.homing.now c.args.partial.now = c.left_of.ensures ∙ ap (left_of c.args.table.now.edition c.args.homing.now) c.parts.ensures.parts in
+      let P : ℕ → Type 0 = λ u. AreOver c.args.table.now c.args.homing.now c.args.partial.now u (slice_index_or (set (replicate 18 (replicate 17 None)) 0 c.left_of.result) u []) in
+      subst P none (λ rest price i cost lawful cheap low most over. subst (λ row. IsUpTo cost (rest_at row i)) (sym same) over);
 }
 
 pub loop-unit-preserved : goal.loop-unit-preserved

@@ -1,4 +1,4 @@
-use Rattle.std.proofs.Common.{◌≡◌, ℕ, ◌+◌, true, false, refl, subst, sym, ◌∙◌, ap, inl, inr, arith}
+use Rattle.std.proofs.Common.{◌≡◌, ℕ, ◌+◌, true, false, refl, subst, sym, ◌∙◌, inl, inr, arith}
 use Rattle.std.proofs.lemmas.Bool.{both_ways, cases_eq}
 use Rattle.fare_homing.specs.Homing.{IsUpTo, is_same_city}
 use Rattle.fare_homing.specs.HomingRows.{IsBetween}

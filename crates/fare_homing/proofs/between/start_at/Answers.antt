@@ -7,11 +7,11 @@ use Rattle.fare_homing.specs.Legs.{AreLegsOf, no_legs}
 use Rattle.fare_homing.proofs.between.start_at.Goals as goal
 
 pub returns-clause-legs : goal.returns-clause-legs
-returns-clause-legs c =
+returns-clause-legs c barred known =
     let tariff = c.args.table.now.edition in
     let trip = c.args.table.now.trip in
     let legs = c.args.legs.now in
     let begins : c.begin_after.result ≡ begin_after trip c.args.i = c.begin_after.ensures.value ∙ ap (λ (t : Itinerary). begin_after t c.args.i) c.trip-trip.ensures in
     let last : c.count-sectors.result ≡ count trip = c.count-sectors.ensures.value ∙ ap count c.trip-trip.ensures in
     let same : slice_index_or legs c.args.i no_legs ≡ slice_index_or legs c.args.i c.index-legs-i.result = get_or_default legs c.args.i no_legs c.index-legs-i.result (omega (arith, c.type_inv.legs, c.count-sectors.ensures.at_most, c.requires.within)) in
-    subst (λ a. AreLegsOf tariff trip a (slice_index_or legs c.args.i c.index-legs-i.result)) (sym begins) (subst (AreLegsOf tariff trip (begin_after trip c.args.i)) same (c.requires.legs c.args.i c.requires.within))
+    subst (λ a. AreLegsOf tariff trip barred a (slice_index_or legs c.args.i c.index-legs-i.result)) (sym begins) (subst (AreLegsOf tariff trip barred (begin_after trip c.args.i)) same (known c.args.i c.requires.within))

@@ -1,10 +1,12 @@
-use Rattle.std.proofs.Common.{rules, ◌≡◌, ◌+◌, ◌-◌, ℕ, sym, subst, ◌∙◌, ap, arith, length-set}
+use Rattle.std.proofs.Common.{rules, ◌≡◌, ◌+◌, ◌-◌, ℕ, List, [], sym, subst, ◌∙◌, ap, arith, length-set}
 use Rattle.std.specs.Prelude.{IfSome, Some}
 use Rattle.fare_trip.specs.Itinerary.{count}
 use Rattle.fare_bounds.specs.Covers.{rest_at}
 use Rattle.fare_homing.specs.Ceiling.{IsCeiling}
+use Rattle.fare_homing.specs.HomingRows.{AreWholes}
+use Rattle.fare_homing.specs.Legs.{AreLegsBehind}
 use Rattle.fare_homing.specs.Lonely.{AreLonely}
-use Rattle.fare_homing.specs.Rows.{AreCountries}
+use Rattle.fare_homing.specs.Rows.{AreCountries, cell, closing_from, jaw_from}
 use Rattle.fare_homing.proofs.HomingLemmas.{AreHomingsFrom, all_homings, no_homings, put_homings}
 use Rattle.fare_homing.proofs.homing.homing_of.Goals as goal
 
@@ -33,13 +35,15 @@ loop-c-preserved c =
     let next : c.loop-c.c ≡ place + 1 = omega arith in
     let last : c.count-count.result ≡ count trip = c.count-count.ensures.value ∙ ap count c.trip-trip.ensures in
     let From : ℕ → Type 0 = λ n. AreHomingsFrom tariff trip n homing in
+    let W : List ℕ → Type 0 = λ barred. AreWholes tariff trip barred (closing_from homing) (jaw_from homing) c.start_at-start.result.behind (rest_at c.wholes_at-whole.result) in
+    let I : ℕ → Type 0 = λ i. AreWholes tariff trip [] (closing_from homing) (jaw_from homing) i (rest_at c.wholes_at-whole.result) in
     record {
       long_standing = length-set homing.standing place c.standing_at-standing.result ∙ known.long_standing;
       long_whole = length-set homing.whole place c.wholes_at-whole.result ∙ known.long_whole;
       long_rest = length-set homing.rest place c.least_onward.result ∙ known.long_rest;
       known = put_homings tariff trip homing place (omega arith) c.wholes_at-whole.result c.least_onward.result c.standing_at-standing.result
           (omega (arith, known.long_standing, c.count-count.ensures.at_most)) (omega (arith, known.long_whole, c.count-count.ensures.at_most)) (omega (arith, known.long_rest, c.count-count.ensures.at_most)) (subst From next known.known)
-          c.wholes_at-whole.ensures (λ b x y past within up more. c.least_onward.ensures b x y past (omega arith) up more) c.standing_at-standing.ensures.closes c.standing_at-standing.ensures.ends;
+          (subst I c.start_at-start.ensures.behind (subst W (c.start_at-start.ensures.barred ∙ c.as_slice-barred.ensures) c.wholes_at-whole.ensures)) (λ b x y past within up more. c.least_onward.ensures b x y past (omega arith) up more) c.standing_at-standing.ensures.closes c.standing_at-standing.ensures.ends;
       countries = known.countries;
       lonely = known.lonely;
       ceiling = known.ceiling;
@@ -50,8 +54,10 @@ pub returns-clause-homings : goal.returns-clause-homings
 returns-clause-homings c =
     let done : c.loop-c.c ≡ 0 = omega arith in
     let P : ℕ → Type 0 = λ first. AreHomingsFrom c.args.table.now.edition c.args.table.now.trip first c.loop-c.homing in
+    let known = all_homings c.args.table.now.edition c.args.table.now.trip c.loop-c.homing (subst P done c.loop-c.invariant.known) in
     record {
-      known = all_homings c.args.table.now.edition c.args.table.now.trip c.loop-c.homing (subst P done c.loop-c.invariant.known);
+      known = known;
+      onwards = c.without_barred-homing.ensures c.args.table.now.edition c.args.table.now.trip (closing_from c.loop-c.homing) (jaw_from c.loop-c.homing) (cell c.loop-c.homing.whole) (record { wholes = known.wholes; onward = known.onward; nothing = known.nothing });
       countries = c.loop-c.invariant.countries;
       lonely = c.loop-c.invariant.lonely;
       ceiling = c.loop-c.invariant.ceiling;
@@ -59,3 +65,8 @@ returns-clause-homings c =
 
 pub returns-clause-ceiling : goal.returns-clause-ceiling
 returns-clause-ceiling c = c.loop-c.invariant.price
+
+pub standing_at-standing-requires-clause-legs : goal.standing_at-standing-requires-clause-legs
+standing_at-standing-requires-clause-legs c =
+    let B : List ℕ → Type 0 = λ barred. AreLegsBehind c.args.table.now.edition c.args.table.now.trip barred c.legs_behind-legs.result in
+    subst B c.as_slice-barred.ensures c.legs_behind-legs.ensures

@@ -4,4 +4,4 @@ use Rattle.fare_homing.specs.Legs.{AreLeastOf}
 use Rattle.fare_homing.proofs.legs.cheapest.Given as goal
 
 abbrev pub invariant-loop-entry : goal.invariant-loop-entry
-invariant-loop-entry l = AreLeastOf (take l.entry-index l.entries) l.least
+invariant-loop-entry l = AreLeastOf l.edition l.barred (take l.entry-index l.entries) l.least

@@ -18,16 +18,16 @@ loop-i-preserved c =
     let rows = c.loop-i.rows in
     let here = c.loop-i.i in
     let begins : c.begin_after.result ≡ begin_after trip here = c.begin_after.ensures.value ∙ ap (λ t. begin_after t here) c.trip-trip.ensures in
-    let A : ℕ → Type 0 = λ a. AreLegsOf tariff trip a c.legs.result in
+    let A : ℕ → Type 0 = λ a. AreLegsOf tariff trip c.args.barred.now a c.legs.result in
     record {
       long = length-set rows here c.legs.result ∙ c.loop-i.invariant.long;
       known = λ i low. elim (cases_eq i here) [
         | inl same ↦
-            let P : ℕ → Type 0 = λ k. AreLegsOf tariff trip (begin_after trip k) (slice_index_or (set rows here c.legs.result) k no_legs) in
-            let Q : LegRows → Type 0 = λ legs. AreLegsOf tariff trip (begin_after trip here) legs in
+            let P : ℕ → Type 0 = λ k. AreLegsOf tariff trip c.args.barred.now (begin_after trip k) (slice_index_or (set rows here c.legs.result) k no_legs) in
+            let Q : LegRows → Type 0 = λ legs. AreLegsOf tariff trip c.args.barred.now (begin_after trip here) legs in
             subst P (sym same) (subst Q (sym (get_or-set_same rows here c.legs.result no_legs (omega (arith, c.loop-i.invariant.long, c.count-i-end.ensures.at_most)))) (subst A begins c.legs.ensures))
         | inr other ↦
-            let Q : LegRows → Type 0 = λ legs. AreLegsOf tariff trip (begin_after trip i) legs in
+            let Q : LegRows → Type 0 = λ legs. AreLegsOf tariff trip c.args.barred.now (begin_after trip i) legs in
             subst Q (sym (get_or-set_other rows here i c.legs.result no_legs other)) (c.loop-i.invariant.known i (omega arith))
       ];
     }

@@ -8,5 +8,5 @@ use Rattle.fare_homing.proofs.legs.legs_behind.Given as goal
 abbrev pub invariant-loop-i : goal.invariant-loop-i
 invariant-loop-i l = record {
   long : length l.rows ≡ 17;
-  known : (i : ℕ) → i < l.i → AreLegsOf l.table.edition l.table.trip (begin_after l.table.trip i) (slice_index_or l.rows i no_legs);
+  known : (i : ℕ) → i < l.i → AreLegsOf l.table.edition l.table.trip l.barred (begin_after l.table.trip i) (slice_index_or l.rows i no_legs);
 }

@@ -12,7 +12,7 @@ loop-last-preserved c = record {
   pairs = λ last there.
       let P : List Entry → Type 0 = λ xs. Contains xs last in
       let Q : Entry → Type 0 = λ d. Contains (take c.loop-last.last-index c.entries-last-items.result.now ++ d ∷ []) last in
-      let R : Entry → Type 0 = λ d. IsUnderPair c.args.pairing.now.table.now c.args.pairing.now.start c.args.pairing.now.floor c.args.first.fare c.args.first.amount c.args.begin d c.lesser_pair-least.result in
+      let R : Entry → Type 0 = λ d. IsUnderPair c.args.pairing.now.table.now c.args.pairing.now.barred.now c.args.pairing.now.start c.args.pairing.now.floor c.args.first.fare c.args.first.amount c.args.begin d c.lesser_pair-least.result in
       let in_two = subst Q (sym c.last-item.is) (subst P (take_more c.entries-last-items.result.now c.loop-last.last-index c.last-item.result c.loop-last-test.true) there) in
       elim (Contains-push_cases (take c.loop-last.last-index c.entries-last-items.result.now) c.last-item.result last in_two) [
         | inl before ↦ λ y cost e may sum low. c.lesser_pair-least.ensures.kept _ (c.loop-last.invariant.pairs last before y cost e may sum low)

@@ -9,5 +9,5 @@ use Rattle.fare_homing.proofs.pairs.least_at.Given as goal
 abbrev pub invariant-loop-last : goal.invariant-loop-last
 invariant-loop-last l = record {
   kept : IsKeptBy l.initial.least l.least;
-  pairs : (last : Entry) → Contains (take l.last-index l.last-items) last → IsUnderPair l.pairing.table.now l.pairing.start l.pairing.floor l.first.fare l.first.amount l.begin last l.least;
+  pairs : (last : Entry) → Contains (take l.last-index l.last-items) last → IsUnderPair l.pairing.table.now l.pairing.barred.now l.pairing.start l.pairing.floor l.first.fare l.first.amount l.begin last l.least;
 }

@@ -8,7 +8,7 @@ pub loop-begin-preserved : goal.loop-begin-preserved
 loop-begin-preserved c = record {
   kept = λ most up. c.least_at-least.ensures.kept most (c.loop-begin.invariant.kept most up);
   pairs = λ begin low less.
-      let P : ℕ → Type 0 = λ s. IsUnderPairsAt c.args.pairing.now.table.now c.args.pairing.now.start c.args.pairing.now.home c.args.pairing.now.floor c.args.first.fare c.args.first.amount s c.least_at-least.result in
+      let P : ℕ → Type 0 = λ s. IsUnderPairsAt c.args.pairing.now.table.now c.args.pairing.now.barred.now c.args.pairing.now.start c.args.pairing.now.home c.args.pairing.now.floor c.args.first.fare c.args.first.amount s c.least_at-least.result in
       elim (cases_eq begin c.loop-begin.begin) [
         | inl same ↦ subst P (sym same) c.least_at-least.ensures.pairs
         | inr other ↦ λ last there y cost e may sum floor. c.least_at-least.ensures.kept _ (c.loop-begin.invariant.pairs begin low (omega arith) last there y cost e may sum floor)

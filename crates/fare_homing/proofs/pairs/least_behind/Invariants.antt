@@ -7,5 +7,5 @@ use Rattle.fare_homing.proofs.pairs.least_behind.Given as goal
 abbrev pub invariant-loop-begin : goal.invariant-loop-begin
 invariant-loop-begin l = record {
   kept : IsKeptBy l.initial.least l.least;
-  pairs : (begin : ℕ) → l.first.end ≤ begin → begin < l.begin → IsUnderPairsAt l.pairing.table.now l.pairing.start l.pairing.home l.pairing.floor l.first.fare l.first.amount begin l.least;
+  pairs : (begin : ℕ) → l.first.end ≤ begin → begin < l.begin → IsUnderPairsAt l.pairing.table.now l.pairing.barred.now l.pairing.start l.pairing.home l.pairing.floor l.first.fare l.first.amount begin l.least;
 }

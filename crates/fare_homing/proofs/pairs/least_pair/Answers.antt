@@ -14,7 +14,7 @@ loop-end-init c end first less there =
 pub loop-end-preserved : goal.loop-end-preserved
 loop-end-preserved c end first less there =
     let C : ℕ → Type 0 = λ b. Contains (entries_of c.args.pairing.now.table.now.edition c.args.pairing.now.table.now.trip c.args.pairing.now.start b) first in
-    let P : ℕ → Type 0 = λ b. IsUnderPairsOf c.args.pairing.now.table.now c.args.pairing.now.start c.args.pairing.now.home c.args.pairing.now.floor b first c.least_to-least.result in
+    let P : ℕ → Type 0 = λ b. IsUnderPairsOf c.args.pairing.now.table.now c.args.pairing.now.barred.now c.args.pairing.now.start c.args.pairing.now.home c.args.pairing.now.floor b first c.least_to-least.result in
     elim (cases_eq end c.loop-end.end) [
       | inl same ↦ subst P (sym same) (c.least_to-least.ensures.pairs first (subst C same there))
       | inr other ↦ λ x paid begin low last in_last y cost e may sum floor. c.least_to-least.ensures.kept _ (c.loop-end.invariant end first (omega arith) there x paid begin low last in_last y cost e may sum floor)

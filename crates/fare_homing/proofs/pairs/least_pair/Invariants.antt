@@ -8,4 +8,4 @@ use Rattle.fare_homing.proofs.pairs.least_pair.Given as goal
 
 abbrev pub invariant-loop-end : goal.invariant-loop-end
 invariant-loop-end l =
-    (end : ℕ) (first : Entry) → end < l.end → Contains (entries_of l.pairing.table.now.edition l.pairing.table.now.trip l.pairing.start end) first → IsUnderPairsOf l.pairing.table.now l.pairing.start l.pairing.home l.pairing.floor end first l.least
+    (end : ℕ) (first : Entry) → end < l.end → Contains (entries_of l.pairing.table.now.edition l.pairing.table.now.trip l.pairing.start end) first → IsUnderPairsOf l.pairing.table.now l.pairing.barred.now l.pairing.start l.pairing.home l.pairing.floor end first l.least

@@ -12,7 +12,7 @@ loop-entry-preserved c = record {
   pairs = λ first there.
       let P : List Entry → Type 0 = λ xs. Contains xs first in
       let Q : Entry → Type 0 = λ d. Contains (take c.loop-entry.entry-index c.entries-entry-items.result.now ++ d ∷ []) first in
-      let R : Entry → Type 0 = λ d. IsUnderPairsOf c.args.pairing.now.table.now c.args.pairing.now.start c.args.pairing.now.home c.args.pairing.now.floor c.args.end d c.least_with-least.result in
+      let R : Entry → Type 0 = λ d. IsUnderPairsOf c.args.pairing.now.table.now c.args.pairing.now.barred.now c.args.pairing.now.start c.args.pairing.now.home c.args.pairing.now.floor c.args.end d c.least_with-least.result in
       let in_two = subst Q (sym c.entry-item.is) (subst P (take_more c.entries-entry-items.result.now c.loop-entry.entry-index c.entry-item.result c.loop-entry-test.true) there) in
       elim (Contains-push_cases (take c.loop-entry.entry-index c.entries-entry-items.result.now) c.entry-item.result first in_two) [
         | inl before ↦ λ x paid begin low last in_last y cost e may sum floor. c.least_with-least.ensures.kept _ (c.loop-entry.invariant.pairs first before x paid begin low last in_last y cost e may sum floor)

@@ -9,5 +9,5 @@ use Rattle.fare_homing.proofs.pairs.least_to.Given as goal
 abbrev pub invariant-loop-entry : goal.invariant-loop-entry
 invariant-loop-entry l = record {
   kept : IsKeptBy l.initial.least l.least;
-  pairs : (first : Entry) → Contains (take l.entry-index l.entry-items) first → IsUnderPairsOf l.pairing.table.now l.pairing.start l.pairing.home l.pairing.floor l.end first l.least;
+  pairs : (first : Entry) → Contains (take l.entry-index l.entry-items) first → IsUnderPairsOf l.pairing.table.now l.pairing.barred.now l.pairing.start l.pairing.home l.pairing.floor l.end first l.least;
 }

@@ -3,6 +3,7 @@ use Rattle.std.specs.Prelude.{if◌then◌else◌}
 use Rattle.std.proofs.lemmas.Bool.{both_ways}
 use Rattle.fare_trip.specs.Itinerary.{point}
 use Rattle.fare_rules.specs.Shape.{lie_together}
+use Rattle.fare_homing.specs.Barred.{unless_barred}
 use Rattle.fare_homing.specs.Homing.{IsUpTo, first_cost, is_same_city, may_end_at}
 use Rattle.fare_homing.specs.HomingRows.{IsPart}
 use Rattle.fare_homing.specs.Rows.{closing_from, jaw_from}
@@ -34,8 +35,8 @@ returns c =
     record {
       alone = λ cost part. c.with_half.ensures.alone cost (subst (IsUpTo cost) (sym c.number_at-alone.ensures) (c.requires.legs.alone c.args.home cost part));
       first = λ b x y cost may part less up sum pair.
-          let P : ℕ → Type 0 = λ a. IsPart tariff trip first_cost a b x in
-          let rises = part_after tariff trip first_cost c.args.i b x (subst P c.requires.point part) in
+          let P : ℕ → Type 0 = λ a. IsPart tariff trip (unless_barred c.args.table.now.edition c.args.start.now.barred.now first_cost) a b x in
+          let rises = part_after tariff trip (unless_barred c.args.table.now.edition c.args.start.now.barred.now first_cost) c.args.start.now.behind b x (subst P c.requires.point part) in
           let Q : Bool → Type 0 = λ closes. IsUpTo y (if closes then closing_from homing b b c.args.home else jaw_from homing b b c.args.home) in
           c.with_half.ensures.half (x + y) cost (c.reach_first-half.ensures b x y rises.0 less (c.requires.legs.first b x part) (subst Q (sym here) up)) sum pair;
     }

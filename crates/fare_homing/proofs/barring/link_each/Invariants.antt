@@ -1,0 +1,8 @@
+-- what was there before is kept
+use Rattle.std.proofs.Common.{ℕ, Option}
+use Rattle.fare_trip.specs.Itinerary.{Itinerary}
+use Rattle.fare_homing.specs.Onward.{AreOnwards}
+use Rattle.fare_homing.proofs.barring.link_each.Given as goal
+
+abbrev pub invariant-loop-place : goal.invariant-loop-place
+invariant-loop-place l = (trip : Itinerary) (closing jaw : ℕ → ℕ → ℕ → Option ℕ) → AreOnwards l.edition trip closing jaw l.fn.onwards → AreOnwards l.edition trip closing jaw l.onwards
