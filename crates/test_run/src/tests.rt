@@ -42,23 +42,6 @@ struct Outside<'o, S, K, P> {
     gate: &'o Turnstile,
 }
 
-impl<'o, S, K, P> Outside<'o, S, K, P> {
-    /// What a run finds outside: a source, a sink, a keeper, and what counts the workers that begin.
-    fn of(
-        source: &'o mut S,
-        sink: &'o mut K,
-        store: &'o mut P,
-        gate: &'o Turnstile,
-    ) -> Outside<'o, S, K, P> {
-        Outside {
-            source,
-            sink,
-            store,
-            gate,
-        }
-    }
-}
-
 /// Runs words over a source and a sink, with a store and a door that hold nothing.
 fn ended<R: Threads + Sync, S: Source, K: Sink>(
     rt: &R,
@@ -69,7 +52,12 @@ fn ended<R: Threads + Sync, S: Source, K: Sink>(
 ) -> Result<Exit, Fail> {
     let mut store = PlainKeeper::new(Bodies::new(alloc));
     let gate = Turnstile::new();
-    let outside = Outside::of(source, sink, &mut store, &gate);
+    let outside = Outside {
+        source,
+        sink,
+        store: &mut store,
+        gate: &gate,
+    };
     ended_over(rt, alloc, words, outside)
 }
 

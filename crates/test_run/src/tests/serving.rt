@@ -44,7 +44,12 @@ fn serves<R: Threads + Sync + Abort>(rt: &R, alloc: Global, case: &Served) -> Re
     let mut store = failing(alloc, bodies, case.store)?;
     let mut door = door_of(alloc, case.connections, case.door)?;
     let gate = Turnstile::new();
-    let outside = Outside::of(&mut source, &mut sink, &mut store, &gate);
+    let outside = Outside {
+        source: &mut source,
+        sink: &mut sink,
+        store: &mut store,
+        gate: &gate,
+    };
     let exit = ended_at(rt, alloc, case.words, outside, &mut door)?;
     assert!(rt; exit.status() == case.status);
     assert!(rt; sink.bytes() == case.text.as_bytes());

@@ -27,7 +27,12 @@ fn goes<R: Threads + Sync + Abort, P: Keeper>(
     let mut source = PlainSource::new(joined(alloc, step.source)?);
     let mut sink = PlainSink::new(alloc, 4096)?;
     let gate = Turnstile::new();
-    let outside = Outside::of(&mut source, &mut sink, store, &gate);
+    let outside = Outside {
+        source: &mut source,
+        sink: &mut sink,
+        store,
+        gate: &gate,
+    };
     let exit = ended_over(rt, alloc, step.words, outside)?;
     assert!(rt; exit.status() == step.status, "{}", step.text);
     if step.status == 0 {
@@ -109,7 +114,12 @@ pub fn fails<R: Threads + Sync + Abort>(rt: &R, alloc: Global, case: &Failure) -
     let mut sink = MemSink::new(alloc, case.room, case.write.to_vec(alloc)?)?;
     let mut store = failing(alloc, Bodies::new(alloc), case.store)?;
     let gate = Turnstile::new();
-    let outside = Outside::of(&mut source, &mut sink, &mut store, &gate);
+    let outside = Outside {
+        source: &mut source,
+        sink: &mut sink,
+        store: &mut store,
+        gate: &gate,
+    };
     let exit = ended_over(rt, alloc, case.words, outside)?;
     assert!(rt; exit.status() == case.status);
     assert!(rt; sink.bytes() == case.text.as_bytes());
@@ -135,7 +145,12 @@ fn keeps<R: Threads + Sync + Abort>(rt: &R, alloc: Global, case: &Kept) -> Resul
     let mut sink = PlainSink::new(alloc, 4096)?;
     let mut store = failing(alloc, bodies, case.store)?;
     let gate = Turnstile::new();
-    let outside = Outside::of(&mut source, &mut sink, &mut store, &gate);
+    let outside = Outside {
+        source: &mut source,
+        sink: &mut sink,
+        store: &mut store,
+        gate: &gate,
+    };
     let exit = ended_over(rt, alloc, case.words, outside)?;
     assert!(rt; exit.status() == case.status);
     assert!(rt; sink.bytes() == case.text.as_bytes());

@@ -24,7 +24,12 @@ fn tells<R: Threads + Sync + Abort>(rt: &R, alloc: Global, case: &Told) -> Resul
     let mut sink = PlainSink::new(alloc, 4096)?;
     let mut store = PlainKeeper::new(bodies);
     let gate = Turnstile::new();
-    let outside = Outside::of(&mut source, &mut sink, &mut store, &gate);
+    let outside = Outside {
+        source: &mut source,
+        sink: &mut sink,
+        store: &mut store,
+        gate: &gate,
+    };
     let exit = ended_over(rt, alloc, case.words, outside)?;
     assert!(rt; exit.status() == case.status, "{}", case.text);
     assert!(rt; sink.bytes() == case.text.as_bytes(), "{}", case.text);

@@ -152,7 +152,12 @@ fn as_many_workers_begin_as_are_asked_for(rt: HostRuntime) -> Result<(), Fail> {
     let mut source = PlainSource::new(Vec::new(alloc));
     let mut sink = PlainSink::new(alloc, 4096)?;
     let mut store = PlainKeeper::new(Bodies::new(alloc));
-    let outside = Outside::of(&mut source, &mut sink, &mut store, &gate);
+    let outside = Outside {
+        source: &mut source,
+        sink: &mut sink,
+        store: &mut store,
+        gate: &gate,
+    };
     let words = ["drill", "--seed=1", "--sectors=8", "--workers=3"];
     let exit = ended_over(&rt, alloc, &words, outside)?;
     assert!(rt; exit.status() == 0);
