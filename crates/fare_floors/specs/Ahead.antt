@@ -47,8 +47,9 @@ AreBehindHalf table homing first unit numbers =
     (part : Part) (rest : List Part) (price cost : ℕ)
     → IsLawful table.edition table.trip (first ++ part ∷ rest) price → IsWithin homing.ceiling price → part.unit ≡ unit
     → is_ow table.edition (first ++ part ∷ rest) (length first + 1) ≡ false
-    → IsOver table.edition table.trip (closing_from homing) (jaw_from homing) (rest_at (left_of table.edition homing first))
-    (first ++ part ∷ rest) (length first + 1) (greatest_unit (first ++ part ∷ rest) (places (first ++ part ∷ rest)))
+    → IsOver table.edition table.trip (closing_from homing) (jaw_from homing)
+    (rest_at (left_of table.edition homing first)) (first ++ part ∷ rest) (length first + 1)
+    (greatest_unit (first ++ part ∷ rest) (places (first ++ part ∷ rest)))
     (end_of (first ++ part ∷ rest) (length first + 1)) cost → IsUpTo cost (rest_at numbers part.end)
 
 -- a unit that begins at a point must go on behind a half round trip that ends at another: this is its first part, or

@@ -56,8 +56,9 @@ abbrev pub AreOver : Pricing → Homing → List Part → ℕ → List (Option �
 AreOver table homing first unit numbers =
     (rest : List Part) (price i cost : ℕ) → IsLawful table.edition table.trip (first ++ rest) price
     → IsWithin homing.ceiling price → end_of first (length first) ≤ i → i ≤ count table.trip
-    → IsOver table.edition table.trip (closing_from homing) (jaw_from homing) (rest_at (left_of table.edition homing first)) (first ++ rest)
-    (length first) unit i cost → IsUpTo cost (rest_at numbers i)
+    → IsOver table.edition table.trip (closing_from homing) (jaw_from homing)
+    (rest_at (left_of table.edition homing first)) (first ++ rest) (length first) unit i cost
+    → IsUpTo cost (rest_at numbers i)
 
 -- a unit that begins at a point may come home at another: in the same city, or, where it has one part so far, in its
 -- country

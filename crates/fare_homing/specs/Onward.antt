@@ -32,7 +32,8 @@ next_at onward set (Some place) = slice_index_or onward.next place set
 -- the place of the numbers behind a part of a rule, by that of the numbers before it
 abbrev pub next_set : Tariff → Onwards → ℕ → Option RuleId → ℕ
 next_set tariff onwards set None = set
-next_set tariff onwards set (Some id) = next_at (onward_at onwards set) set (position (has_rule tariff id) onwards.rules)
+next_set tariff onwards set (Some id) =
+    next_at (onward_at onwards set) set (position (has_rule tariff id) onwards.rules)
 
 -- numbers are what is behind each point by what is barred: nothing is barred in the first place, and behind a part no
 -- more than before it but what doesn't combine with its rule

@@ -1,5 +1,5 @@
-//! Onward: what is behind each point of a trip at least where no unit is open, by the fares that are barred there: those
-//! whose rules don't combine end on end with the parts before.
+//! Onward: what is behind each point of a trip where no unit is open at least, by the fares that are barred: those whose
+//! rules don't combine end on end with the parts before.
 
 ghost use Rattle.std.specs.Prelude.{◌≡◌, ◌<◌, ℕ, [], Option, position, slice_index_or};
 ghost use Rattle.fare_trip.specs.Itinerary.{Itinerary};

@@ -88,8 +88,8 @@ fn lesser_pair(
 ) -> Option<u64>
     ensures kept { IsKeptBy least result }
     ensures pair { (begin : ℕ) → days ≡ days_between pairing.now.table.now.trip pairing.now.start begin
-        → IsUnderPair pairing.now.table.now pairing.now.barred.now pairing.now.start pairing.now.floor first.fare first.amount begin last.now
-        result }
+        → IsUnderPair pairing.now.table.now pairing.now.barred.now pairing.now.start pairing.now.floor first.fare
+        first.amount begin last.now result }
 {
     let Some(back) = half_cost(last, &last.back) else {
         return least;
@@ -113,8 +113,8 @@ fn least_at(pairing: &Pairing, first: FirstPart, begin: usize, least: Option<u64
     requires start { pairing.now.start < count pairing.now.table.now.trip }
     requires begin { begin < count pairing.now.table.now.trip }
     ensures kept { IsKeptBy least result }
-    ensures pairs { IsUnderPairsAt pairing.now.table.now pairing.now.barred.now pairing.now.start pairing.now.home pairing.now.floor first.fare
-        first.amount begin result }
+    ensures pairs { IsUnderPairsAt pairing.now.table.now pairing.now.barred.now pairing.now.start pairing.now.home
+        pairing.now.floor first.fare first.amount begin result }
 {
     let trip = pairing.table.trip();
     let days = day_behind(trip, begin).saturating_sub(day_behind(trip, pairing.start));
@@ -130,8 +130,8 @@ fn least_behind(pairing: &Pairing, first: FirstPart, least: Option<u64>) -> Opti
     requires start { pairing.now.start < count pairing.now.table.now.trip }
     requires home { pairing.now.home ≤ count pairing.now.table.now.trip }
     ensures kept { IsKeptBy least result }
-    ensures pairs { IsUnderPairsFrom pairing.now.table.now pairing.now.barred.now pairing.now.start pairing.now.home pairing.now.floor
-        first.fare first.amount first.end result }
+    ensures pairs { IsUnderPairsFrom pairing.now.table.now pairing.now.barred.now pairing.now.start pairing.now.home
+        pairing.now.floor first.fare first.amount first.end result }
 {
     let mut least = least;
     for begin in first.end..pairing.home {
@@ -145,8 +145,8 @@ fn least_with(pairing: &Pairing, entry: &Entry, end: usize, least: Option<u64>) 
     requires start { pairing.now.start < count pairing.now.table.now.trip }
     requires home { pairing.now.home ≤ count pairing.now.table.now.trip }
     ensures kept { IsKeptBy least result }
-    ensures pairs { IsUnderPairsOf pairing.now.table.now pairing.now.barred.now pairing.now.start pairing.now.home pairing.now.floor end
-        entry.now result }
+    ensures pairs { IsUnderPairsOf pairing.now.table.now pairing.now.barred.now pairing.now.start pairing.now.home
+        pairing.now.floor end entry.now result }
 {
     let Some(amount) = half_cost(entry, &entry.out) else {
         return least;
@@ -165,8 +165,8 @@ fn least_to(pairing: &Pairing, end: usize, least: Option<u64>) -> Option<u64>
     requires home { pairing.now.home ≤ count pairing.now.table.now.trip }
     ensures kept { IsKeptBy least result }
     ensures pairs { (first : Entry) → Contains (entries_of pairing.now.table.now.edition pairing.now.table.now.trip
-        pairing.now.start end) first → IsUnderPairsOf pairing.now.table.now pairing.now.barred.now pairing.now.start pairing.now.home
-        pairing.now.floor end first result }
+        pairing.now.start end) first → IsUnderPairsOf pairing.now.table.now pairing.now.barred.now pairing.now.start
+        pairing.now.home pairing.now.floor end first result }
 {
     let mut least = least;
     for entry in pairing.table.entries(pairing.start, end) {
@@ -180,8 +180,8 @@ fn least_to(pairing: &Pairing, end: usize, least: Option<u64>) -> Option<u64>
 pub(crate) fn least_pair(pairing: &Pairing) -> Option<u64>
     requires start { pairing.now.start < count pairing.now.table.now.trip }
     requires home { pairing.now.home ≤ count pairing.now.table.now.trip }
-    ensures { (cost : ℕ) → HasPair pairing.now.table.now.edition pairing.now.table.now.trip pairing.now.barred.now pairing.now.start
-        pairing.now.home cost → pairing.now.floor ≤ cost → IsUpTo cost result }
+    ensures { (cost : ℕ) → HasPair pairing.now.table.now.edition pairing.now.table.now.trip pairing.now.barred.now
+        pairing.now.start pairing.now.home cost → pairing.now.floor ≤ cost → IsUpTo cost result }
 {
     let mut least = None;
     let sectors = pairing.table.trip().count();
