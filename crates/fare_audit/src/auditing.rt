@@ -18,7 +18,7 @@ use fare_line::Line;
 use fare_outside::NoMemory;
 use fare_tariff::Edition;
 use fare_trip::Trip;
-use fare_units::{Construction, Quoter, lawful_price};
+use fare_units::{Construction, MOST_PARTS, Quoter, lawful_price};
 use std::alloc::Global;
 use std::thread::Threads;
 
@@ -64,7 +64,7 @@ fn audit_records<R: Threads + Sync, Q: Quoter>(
     presented: &Presented,
 ) -> Result<Verdict, NoMemory>
     requires advances { Advances presented.now.trip.now (bare_parts presented.now.line.now) }
-    requires few { length presented.now.line.now.parts ≤ 16 }
+    requires few { length presented.now.line.now.parts ≤ MOST_PARTS }
     ensures { IfOk result (IsRecordsVerdict presented.now.edition.now presented.now.trip.now presented.now.line.now) }
 {
     let Presented {

@@ -9,7 +9,7 @@ ghost use Rattle.fare_audit.specs.Legs.{difference, difference_from, differ, is_
 ghost use Rattle.fare_audit.specs.Legs.{reaches_other};
 
 use crate::legs::{Leg, legs_of};
-use fare_codes::City;
+use fare_codes::{City, MOST_SECTORS};
 use fare_line::{Line, LineSector};
 use fare_trip::Trip;
 
@@ -27,7 +27,7 @@ pub(crate) fn difference(trip: &Trip, line: &Line) -> Option<u32>
 /// The first sector at which the sectors of a line and the trip differ.
 #[tactic(auto, using(crate::proofs::LegLemmas::difference_done))]
 fn first_unlike(trip: &Trip, legs: &[Leg]) -> Option<u32>
-    requires { length legs.now ≤ 16 }
+    requires { length legs.now ≤ MOST_SECTORS }
     ensures { result ≡ difference_from trip.now 1 legs.now }
 {
     for i in 0..legs.len() {
@@ -107,7 +107,7 @@ fn differ(one: bool, other: bool) -> bool
 pub(crate) fn parts_advance(trip: &Trip, line: &Line)
     requires { difference trip.now line.now ≡ None }
     ensures advances { Advances trip.now (bare_parts line.now) }
-    ensures few { length line.now.parts ≤ 16 }
+    ensures few { length line.now.parts ≤ MOST_SECTORS }
 {
     line.law();
     trip.law();

@@ -5,7 +5,7 @@ ghost use Rattle.std.specs.Option.{option_copied};
 ghost use Rattle.fare_audit.specs.Figures.{differ_in_figures, differs_at, first_figure, has_figures_of, same_letter};
 ghost use Rattle.fare_audit.specs.Figures.{same_pair};
 
-use fare_codes::City;
+use fare_codes::{City, MOST_SECTORS};
 use fare_line::{Letter, Line, LinePart, print_line, text_tells};
 use fare_outside::NoMemory;
 use std::alloc::Global;
@@ -72,7 +72,7 @@ fn differs_at(parts: &[LinePart], others: &[LinePart], k: usize) -> bool
 /// plus 1.
 #[tactic(auto, using(fare_rules::proofs::NumberLemmas::find_next, fare_rules::proofs::NumberLemmas::find_done), unfolding(crate::specs::Figures::first_figure))]
 pub(crate) fn first_figure(parts: &[LinePart], others: &[LinePart]) -> u32
-    requires { length parts.now ≤ 16 }
+    requires { length parts.now ≤ MOST_SECTORS }
     ensures { result ≡ first_figure parts.now others.now }
 {
     for i in 0..parts.len() {

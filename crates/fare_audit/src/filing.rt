@@ -16,11 +16,11 @@ use fare_points::indicator;
 use fare_rules::Part;
 use fare_tariff::{Edition, FareKey};
 use fare_trip::Trip;
-use fare_units::{Construction, part_at, priced_back, start_of};
+use fare_units::{Construction, MOST_PARTS, part_at, priced_back, start_of};
 
 /// The parts of a line by their ends and units alone.
 fn bare_parts(line: &Line) -> Construction
-    requires { length line.now.parts ≤ 16 }
+    requires { length line.now.parts ≤ MOST_PARTS }
     ensures { result ≡ bare_parts line.now }
 {
     let mut bare = Construction::new();
@@ -197,7 +197,7 @@ fn lacks_record(edition: &Edition, trip: &Trip, line: &Line, bare: &Construction
 #[tactic(auto, using(fare_rules::proofs::NumberLemmas::find_next, fare_rules::proofs::NumberLemmas::find_done), unfolding(crate::specs::Filing::unrecorded))]
 pub(crate) fn unrecorded(edition: &Edition, trip: &Trip, line: &Line) -> Option<u32>
     requires advances { Advances trip.now (bare_parts line.now) }
-    requires few { length line.now.parts ≤ 16 }
+    requires few { length line.now.parts ≤ MOST_PARTS }
     ensures { result ≡ unrecorded edition.now trip.now line.now }
 {
     let bare = bare_parts(line);
@@ -229,7 +229,7 @@ fn recorded_part(edition: &Edition, trip: &Trip, line: &Line, bare: &Constructio
 #[tactic(auto, using(crate::proofs::FilingLemmas::recorded_none), unfolding(crate::specs::Filing::construction_of))]
 pub(crate) fn construction_of(edition: &Edition, trip: &Trip, line: &Line) -> Construction
     requires advances { Advances trip.now (bare_parts line.now) }
-    requires few { length line.now.parts ≤ 16 }
+    requires few { length line.now.parts ≤ MOST_PARTS }
     ensures { result ≡ construction_of edition.now trip.now line.now }
 {
     let bare = bare_parts(line);

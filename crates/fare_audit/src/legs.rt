@@ -6,7 +6,7 @@ ghost use Rattle.fare_line.specs.Line.{are_parts, gap_count};
 ghost use Rattle.fare_audit.specs.declared.legs.Leg.TheVariants.{Flown};
 
 use arrayvec::ArrayVec;
-use fare_codes::City;
+use fare_codes::{City, MOST_SECTORS};
 use fare_line::{Line, LinePart, LineSector};
 
 /// A sector of a line.
@@ -25,8 +25,8 @@ impl Default for Leg {
     }
 }
 
-/// The sectors of a line, at most 16 of them.
-pub(crate) type Legs = ArrayVec<Leg, 16>;
+/// The sectors of a line, as many as those of a trip at most.
+pub(crate) type Legs = ArrayVec<Leg, MOST_SECTORS>;
 
 /// The sectors of a line, gaps among them.
 pub(crate) fn legs_of(line: &Line) -> Legs
@@ -66,7 +66,7 @@ fn gap_count(gap: Option<City>) -> u8
 
 /// Adds the sectors of a part.
 fn push_part(legs: &mut Legs, gap: Option<City>, flown: &[LineSector])
-    requires { length legs.old.items + gap_count gap + length flown.now ≤ 16 }
+    requires { length legs.old.items + gap_count gap + length flown.now ≤ MOST_SECTORS }
     ensures { legs.new.items ≡ legs.old.items ++ part_legs gap flown.now }
 {
     push_gap(legs, gap);
@@ -75,7 +75,7 @@ fn push_part(legs: &mut Legs, gap: Option<City>, flown: &[LineSector])
 
 /// Adds the surface sector of a gap.
 fn push_gap(legs: &mut Legs, gap: Option<City>)
-    requires { length legs.old.items + gap_count gap ≤ 16 }
+    requires { length legs.old.items + gap_count gap ≤ MOST_SECTORS }
     ensures { legs.new.items ≡ legs.old.items ++ gap_legs gap }
 {
     match gap {
@@ -86,7 +86,7 @@ fn push_gap(legs: &mut Legs, gap: Option<City>)
 
 /// Adds flown sectors.
 fn push_flown(legs: &mut Legs, flown: &[LineSector])
-    requires { length legs.old.items + length flown.now ≤ 16 }
+    requires { length legs.old.items + length flown.now ≤ MOST_SECTORS }
     ensures { legs.new.items ≡ legs.old.items ++ map Flown flown.now }
 {
     for sector in flown {

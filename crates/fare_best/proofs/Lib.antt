@@ -1,4 +1,3 @@
 pub mod RankingLemmas
 pub mod WalkedLemmas
-pub mod StepLemmas
 pub mod OneLemmas

@@ -28,15 +28,19 @@ every_weaker : {A : Type 0} (P Q : A → Type 0) → ((x : A) → P x → Q x) �
 every_weaker P Q each [] a = tt
 every_weaker P Q each (x ∷ xs) (p, a) = (each x p, every_weaker P Q each xs a)
 
-every_take : {A : Type 0} (P : A → Type 0) (n : ℕ) (xs : List A) → AllByRecursion P xs → AllByRecursion P (take n xs)
+pub every_take : {A : Type 0} (P : A → Type 0) (n : ℕ) (xs : List A) → AllByRecursion P xs → AllByRecursion P (take n xs)
 every_take P zero xs a = tt
 every_take P (suc n) [] a = tt
 every_take P (suc n) (x ∷ xs) (p, a) = (p, every_take P n xs a)
 
-every_member : {A : Type 0} (P : A → Type 0) (x : A) (xs : List A) → AllByRecursion P xs → Member x xs → P x
+pub every_member : {A : Type 0} (P : A → Type 0) (x : A) (xs : List A) → AllByRecursion P xs → Member x xs → P x
 every_member P x [] a m = absurd m
 every_member P x (y ∷ ys) (p, a) (inl e) = subst P (sym e) p
 every_member P x (y ∷ ys) (p, a) (inr m) = every_member P x ys a m
+
+pub every_of_members : {A : Type 0} (P : A → Type 0) (xs : List A) → ((x : A) → Member x xs → P x) → AllByRecursion P xs
+every_of_members P [] each = tt
+every_of_members P (x ∷ xs) each = (each x (inl refl), every_of_members P xs (λ y m. each y (inr m)))
 
 every_get : {A : Type 0} (P : A → Type 0) (xs : List A) (k : ℕ) (x : A) → AllByRecursion P xs → slice_get xs k ≡ Some x → P x
 every_get P [] k x a e = absurd (none_same x e)

@@ -1,5 +1,5 @@
 -- What a walk over constructions that keeps the first k of them has found and seen.
-use Rattle.std.specs.Prelude.{◌≡◌, ℕ, ◌≤◌, ◌⊎◌, List, length, All, AllPairs, Contains}
+use Rattle.std.specs.Prelude.{◌≡◌, ℕ, ◌<◌, ◌≤◌, ◌⊎◌, List, length, All, AllPairs, Contains}
 use Rattle.fare_trip.specs.Itinerary.{Itinerary}
 use Rattle.fare_tariff.specs.Tariff.{Tariff}
 use Rattle.fare_rules.specs.declared.part.Part.{Part}
@@ -17,12 +17,18 @@ abbrev pub IsPlaced : ℕ → List Priced → List Part → ℕ → Type 0
 IsPlaced k found parts price =
     Contains found (parts, price) ⊎ ((length found ≡ k) × All (λ one. IsBefore one (parts, price)) found)
 
--- from what was found a walk over some lists came to what is found then, where that was ranked: it is ranked, what had
--- its place has it, and so has each lawful list of those walked that costs no more than a limit
-pub record IsWalk (tariff : Tariff) (trip : Itinerary) (k limit : ℕ) (D : List Part → Type 0)
-    (before after : List Priced) : Type 0 where
-  pub ranked : IsRanked tariff trip k before → IsRanked tariff trip k after
-  pub kept : IsRanked tariff trip k before → (parts : List Part) (price : ℕ) → IsPlaced k before parts price
-      → IsPlaced k after parts price
-  pub walked : IsRanked tariff trip k before → (parts : List Part) (price : ℕ) → IsLawful tariff trip parts price
-      → price ≤ limit → D parts → IsPlaced k after parts price
+-- a construction with its price is passed: it costs more than a limit, or has its place
+abbrev pub IsPassed : ℕ → ℕ → List Priced → List Part → ℕ → Type 0
+IsPassed k limit found parts price = (limit < price) ⊎ IsPlaced k found parts price
+
+-- a list was found, at some price
+abbrev pub IsListed : List Priced → List Part → Type 0
+IsListed found parts = (price : ℕ) × Contains found (parts, price)
+
+-- after a walk over some lists what was found is ranked, and each lawful one of these that costs no more than a limit
+-- has its place
+pub record IsWalked (tariff : Tariff) (trip : Itinerary) (k limit : ℕ) (D : List Part → Type 0) (found : List Priced) :
+    Type 0 where
+  pub ranked : IsRanked tariff trip k found
+  pub walked : (parts : List Part) (price : ℕ) → IsLawful tariff trip parts price → price ≤ limit → D parts
+      → IsPlaced k found parts price

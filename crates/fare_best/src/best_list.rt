@@ -4,13 +4,11 @@ ghost use Rattle.std.specs.Prelude.{◌≡◌, ◌-◌, ◌<◌, ◌≤◌, [], 
 ghost use Rattle.fare_best.specs.Ranking.{comes_before, first_with, is_behind, is_beyond, is_taken, is_within};
 ghost use Rattle.fare_best.specs.Ranking.{place_of, ranked_with};
 
+use fare_codes::MOST_BEST;
 use fare_outside::NoMemory;
 use fare_units::{Construction, earlier};
 use std::alloc::Global;
 use std::marker::Model;
-
-/// How many constructions are asked for at most.
-pub const MOST_BEST: usize = 10;
 
 /// The first constructions of a trip by Order, each with its price; a contract sees the list of them. There are at most
 /// `MOST_BEST`.
@@ -23,7 +21,7 @@ impl Model for BestList {
     ghost use Rattle.std.specs.Prelude.{◌<◌, ◌≤◌, vec_len, vec_capacity};
     ghost use Rattle.fare_rules.specs.FirstK.{Priced};
     ghost use Rattle.std.specs.Prelude.{List};
-    ghost use Rattle.fare_best.specs.declared.best_list.TheConstants.{MOST_BEST};
+    ghost use Rattle.fare_codes.specs.declared.limits.TheConstants.{MOST_BEST};
 
     ghost Value = { List Priced };
 

@@ -6,11 +6,12 @@ ghost use Rattle.fare_tariff.specs.Tariff.{Tariff};
 ghost use Rattle.fare_rules.specs.FirstK.{Priced, IsFirstK};
 ghost use Rattle.fare_homing.specs.Rows.{AreHomingsOf};
 ghost use Rattle.fare_units.specs.Walk.{Completes};
-ghost use Rattle.fare_best.specs.Walked.{IsRanked, IsWalk};
+ghost use Rattle.fare_best.specs.Walked.{IsRanked, IsWalked};
 
-use crate::best_list::{BestList, MOST_BEST};
+use crate::best_list::BestList;
 use crate::walking::{Wanted, walk};
 use fare_branch::{best_of, dived_front, is_far};
+use fare_codes::MOST_BEST;
 use fare_component::Table;
 use fare_floors::{Partial, Stage, ahead_of, stack_of};
 use fare_homing::{Homing, homing_of, number_at, with_barred};
@@ -94,10 +95,15 @@ fn search_far(table: &Table, homing: &Homing, k: usize, least: u64, found: &mut 
     }
 }
 
-/// How far the first limit is above the least price.
+/// How far the first limit is above the least price: not at all where that is the floor of all, since then a walk over
+/// what costs as much is short, and one over what costs a little more may not be.
 fn first_rise(homing: &Homing, least: u64) -> u64 {
     let floor = number_at(&homing.rest, 0).amount().unwrap_or(least);
-    (least / STEPS).max(least.saturating_sub(floor) / GAP_PARTS)
+    let gap = least.saturating_sub(floor);
+    if gap == 0 {
+        return 0;
+    }
+    (least / STEPS).max(gap / GAP_PARTS)
 }
 
 /// Finds the first `k`, by walks whose limit rises from the least price on until that many cost no more.
@@ -115,7 +121,7 @@ fn walk_up(table: &Table, homing: &Homing, k: usize, least: u64, found: &mut Bes
         if found.is_within(k, limit) {
             return;
         }
-        above = above.saturating_mul(2);
+        above = above.saturating_mul(2).max(least / STEPS);
     }
     finish(table, homing, k, found)
 }
@@ -215,7 +221,8 @@ fn walk_under(
     requires homing { AreHomingsOf table.now.edition table.now.trip homing.now }
     requires some { 1 ≤ wanted.count }
     requires few { wanted.count ≤ MOST_BEST }
-    ensures { IsWalk table.now.edition table.now.trip wanted.count wanted.limit (Completes []) found.old found.new }
+    requires ranked { IsRanked table.now.edition table.now.trip wanted.count found.old }
+    ensures { IsWalked table.now.edition table.now.trip wanted.count wanted.limit (Completes []) found.new }
 {
     if ceiling.is_some() {
         let homing = with_barred(table, homing_of(table, ceiling));
@@ -229,7 +236,8 @@ fn walk_all(table: &Table, homing: &Homing, wanted: Wanted, found: &mut BestList
     requires homing { AreHomingsOf table.now.edition table.now.trip homing.now }
     requires some { 1 ≤ wanted.count }
     requires few { wanted.count ≤ MOST_BEST }
-    ensures { IsWalk table.now.edition table.now.trip wanted.count wanted.limit (Completes []) found.old found.new }
+    requires ranked { IsRanked table.now.edition table.now.trip wanted.count found.old }
+    ensures { IsWalked table.now.edition table.now.trip wanted.count wanted.limit (Completes []) found.new }
 {
     let _sectors = table.trip().count();
     let none = Partial::new();

@@ -2,7 +2,7 @@
 //! what costs more than a limit, or can't be before the last one wanted.
 //!
 //! - `best_list`: the first constructions that were found, in their order;
-//! - `walking`: the walk over the constructions that begin with some parts;
+//! - `walking`: what a walk wants where the first few are asked for;
 //! - `first`: the first of all, and the law that they are one list.
 //!
 //! Each of these stands on those above it.
@@ -12,5 +12,5 @@ mod best_list;
 mod first;
 mod walking;
 
-pub use best_list::{BestList, MOST_BEST};
+pub use best_list::BestList;
 pub use first::{first_k, first_k_is_one};

@@ -9,7 +9,8 @@ use Rattle.fare_tariff.specs.Tariff.{Tariff}
 use Rattle.fare_book.specs.declared.damage.Damage.TheVariants.{TooMany}
 use Rattle.fare_book.specs.declared.restore_fault.RestoreFault.{RestoreFault}
 use Rattle.fare_book.specs.declared.restore_fault.RestoreFault.TheVariants.{Memory, KeeperFault, Damaged}
-use Rattle.fare_book.specs.Book.{BookState, most_editions}
+use Rattle.fare_book.specs.declared.book.TheConstants.{MOST_EDITIONS}
+use Rattle.fare_book.specs.Book.{BookState}
 use Rattle.fare_book.specs.Editions.{DamageAt, ◌>>=◌, editions_of, with_body, with_bodies}
 use Rattle.fare_book.specs.Restored.{FitsFault, Gives}
 
@@ -65,13 +66,13 @@ pub too_many : (told : Told) (count : ℕ) → IfSome told (λ bodies. count ≡
 unfolding editions_of
 too_many None count length_is many = tt
 too_many (Some bodies) count length_is many =
-    let over : nat_lt most_editions (length bodies) ≡ true = grind (arith, nat_tests) in rw over refl
+    let over : nat_lt MOST_EDITIONS (length bodies) ≡ true = grind (arith, nat_tests) in rw over refl
 
 -- at most 32 bodies stand for what they stand for one by one
 pub few : (bodies : List (List ℕ)) → length bodies ≤ 32 → editions_of bodies ≡ with_bodies [] bodies
 unfolding editions_of
 few bodies within =
-    let under : nat_lt most_editions (length bodies) ≡ false = grind (arith, nat_tests) in rw under refl
+    let under : nat_lt MOST_EDITIONS (length bodies) ≡ false = grind (arith, nat_tests) in rw under refl
 
 -- the answer for at most 32 bodies is that for the bodies one by one
 pub few-told : (before after : Told) (answer : Result BookState RestoreFault) (count : ℕ) → IfSome before (λ bodies. count ≡ length bodies) → count ≤ 32 → ToldAfter before after BodiesStay → IfSome after (λ bodies. Gives (λ book. book.editions) answer (with_bodies [] bodies)) → IfSome after (λ bodies. Gives (λ book. book.editions) answer (editions_of bodies))

@@ -10,7 +10,8 @@ use Rattle.fare_csv.specs.declared.text_fault.TextFault.{TextFault}
 use Rattle.fare_csv.specs.TariffText.{edition_of}
 use Rattle.fare_book.specs.declared.damage.Damage.{Damage}
 use Rattle.fare_book.specs.declared.damage.Damage.TheVariants.{TooMany}
-use Rattle.fare_book.specs.Book.{HaveOtherNumbers, has_number, most_editions, numbered}
+use Rattle.fare_book.specs.declared.book.TheConstants.{MOST_EDITIONS}
+use Rattle.fare_book.specs.Book.{HaveOtherNumbers, has_number, numbered}
 use Rattle.fare_book.specs.Editions.{DamageAt, ◌>>=◌, at_place, edition_behind, editions_of, place_of, read_behind, unrepeated, with_body, with_bodies, with_edition}
 use Rattle.fare_book.specs.Publish.{IsNewTo}
 use Rattle.fare_book.proofs.Numbers.{none_has}
@@ -61,7 +62,7 @@ chosen false found one_by_one editions e = e
 pub editions_one_by_one : (bodies : List (List ℕ)) (editions : List Tariff) → editions_of bodies ≡ Ok editions → with_bodies [] bodies ≡ Ok editions
 unfolding editions_of
 editions_one_by_one bodies editions e =
-    chosen (nat_lt most_editions (length bodies)) (record { place = 33; damage = TooMany }) (with_bodies [] bodies) editions e
+    chosen (nat_lt MOST_EDITIONS (length bodies)) (record { place = 33; damage = TooMany }) (with_bodies [] bodies) editions e
 
 -- a number that no edition has has no place
 nowhere : (number : ℕ) (editions : List Tariff) (test : Bool) → nat_lt (position_or_len (has_number number) editions) (length editions) ≡ test → numbered number editions ≡ None → position (has_number number) editions ≡ None
@@ -87,7 +88,7 @@ editions_of-push bodies editions edition text e new read =
     let long = with_bodies-length [] editions bodies whole in
     let room = new.room in
     let longer = length-append bodies (text ∷ []) in
-    let under : nat_lt most_editions (length (bodies ++ text ∷ [])) ≡ false = grind (arith, nat_tests) in
+    let under : nat_lt MOST_EDITIONS (length (bodies ++ text ∷ [])) ≡ false = grind (arith, nat_tests) in
     let last = new_behind editions edition text read new.new in
     rw (under, with_bodies-append [] bodies (text ∷ []), whole, last) refl
 

@@ -10,7 +10,8 @@ use Rattle.fare_csv.specs.TariffText.{edition_of}
 use Rattle.fare_book.specs.declared.damage.Damage.{Damage}
 use Rattle.fare_book.specs.declared.damage.Damage.TheVariants.{Text, Repeat, TooMany}
 use Rattle.fare_book.specs.BodiesInWords.{AreEditionsOf, IsDamaged, IsDamageOf, IsFirstDamage}
-use Rattle.fare_book.specs.Book.{most_editions, numbered}
+use Rattle.fare_book.specs.declared.book.TheConstants.{MOST_EDITIONS}
+use Rattle.fare_book.specs.Book.{numbered}
 use Rattle.fare_book.specs.Editions.{DamageAt, ◌>>=◌, at_place, edition_behind, editions_of, place_of, read_behind, unrepeated, with_body, with_bodies, with_edition}
 use Rattle.fare_book.proofs.Bodies.{few}
 use Rattle.fare_book.proofs.EditionLists.{AreDistinct, Found, added_ok, editions_distinct, editions_one_by_one, new_behind, no_place, other_number, placed_ok, went_on, with_bodies-append, with_bodies-length}
@@ -50,7 +51,7 @@ adds earlier editions (body ∷ bodies) e =
     }
 
 -- more than 32 bodies stand for no editions
-under : (bodies : List (List ℕ)) (editions : List Tariff) (test : Bool) → nat_lt most_editions (length bodies) ≡ test → editions_of bodies ≡ Ok editions → length bodies ≤ most_editions
+under : (bodies : List (List ℕ)) (editions : List Tariff) (test : Bool) → nat_lt MOST_EDITIONS (length bodies) ≡ test → editions_of bodies ≡ Ok editions → length bodies ≤ MOST_EDITIONS
 unfolding editions_of
 under bodies editions true t e = let found = rw t at e in absurd cc
 under bodies editions false t e = grind (arith, nat_tests, t)
@@ -59,7 +60,7 @@ pub editions_in_words : (bodies : List (List ℕ)) (editions : List Tariff) → 
 editions_in_words bodies editions e =
     let made = adds [] editions bodies (editions_one_by_one bodies editions e) in
     record {
-      in_limit = under bodies editions (nat_lt most_editions (length bodies)) refl e;
+      in_limit = under bodies editions (nat_lt MOST_EDITIONS (length bodies)) refl e;
       each = rw made.whole made.each;
       distinct = editions_distinct bodies editions e;
     }
@@ -168,13 +169,13 @@ is_damage : (earlier : List Tariff) (reading : Result Tariff TextFault) (damage 
 is_damage earlier (Err fault) damage is = ap Err (sym is)
 is_damage earlier (Ok edition) damage is = rw (is.1, is.2) refl
 
-first_damage : (bodies : List (List ℕ)) (found : DamageAt) → length bodies ≤ most_editions → editions_of bodies ≡ Err found → IsFirstDamage bodies found
+first_damage : (bodies : List (List ℕ)) (found : DamageAt) → length bodies ≤ MOST_EDITIONS → editions_of bodies ≡ Err found → IsFirstDamage bodies found
 unfolding read_behind
 first_damage bodies found within e =
     let stop = stops [] bodies found (sym (few bodies within) ∙ e) in
     let longer = length-append stop.front (stop.body ∷ stop.back) in
     let total = ap (λ (all : List (List ℕ)). length all) stop.split in
-    let short : length stop.front ≤ most_editions = omega arith in
+    let short : length stop.front ≤ MOST_EDITIONS = omega arith in
     let whole = editions_in_words stop.front stop.middle (few stop.front short ∙ stop.before) in
     let at = found_at (length stop.middle + 1) (edition_behind stop.middle (edition_of stop.body)) found stop.damaged in
     let here = at.here in
@@ -190,7 +191,7 @@ first_damage bodies found within e =
       damaged = damage_is stop.middle (edition_of stop.body) found.damage at.damage;
     }
 
-by_limit : (bodies : List (List ℕ)) (found : DamageAt) (test : Bool) → nat_lt most_editions (length bodies) ≡ test → editions_of bodies ≡ Err found → IsDamageOf bodies found
+by_limit : (bodies : List (List ℕ)) (found : DamageAt) (test : Bool) → nat_lt MOST_EDITIONS (length bodies) ≡ test → editions_of bodies ≡ Err found → IsDamageOf bodies found
 unfolding editions_of
 by_limit bodies found true t e =
     let many : DamageAt = record { place = 33; damage = TooMany } in
@@ -198,11 +199,11 @@ by_limit bodies found true t e =
     let same : many ≡ found = cc in
     inl (record { over = grind (arith, nat_tests, t); told = sym same })
 by_limit bodies found false t e =
-    let within : length bodies ≤ most_editions = grind (arith, nat_tests, t) in
+    let within : length bodies ≤ MOST_EDITIONS = grind (arith, nat_tests, t) in
     inr (within, first_damage bodies found within e)
 
 pub damage_in_words : (bodies : List (List ℕ)) (found : DamageAt) → editions_of bodies ≡ Err found → IsDamageOf bodies found
-damage_in_words bodies found e = by_limit bodies found (nat_lt most_editions (length bodies)) refl e
+damage_in_words bodies found e = by_limit bodies found (nat_lt MOST_EDITIONS (length bodies)) refl e
 
 -- a damaged body behind others
 damaged_behind : (earlier : List Tariff) (body : List ℕ) (found : DamageAt) → found.place ≡ length earlier + 1 → IsDamaged earlier (edition_of body) found.damage → read_behind earlier body ≡ Err found
@@ -214,7 +215,7 @@ damaged_behind earlier body found here is =
 pub words_of_damage : (bodies : List (List ℕ)) (found : DamageAt) → IsDamageOf bodies found → editions_of bodies ≡ Err found
 unfolding editions_of with_bodies
 words_of_damage bodies found (inl many) =
-    let over : nat_lt most_editions (length bodies) ≡ true = grind (arith, nat_tests, many.over) in
+    let over : nat_lt MOST_EDITIONS (length bodies) ≡ true = grind (arith, nat_tests, many.over) in
     rw over (ap Err (sym many.told))
 words_of_damage bodies found (inr w) =
     let first = w.1 in

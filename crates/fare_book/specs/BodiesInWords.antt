@@ -6,13 +6,14 @@ use Rattle.fare_csv.specs.declared.text_fault.TextFault.{TextFault}
 use Rattle.fare_csv.specs.TariffText.{edition_of}
 use Rattle.fare_book.specs.declared.damage.Damage.{Damage}
 use Rattle.fare_book.specs.declared.damage.Damage.TheVariants.{Text, Repeat, TooMany}
-use Rattle.fare_book.specs.Book.{HaveOtherNumbers, most_editions}
+use Rattle.fare_book.specs.declared.book.TheConstants.{MOST_EDITIONS}
+use Rattle.fare_book.specs.Book.{HaveOtherNumbers}
 use Rattle.fare_book.specs.Editions.{DamageAt, place_of}
 
 -- there are at most 32 bodies, each of which is the text of the edition in its place, and no two editions have one
 -- number
 pub record AreEditionsOf (bodies : List (List ℕ)) (editions : List Tariff) : Type 0 where
-  pub in_limit : length bodies ≤ most_editions
+  pub in_limit : length bodies ≤ MOST_EDITIONS
   pub each : map edition_of bodies ≡ map Ok editions
   pub distinct : AllPairs HaveOtherNumbers editions
 
@@ -35,10 +36,10 @@ pub record IsFirstDamage (bodies : List (List ℕ)) (found : DamageAt) : Type 0 
 
 -- there are more than 32 bodies, which is told of the place behind the last that a book holds
 pub record IsTooMany (bodies : List (List ℕ)) (found : DamageAt) : Type 0 where
-  pub over : most_editions < length bodies
-  pub told : found ≡ record { place = most_editions + 1; damage = TooMany }
+  pub over : MOST_EDITIONS < length bodies
+  pub told : found ≡ record { place = MOST_EDITIONS + 1; damage = TooMany }
 
 -- there are too many bodies; or there aren't, and this is the first that is damaged
 abbrev pub IsDamageOf : List (List ℕ) → DamageAt → Type 0
 IsDamageOf bodies found =
-    IsTooMany bodies found ⊎ ((length bodies ≤ most_editions) × IsFirstDamage bodies found)
+    IsTooMany bodies found ⊎ ((length bodies ≤ MOST_EDITIONS) × IsFirstDamage bodies found)

@@ -2,6 +2,7 @@
 use Rattle.std.specs.Prelude.{ℕ, true, false, ◌≤◌, ◌≢◌, ◌==◌, Bool, List, Option, length}
 use Rattle.std.specs.List.{AllPairs, find}
 use Rattle.fare_tariff.specs.Tariff.{Tariff}
+use Rattle.fare_book.specs.declared.book.TheConstants.{MOST_EDITIONS}
 
 -- a book: its editions in the order of publication, and whether they are known to be those of the stored bodies
 pub record BookState : Type 0 where
@@ -16,10 +17,6 @@ settled editions = record { editions = editions; settled = true }
 abbrev pub unsettled : List Tariff → BookState
 unsettled editions = record { editions = editions; settled = false }
 
--- the most editions that a book holds
-abbrev pub most_editions : ℕ
-most_editions = 32
-
 -- an edition has this number
 abbrev pub has_number : ℕ → Tariff → Bool
 has_number number edition = edition.number == number
@@ -32,7 +29,7 @@ numbered number editions = find (has_number number) editions
 abbrev pub HaveOtherNumbers : Tariff → Tariff → Type 0
 HaveOtherNumbers one other = one.number ≢ other.number
 
--- a book holds at most 32 editions, of which no two have one number
+-- a book holds at most MOST_EDITIONS editions, of which no two have one number
 pub record IsBook (editions : List Tariff) : Type 0 where
-  pub at_most_32 : length editions ≤ most_editions
+  pub at_most_32 : length editions ≤ MOST_EDITIONS
   pub distinct : AllPairs HaveOtherNumbers editions

@@ -6,7 +6,8 @@ use Rattle.fare_csv.specs.declared.text_fault.TextFault.{TextFault}
 use Rattle.fare_csv.specs.TariffText.{edition_of}
 use Rattle.fare_book.specs.declared.damage.Damage.{Damage}
 use Rattle.fare_book.specs.declared.damage.Damage.TheVariants.{Text, Repeat, TooMany}
-use Rattle.fare_book.specs.Book.{has_number, most_editions}
+use Rattle.fare_book.specs.declared.book.TheConstants.{MOST_EDITIONS}
+use Rattle.fare_book.specs.Book.{has_number}
 
 -- what is wrong with stored bodies, and at which place, counted from 1
 pub record DamageAt : Type 0 where
@@ -60,5 +61,5 @@ with_bodies earlier (body ∷ bodies) = with_body earlier body >>= (λ editions.
 -- the editions that bodies stand for; more than 32 bodies are too many
 unfoldable pub editions_of : List (List ℕ) → Result (List Tariff) DamageAt
 editions_of bodies =
-    if nat_lt most_editions (length bodies) then Err (record { place = most_editions + 1; damage = TooMany })
+    if nat_lt MOST_EDITIONS (length bodies) then Err (record { place = MOST_EDITIONS + 1; damage = TooMany })
     else with_bodies [] bodies

@@ -10,7 +10,8 @@ use Rattle.fare_book.specs.declared.published.Published.TheVariants.{New, Alread
 use Rattle.fare_book.specs.declared.publish_fault.PublishFault.{PublishFault}
 use Rattle.fare_book.specs.declared.publish_fault.PublishFault.TheVariants.{Memory, Malformed, Differs, Full}
 use Rattle.fare_book.specs.declared.publish_fault.PublishFault.TheVariants.{KeeperFault, Damaged}
-use Rattle.fare_book.specs.Book.{BookState, most_editions, numbered, settled, unsettled}
+use Rattle.fare_book.specs.declared.book.TheConstants.{MOST_EDITIONS}
+use Rattle.fare_book.specs.Book.{BookState, numbered, settled, unsettled}
 use Rattle.fare_book.specs.Reopens.{OpensAs, Stay, Told}
 
 -- the answer to a publication
@@ -20,7 +21,7 @@ Answer = Result Published PublishFault
 -- no edition among these has this one's number, and there is room for one more
 pub record IsNewTo (editions : List Tariff) (edition : Tariff) : Type 0 where
   pub new : numbered edition.number editions ≡ None
-  pub room : length editions < most_editions
+  pub room : length editions < MOST_EDITIONS
 
 -- another edition of this one's number stands among these: another effective day, or other records
 abbrev pub HasOther : List Tariff → Tariff → Type 0
@@ -29,7 +30,7 @@ HasOther editions edition = (kept : Tariff) × (numbered edition.number editions
 -- no edition among these has this one's number, and they are as many as a book holds
 pub record HasNoRoom (editions : List Tariff) (edition : Tariff) : Type 0 where
   pub new : numbered edition.number editions ≡ None
-  pub full : most_editions ≤ length editions
+  pub full : MOST_EDITIONS ≤ length editions
 
 -- the edition's canonical text is read back as the edition, and was put behind the bodies
 abbrev pub Stores : Tariff → Told → Told → Type 0

@@ -10,8 +10,8 @@ use std::marker::Model;
 /// The most editions that a book holds.
 pub const MOST_EDITIONS: usize = 32;
 
-/// The published editions, in the order of publication: at most 32, of which no two have one number. A book is settled
-/// where its editions are known to be those of the stored bodies.
+/// The published editions, in the order of publication: at most `MOST_EDITIONS`, of which no two have one number. A
+/// book is settled where its editions are known to be those of the stored bodies.
 #[derive(Drop)]
 pub struct Book {
     editions: Vec<Edition>,
@@ -20,13 +20,14 @@ pub struct Book {
 
 impl Model for Book {
     ghost use Rattle.std.specs.Prelude.{◌≤◌, vec_capacity};
-    ghost use Rattle.fare_book.specs.Book.{BookState, IsBook, most_editions};
+    ghost use Rattle.fare_book.specs.declared.book.TheConstants.{MOST_EDITIONS};
+    ghost use Rattle.fare_book.specs.Book.{BookState, IsBook};
 
     ghost Value = { BookState };
 
     ghost view = { λ b. record { editions = b.editions.items; settled = b.settled } };
 
-    ghost invariant = { λ b. IsBook b.editions.items × (most_editions ≤ vec_capacity b.editions) };
+    ghost invariant = { λ b. IsBook b.editions.items × (MOST_EDITIONS ≤ vec_capacity b.editions) };
 }
 
 impl Book {

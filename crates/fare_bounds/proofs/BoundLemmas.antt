@@ -7,7 +7,8 @@ use Rattle.fare_trip.specs.Itinerary.{Itinerary, count}
 use Rattle.fare_tariff.specs.Tariff.{Tariff}
 use Rattle.fare_rules.specs.Construction.{begin_after}
 use Rattle.fare_rules.specs.Span.{is_surface}
-use Rattle.fare_rules.specs.declared.limits.TheConstants.{MOST_SECTORS, PRICE_LIMIT}
+use Rattle.fare_codes.specs.declared.limits.TheConstants.{MOST_SECTORS}
+use Rattle.fare_rules.specs.declared.limits.TheConstants.{PRICE_LIMIT}
 use Rattle.fare_bounds.specs.declared.limits.TheConstants.{COST_LIMIT}
 use Rattle.fare_bounds.specs.Covers.{Leg, IsCover, IsLeast, rest_at}
 use Rattle.fare_bounds.specs.Search.{AreRestsFrom, AreInBounds, sum_of}

@@ -5,7 +5,7 @@ use Rattle.fare_tariff.specs.Tariff.{Tariff}
 use Rattle.fare_rules.specs.Construction.{begin_after}
 use Rattle.fare_component.specs.declared.table.entry.Entry.{Entry}
 use Rattle.fare_bounds.specs.declared.limits.TheConstants.{COST_LIMIT}
-use Rattle.fare_rules.specs.declared.limits.TheConstants.{MOST_SECTORS}
+use Rattle.fare_codes.specs.declared.limits.TheConstants.{MOST_SECTORS}
 use Rattle.fare_bounds.specs.Covers.{Leg, IsServed, IsCover, IsLeast, least_cost, lesser, rest_at}
 
 -- the least cost of some entries

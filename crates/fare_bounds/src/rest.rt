@@ -6,8 +6,9 @@ ghost use Rattle.fare_bounds.specs.Search.{AreInBounds, AreRestsFrom, sum_of};
 
 use crate::costs::{cheapest, lesser};
 use crate::limits::COST_LIMIT;
+use fare_codes::MOST_SECTORS;
 use fare_component::{Table, entries_are_of_fares};
-use fare_rules::{MOST_POINTS, MOST_SECTORS, PRICE_LIMIT};
+use fare_rules::{MOST_POINTS, PRICE_LIMIT};
 use fare_trip::Trip;
 use std::marker::Model;
 

@@ -1,5 +1,5 @@
 -- A dive before a walk, and what it goes through.
-use Rattle.std.proofs.Common.{◌≡◌, ℕ, ◌<◌, ◌≤◌, ◌⊎◌, List, [], ◌∷◌, ◌++◌, Option, Some, ap, sym, subst, ◌∙◌, inl, inr}
+use Rattle.std.proofs.Common.{◌≡◌, ℕ, ◌<◌, ◌≤◌, ◌⊎◌, List, [], ◌∷◌, ◌++◌, Option, Some, None, ap, sym, subst, ◌∙◌, inl, inr}
 use Rattle.std.specs.Prelude.{slice_get}
 use Rattle.fare_trip.specs.Itinerary.{Itinerary}
 use Rattle.fare_tariff.specs.Tariff.{Tariff}
@@ -11,8 +11,9 @@ use Rattle.fare_branch.specs.declared.pieces.Piece.{Piece}
 use Rattle.fare_branch.specs.Dive.{GoesFrom, IsAnyOf, StartsIn, IsDived}
 use Rattle.fare_floors.specs.Floors.{IsMadeWith}
 use Rattle.fare_branch.specs.Search.{BeginsIn}
-use Rattle.fare_branch.specs.Walked.{IsWalk}
-use Rattle.fare_branch.proofs.WalkedLemmas.{walk_fallen, walk_nothing, walk_then, walk_within}
+use Rattle.fare_branch.specs.Walked.{IsBestWalk, IsHeld, IsPassed, IsTold}
+use Rattle.fare_branch.proofs.SoughtLemmas.{walk_within}
+use Rattle.fare_branch.proofs.WalkedLemmas.{best_walk_none, best_walk_then, told_falls}
 
 abbrev Found : Type 0
 Found = Option (List Part × ℕ)
@@ -34,14 +35,18 @@ module _ (tariff : Tariff) (trip : Itinerary) (piece : Piece) where
 
   -- no dive
   pub dived_none : (least : ℕ) (best : Found) → IsDived tariff trip piece least best least best
-  dived_none least best = ([], (λ parts is. absurd is), walk_nothing tariff trip (IsAnyOf []) least best (λ parts price l is. is))
+  dived_none least best = ([], (λ parts is. absurd is), best_walk_none tariff trip (IsAnyOf []) least best (λ parts price l is. is))
 
   -- one dive
-  pub dived_one : (parts : List Part) (a b : ℕ) (best found : Found) → BeginsIn tariff trip piece parts → IsWalk tariff trip (IsList parts) a best b found → IsDived tariff trip piece a best b found
-  dived_one parts a b best found begins walk = (
+  pub dived_one : (parts : List Part) (a b : ℕ) (best found : Found) → BeginsIn tariff trip piece parts → IsBestWalk tariff trip (IsList parts) a best b found → IsDived tariff trip piece a best b found
+  dived_one parts a b best found begins taken = (
     parts ∷ [],
     (λ other is. elim is [ inl e ↦ subst (BeginsIn tariff trip piece) (sym e) begins | inr none ↦ absurd none ]),
-    walk_within tariff trip (IsAnyOf (parts ∷ [])) (IsList parts) a b best found walk (λ other price l is. elim is [ inl e ↦ e | inr none ↦ absurd none ]) (λ other e. inl e),
+    record {
+      falls = taken.falls;
+      told = taken.told;
+      walk = walk_within tariff trip (IsAnyOf (parts ∷ [])) (IsList parts) (IsPassed a best) (IsPassed b found) (IsHeld best) (IsHeld found) taken.walk (λ other price l is. elim is [ inl e ↦ e | inr none ↦ absurd none ]) (λ other e. inl e);
+    },
   )
 
   -- dives after others, from a least price that has fallen
@@ -49,15 +54,17 @@ module _ (tariff : Tariff) (trip : Itinerary) (piece : Piece) where
   dived_then a b low c best middle found fallen first second = (
     first.0 ++ second.0,
     (λ parts is. elim (any_either first.0 second.0 parts is) [ inl one ↦ first.1 parts one | inr two ↦ second.1 parts two ]),
-    walk_then tariff trip (IsAnyOf first.0) (IsAnyOf second.0) (IsAnyOf (first.0 ++ second.0)) a b c best middle found first.2 (walk_fallen tariff trip (IsAnyOf second.0) b low c middle found fallen second.2)
+    best_walk_then tariff trip (IsAnyOf first.0) (IsAnyOf second.0) (IsAnyOf (first.0 ++ second.0)) a b low c best middle found fallen first.2 second.2
         (λ parts is. any_either first.0 second.0 parts is) (λ parts is. any_left first.0 second.0 parts is) (λ parts is. any_right first.0 second.0 parts is),
   )
 
-  -- a walk over a piece from what dives came to is one from where they began
-  pub dived_walked : (a b low c : ℕ) (best middle found : Found) → low ≤ b → IsDived tariff trip piece a best b middle → IsWalk tariff trip (BeginsIn tariff trip piece) low middle c found → IsWalk tariff trip (BeginsIn tariff trip piece) a best c found
-  dived_walked a b low c best middle found fallen dive walk =
-      walk_then tariff trip (IsAnyOf dive.0) (BeginsIn tariff trip piece) (BeginsIn tariff trip piece) a b c best middle found dive.2 (walk_fallen tariff trip (BeginsIn tariff trip piece) b low c middle found fallen walk)
-      (λ parts d. inr d) (λ parts is. dive.1 parts is) (λ parts d. d)
+  -- what dives that begin with nothing come to is told, and begins in the piece
+  pub dived_told : (a b low : ℕ) (found : Found) → low ≤ b → IsDived tariff trip piece a None b found → IsTold tariff trip low found
+  dived_told a b low found fallen dive = told_falls tariff trip b low found fallen (dive.2.told tt)
+
+  pub dived_begins : (a b : ℕ) (found : Found) → IsDived tariff trip piece a None b found → (parts : List Part) → IsHeld found parts → BeginsIn tariff trip piece parts
+  dived_begins a b found dive parts h =
+      elim (dive.2.walk.from parts h) [ inl none ↦ absurd none | inr is ↦ dive.1 parts is ]
 
   -- what goes on from a list that begins in a piece begins there too
   pub begins_longer : (front longer : List Part) → BeginsIn tariff trip piece front → Completes front longer → BeginsIn tariff trip piece longer

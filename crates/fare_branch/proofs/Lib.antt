@@ -1,3 +1,4 @@
+pub mod SoughtLemmas
 pub mod WalkedLemmas
 pub mod StepLemmas
 pub mod ChoiceLemmas

@@ -1,5 +1,5 @@
 -- Walks over the constructions that begin in a piece, and what a search of it comes to.
-use Rattle.std.proofs.Common.{◌≡◌, ℕ, ◌+◌, ◌<◌, ◌≤◌, ◌⊎◌, max, true, false, List, [], length, Option, Some, None, ap, subst, sym, ◌∙◌, inl, inr, arith}
+use Rattle.std.proofs.Common.{◌≡◌, ℕ, ◌+◌, ◌<◌, ◌≤◌, ◌⊎◌, max, true, false, List, [], length, Option, Some, None, refl, ap, subst, sym, ◌∙◌, inl, inr, arith}
 use Rattle.std.specs.Prelude.{slice_get, nat_le}
 use Rattle.std.proofs.lemmas.Option.{slice_get_within}
 use Rattle.std.proofs.lemmas.Bool.{cases_Bool, cases_lt, leb-true, leb-false}
@@ -15,8 +15,10 @@ use Rattle.fare_units.specs.Walk.{GoesOn, IsPart}
 use Rattle.fare_units.proofs.NextLemmas.{next_numbered}
 use Rattle.fare_branch.specs.declared.pieces.Piece.{Piece}
 use Rattle.fare_branch.specs.Search.{BeginsBy, BeginsIn, IsSearched, kept_at}
-use Rattle.fare_branch.specs.Walked.{IsWalk}
-use Rattle.fare_branch.proofs.WalkedLemmas.{walk_nothing, walk_then, walk_within, not_after}
+use Rattle.fare_branch.specs.Sought.{IsWalk}
+use Rattle.fare_branch.specs.Walked.{IsHeld, IsPassed, IsTold}
+use Rattle.fare_branch.proofs.SoughtLemmas.{Passed, Held, walk_nothing, walk_then, walk_within}
+use Rattle.fare_branch.proofs.WalkedLemmas.{not_after}
 
 abbrev Found : Type 0
 Found = Option (List Part × ℕ)
@@ -43,8 +45,8 @@ cheaper xs ys px py h =
 
 module _ (tariff : Tariff) (trip : Itinerary) where
   -- a number of no choice
-  pub choice_none : (number least : ℕ) (best : Found) → None ≡ slice_get (first_part_choices tariff trip) number → IsWalk tariff trip (BeginsBy tariff trip number) least best least best
-  choice_none number least best e = walk_nothing tariff trip (BeginsBy tariff trip number) least best (λ parts price l b. none_some (b.first.end, b.first.fare) (e ∙ b.choice))
+  pub choice_none : (number : ℕ) (a : Passed) (x : Held) → None ≡ slice_get (first_part_choices tariff trip) number → IsWalk tariff trip (BeginsBy tariff trip number) a x a x
+  choice_none number a x e = walk_nothing tariff trip (BeginsBy tariff trip number) a x (λ parts price l b. none_some (b.first.end, b.first.fare) (e ∙ b.choice))
 
   -- what begins with a choice begins with its part
   by_part : (number : ℕ) (part : Part) → part.unit ≡ 1 → Some (part.end, part.fare) ≡ slice_get (first_part_choices tariff trip) number → (parts : List Part) (price : ℕ) → IsLawful tariff trip parts price → BeginsBy tariff trip number parts → GoesOn [] (IsPart part) parts
@@ -65,16 +67,16 @@ module _ (tariff : Tariff) (trip : Itinerary) where
     choice = sym e ∙ ap (λ (p : Part). Some (p.end, p.fare)) (sym g.meets);
   }
 
-  pub choice_walked : (number before after : ℕ) (part : Part) (best found : Found) → part.unit ≡ 1 → Some (part.end, part.fare) ≡ slice_get (first_part_choices tariff trip) number → IsWalk tariff trip (GoesOn [] (IsPart part)) before best after found → IsWalk tariff trip (BeginsBy tariff trip number) before best after found
-  choice_walked number before after part best found unit e walk =
-      walk_within tariff trip (BeginsBy tariff trip number) (GoesOn [] (IsPart part)) before after best found walk (by_part number part unit e) (part_by number part e)
+  pub choice_walked : (number : ℕ) (part : Part) (a b : Passed) (x y : Held) → part.unit ≡ 1 → Some (part.end, part.fare) ≡ slice_get (first_part_choices tariff trip) number → IsWalk tariff trip (GoesOn [] (IsPart part)) a x b y → IsWalk tariff trip (BeginsBy tariff trip number) a x b y
+  choice_walked number part a b x y unit e walk =
+      walk_within tariff trip (BeginsBy tariff trip number) (GoesOn [] (IsPart part)) a b x y walk (by_part number part unit e) (part_by number part e)
 
   -- number by number
   piece : ℕ → ℕ → Piece
   piece first past = record { first = first; past = past }
 
-  pub piece_none : (first least : ℕ) (best : Found) → IsWalk tariff trip (BeginsIn tariff trip (record { first = first; past = first })) least best least best
-  piece_none first least best = walk_nothing tariff trip (BeginsIn tariff trip (record { first = first; past = first })) least best (λ parts price l b. let low : first ≤ b.number = b.above in let high : b.number < first = b.below in omega arith)
+  pub piece_none : (first : ℕ) (a : Passed) (x : Held) → IsWalk tariff trip (BeginsIn tariff trip (record { first = first; past = first })) a x a x
+  piece_none first a x = walk_nothing tariff trip (BeginsIn tariff trip (record { first = first; past = first })) a x (λ parts price l b. let low : first ≤ b.number = b.above in let high : b.number < first = b.below in omega arith)
 
   in_or_by : (first number : ℕ) (parts : List Part) → BeginsIn tariff trip (record { first = first; past = number + 1 }) parts → BeginsIn tariff trip (record { first = first; past = number }) parts ⊎ BeginsBy tariff trip number parts
   in_or_by first number parts b =
@@ -86,16 +88,16 @@ module _ (tariff : Tariff) (trip : Itinerary) where
             inr (subst P same b.by)
       ]
 
-  pub piece_more : (first number a b c : ℕ) (best middle found : Found) → first ≤ number → IsWalk tariff trip (BeginsIn tariff trip (record { first = first; past = number })) a best b middle → IsWalk tariff trip (BeginsBy tariff trip number) b middle c found → IsWalk tariff trip (BeginsIn tariff trip (record { first = first; past = number + 1 })) a best c found
-  piece_more first number a b c best middle found up one two =
-      walk_then tariff trip (BeginsIn tariff trip (record { first = first; past = number })) (BeginsBy tariff trip number) (BeginsIn tariff trip (record { first = first; past = number + 1 })) a b c best middle found one two
+  pub piece_more : (first number : ℕ) (a b c : Passed) (x y z : Held) → first ≤ number → IsWalk tariff trip (BeginsIn tariff trip (record { first = first; past = number })) a x b y → IsWalk tariff trip (BeginsBy tariff trip number) b y c z → IsWalk tariff trip (BeginsIn tariff trip (record { first = first; past = number + 1 })) a x c z
+  piece_more first number a b c x y z up one two =
+      walk_then tariff trip (BeginsIn tariff trip (record { first = first; past = number })) (BeginsBy tariff trip number) (BeginsIn tariff trip (record { first = first; past = number + 1 })) a b c x y z one two
       (in_or_by first number)
       (λ parts d. let low : d.number < number = d.below in record { number = d.number; above = d.above; below = omega arith; by = d.by })
       (λ parts d. record { number = number; above = up; below = omega arith; by = d })
 
-  pub piece_all : (piece : Piece) (number before after : ℕ) (best found : Found) → number ≤ max piece.first piece.past → (number < piece.past → length (first_part_choices tariff trip) ≤ number) → IsWalk tariff trip (BeginsIn tariff trip (record { first = piece.first; past = number })) before best after found → IsWalk tariff trip (BeginsIn tariff trip piece) before best after found
-  piece_all piece number before after best found within all walk =
-      walk_within tariff trip (BeginsIn tariff trip piece) (BeginsIn tariff trip (record { first = piece.first; past = number })) before after best found walk
+  pub piece_all : (piece : Piece) (number : ℕ) (a b : Passed) (x y : Held) → number ≤ max piece.first piece.past → (number < piece.past → length (first_part_choices tariff trip) ≤ number) → IsWalk tariff trip (BeginsIn tariff trip (record { first = piece.first; past = number })) a x b y → IsWalk tariff trip (BeginsIn tariff trip piece) a x b y
+  piece_all piece number a b x y within all walk =
+      walk_within tariff trip (BeginsIn tariff trip piece) (BeginsIn tariff trip (record { first = piece.first; past = number })) a b x y walk
       (λ parts price l b. record { number = b.number; above = b.above; below = below_number b.number b.below (slice_get_within (first_part_choices tariff trip) b.number (b.by.first.end, b.by.first.fare) b.by.choice); by = b.by })
       (λ parts b. let low : b.number < number = b.below in let up : piece.first ≤ b.number = b.above in record { number = b.number; above = b.above; below = omega arith; by = b.by })
     where
@@ -106,26 +108,25 @@ module _ (tariff : Tariff) (trip : Itinerary) where
             | inr g ↦ omega arith
           ]
 
-  -- what a search answers
-  pub searched : (piece : Piece) (before after least : ℕ) (found : Found) → least ≤ after → IsWalk tariff trip (BeginsIn tariff trip piece) before None after found → IsSearched tariff trip piece least (kept_at found least)
-  searched piece before after least None low walk = λ parts price l b.
+  -- what a search answers, after dives into its piece
+  pub searched : (piece : Piece) (before after least : ℕ) (best found : Found) → least ≤ after → ((parts : List Part) → IsHeld best parts → BeginsIn tariff trip piece parts) → IsTold tariff trip after found → IsWalk tariff trip (BeginsIn tariff trip piece) (IsPassed before best) (IsHeld best) (IsPassed after found) (IsHeld found) → IsSearched tariff trip piece least (kept_at found least)
+  searched piece before after least best None low begins told walk = λ parts price l b.
       elim (walk.walked parts price l b) [ inl h ↦ omega arith | inr h ↦ absurd h ]
-  searched piece before after least (Some best) low walk =
-      let told = walk.told tt in
-      let least_told : after ≤ best.1 = told.1 in
-      elim (cases_Bool (nat_le best.1 least)) [
+  searched piece before after least best (Some one) low begins told walk =
+      let least_told : after ≤ one.1 = told.1 in
+      elim (cases_Bool (nat_le one.1 least)) [
         | inl t ↦
-            let up : best.1 ≤ least = leb-true best.1 least t in
+            let up : one.1 ≤ least = leb-true one.1 least t in
             rw t (record {
               lawful = told.0;
-              begins = elim walk.from [ inl e ↦ absurd (none_some best (sym e)) | inr b ↦ b ];
+              begins = elim (walk.from one.0 refl) [ inl was ↦ begins one.0 was | inr b ↦ b ];
               told = omega arith;
-              first = λ other cost l b. elim (walk.walked other cost l b) [ inl h ↦ dearer other best.0 cost best.1 (omega arith) | inr h ↦ h ];
+              first = λ other cost l b. elim (walk.walked other cost l b) [ inl h ↦ dearer other one.0 cost one.1 (omega arith) | inr h ↦ h ];
             })
         | inr f ↦
-            let above : least < best.1 = leb-false best.1 least f in
+            let above : least < one.1 = leb-false one.1 least f in
             rw f (λ parts price l b. elim (walk.walked parts price l b) [
               | inl h ↦ omega arith
-              | inr h ↦ let up : best.1 ≤ price = cheaper parts best.0 price best.1 h in omega arith
+              | inr h ↦ let up : one.1 ≤ price = cheaper parts one.0 price one.1 h in omega arith
             ])
       ]

@@ -1,4 +1,4 @@
--- The steps of a pruned walk: over ends, entries and units, and from some parts to those that follow.
+-- The steps of a walk: over ends, entries and units, and from some parts to those that follow.
 use Rattle.std.proofs.Common.{◌≡◌, ℕ, ◌+◌, ◌<◌, ◌≤◌, ◌⊎◌, true, List, [], ◌∷◌, ◌++◌, length, map, take, get_or, cond, Option, Some, None, refl, ap, subst, sym, ◌∙◌, inl, inr, arith}
 use Rattle.std.specs.List.{filter_map, cons_option}
 use Rattle.std.proofs.lemmas.List.{append_assoc, append-nil, take_more, map-append}
@@ -19,11 +19,8 @@ use Rattle.fare_component.specs.declared.table.entry.Entry.{Entry}
 use Rattle.fare_floors.specs.Floors.{HasNoCompletion, IsFloor}
 use Rattle.fare_floors.proofs.FollowLemmas.{member_snoc}
 use Rattle.fare_component.specs.Table.{entries_of, entry_of, entry_at, has_amount, is_span}
-use Rattle.fare_branch.specs.Walked.{IsWalk, is_beaten}
-use Rattle.fare_branch.proofs.WalkedLemmas.{walk_left_out, walk_nothing, walk_then, walk_within, beaten_is_passed}
-
-abbrev Found : Type 0
-Found = Option (List Part × ℕ)
+use Rattle.fare_branch.specs.Sought.{AllBehindPassed, AllPassedFrom, IsStill, IsWalk}
+use Rattle.fare_branch.proofs.SoughtLemmas.{Passed, Held, walk_left_out, walk_nothing, walk_then, walk_within}
 
 -- a part that ends at a point or behind it
 abbrev pub EndsFrom : ℕ → Part → Type 0
@@ -75,9 +72,9 @@ module _ (tariff : Tariff) (trip : Itinerary) (front : List Part) where
       let before : end_of front (length front) ≤ next_start trip front = end_before_next trip front in
       absurd (omega arith)
 
-  pub walk_whole : (before after : ℕ) (best found : Found) → end_of front (length front) ≡ count trip → IsWalk tariff trip (IsList front) before best after found → IsWalk tariff trip (Completes front) before best after found
-  walk_whole before after best found e walk =
-      walk_within tariff trip (Completes front) (IsList front) before after best found walk
+  pub walk_whole : (a b : Passed) (x y : Held) → end_of front (length front) ≡ count trip → IsWalk tariff trip (IsList front) a x b y → IsWalk tariff trip (Completes front) a x b y
+  walk_whole a b x y e walk =
+      walk_within tariff trip (Completes front) (IsList front) a b x y walk
       (λ parts price l d. whole_only e parts price l d.rest d.whole)
       (λ parts d. record { rest = []; whole = d ∙ sym (append-nil front) })
 
@@ -89,16 +86,16 @@ module _ (tariff : Tariff) (trip : Itinerary) (front : List Part) where
       absurd (e (subst P same (cover trip parts (kept tariff trip parts price l).cover).last))
   goes_further e parts price l (q ∷ more) w = record { next = q; rest = more; whole = w; meets = tt }
 
-  pub walk_further : (before after : ℕ) (best found : Found) → (end_of front (length front) ≡ count trip → ⊥) → IsWalk tariff trip (GoesOn front AnyPart) before best after found → IsWalk tariff trip (Completes front) before best after found
-  walk_further before after best found e walk =
-      walk_within tariff trip (Completes front) (GoesOn front AnyPart) before after best found walk
+  pub walk_further : (a b : Passed) (x y : Held) → (end_of front (length front) ≡ count trip → ⊥) → IsWalk tariff trip (GoesOn front AnyPart) a x b y → IsWalk tariff trip (Completes front) a x b y
+  walk_further a b x y e walk =
+      walk_within tariff trip (Completes front) (GoesOn front AnyPart) a b x y walk
       (λ parts price l d. goes_further e parts price l d.rest d.whole)
       (λ parts g. record { rest = g.next ∷ g.rest; whole = g.whole })
 
   -- over ends, the greatest first
-  pub ends_none : (past least : ℕ) (best : Found) → count trip < past → IsWalk tariff trip (GoesOn front (EndsFrom past)) least best least best
-  ends_none past least best h =
-      walk_nothing tariff trip (GoesOn front (EndsFrom past)) least best
+  pub ends_none : (past : ℕ) (a : Passed) (x : Held) → count trip < past → IsWalk tariff trip (GoesOn front (EndsFrom past)) a x a x
+  ends_none past a x h =
+      walk_nothing tariff trip (GoesOn front (EndsFrom past)) a x
       (λ parts price l g.
       let within : g.next.end ≤ count trip = next_within tariff trip front g.next g.rest price (lawful_next (EndsFrom past) parts price l g) in
       let meets : past ≤ g.next.end = g.meets in
@@ -107,25 +104,25 @@ module _ (tariff : Tariff) (trip : Itinerary) (front : List Part) where
   ends_or_from : (end : ℕ) (q : Part) → EndsFrom end q → EndsFrom (end + 1) q ⊎ EndsAt end q
   ends_or_from end q h = elim (cases_lt end q.end) [ inl l ↦ inl (omega arith) | inr g ↦ inr (omega arith) ]
 
-  pub ends_more : (end a b c : ℕ) (best middle found : Found) → IsWalk tariff trip (GoesOn front (EndsFrom (end + 1))) a best b middle → IsWalk tariff trip (GoesOn front (EndsAt end)) b middle c found → IsWalk tariff trip (GoesOn front (EndsFrom end)) a best c found
-  ends_more end a b c best middle found first second =
-      walk_then tariff trip (GoesOn front (EndsFrom (end + 1))) (GoesOn front (EndsAt end)) (GoesOn front (EndsFrom end)) a b c best middle found first second
+  pub ends_more : (end : ℕ) (a b c : Passed) (x y z : Held) → IsWalk tariff trip (GoesOn front (EndsFrom (end + 1))) a x b y → IsWalk tariff trip (GoesOn front (EndsAt end)) b y c z → IsWalk tariff trip (GoesOn front (EndsFrom end)) a x c z
+  ends_more end a b c x y z first second =
+      walk_then tariff trip (GoesOn front (EndsFrom (end + 1))) (GoesOn front (EndsAt end)) (GoesOn front (EndsFrom end)) a b c x y z first second
       (goes_either front (EndsFrom end) (EndsFrom (end + 1)) (EndsAt end) (ends_or_from end))
       (goes_too front (EndsFrom (end + 1)) (EndsFrom end) (λ q h. let m : end + 1 ≤ q.end = h in omega arith))
       (goes_too front (EndsAt end) (EndsFrom end) (λ q h. let m : q.end ≡ end = h in omega arith))
 
-  pub ends_all : (first before after : ℕ) (best found : Found) → first ≤ next_start trip front + 1 → IsWalk tariff trip (GoesOn front (EndsFrom first)) before best after found → IsWalk tariff trip (GoesOn front AnyPart) before best after found
-  ends_all first before after best found h walk =
-      walk_within tariff trip (GoesOn front AnyPart) (GoesOn front (EndsFrom first)) before after best found walk
+  pub ends_all : (first : ℕ) (a b : Passed) (x y : Held) → first ≤ next_start trip front + 1 → IsWalk tariff trip (GoesOn front (EndsFrom first)) a x b y → IsWalk tariff trip (GoesOn front AnyPart) a x b y
+  ends_all first a b x y h walk =
+      walk_within tariff trip (GoesOn front AnyPart) (GoesOn front (EndsFrom first)) a b x y walk
       (λ parts price l g.
       let rises : next_start trip front < g.next.end = next_rises tariff trip front g.next g.rest price (lawful_next AnyPart parts price l g) in
       record { next = g.next; rest = g.rest; whole = g.whole; meets = omega arith })
       (goes_too front (EndsFrom first) AnyPart (λ q m. tt))
 
   -- over entries
-  pub entries_none : (end least : ℕ) (best : Found) → IsWalk tariff trip (GoesOn front (HasEntry end [])) least best least best
-  entries_none end least best =
-      walk_nothing tariff trip (GoesOn front (HasEntry end [])) least best
+  pub entries_none : (end : ℕ) (a : Passed) (x : Held) → IsWalk tariff trip (GoesOn front (HasEntry end [])) a x a x
+  entries_none end a x =
+      walk_nothing tariff trip (GoesOn front (HasEntry end [])) a x
       (λ parts price l g. g.meets.1)
 
   entry_or_in : (end i : ℕ) (entries : List Entry) (one : Entry) → i < length entries → (q : Part) → HasEntry end (take (i + 1) entries) q → HasEntry end (take i entries) q ⊎ HasFare end (get_or entries i one).fare q
@@ -146,9 +143,9 @@ module _ (tariff : Tariff) (trip : Itinerary) (front : List Part) where
         | inr k ↦ (k.0, subst (Member q.fare) (sym same) (member_right q.fare (map fare_of_entry (take i entries)) ((get_or entries i one).fare ∷ []) (inl k.1)))
       ]
 
-  pub entries_more : (end i : ℕ) (entries : List Entry) (one : Entry) (a b c : ℕ) (best middle found : Found) → i < length entries → IsWalk tariff trip (GoesOn front (HasEntry end (take i entries))) a best b middle → IsWalk tariff trip (GoesOn front (HasFare end (get_or entries i one).fare)) b middle c found → IsWalk tariff trip (GoesOn front (HasEntry end (take (i + 1) entries))) a best c found
-  entries_more end i entries one a b c best middle found h first second =
-      walk_then tariff trip (GoesOn front (HasEntry end (take i entries))) (GoesOn front (HasFare end (get_or entries i one).fare)) (GoesOn front (HasEntry end (take (i + 1) entries))) a b c best middle found first second
+  pub entries_more : (end i : ℕ) (entries : List Entry) (one : Entry) (a b c : Passed) (x y z : Held) → i < length entries → IsWalk tariff trip (GoesOn front (HasEntry end (take i entries))) a x b y → IsWalk tariff trip (GoesOn front (HasFare end (get_or entries i one).fare)) b y c z → IsWalk tariff trip (GoesOn front (HasEntry end (take (i + 1) entries))) a x c z
+  entries_more end i entries one a b c x y z h first second =
+      walk_then tariff trip (GoesOn front (HasEntry end (take i entries))) (GoesOn front (HasFare end (get_or entries i one).fare)) (GoesOn front (HasEntry end (take (i + 1) entries))) a b c x y z first second
       (goes_either front (HasEntry end (take (i + 1) entries)) (HasEntry end (take i entries)) (HasFare end (get_or entries i one).fare) (entry_or_in end i entries one h))
       (goes_too front (HasEntry end (take i entries)) (HasEntry end (take (i + 1) entries)) (λ q m. in_entry end i entries one h q (inl m)))
       (goes_too front (HasFare end (get_or entries i one).fare) (HasEntry end (take (i + 1) entries)) (λ q m. in_entry end i entries one h q (inr m)))
@@ -169,9 +166,9 @@ module _ (tariff : Tariff) (trip : Itinerary) (front : List Part) where
       let span : is_span trip (next_start trip front) q.end ≡ true = rw (lt-ltb (next_start trip front) q.end rises) (le-leb q.end (count trip) within) in
       rw span (member_map fare_of_entry (entry_of tariff trip (next_start trip front) q.end q.fare) (filter_map (entry_at tariff trip (next_start trip front) q.end) (record_numbers tariff)) entry)
 
-  pub entries_all : (end : ℕ) (entries : List Entry) (before after : ℕ) (best found : Found) → entries ≡ entries_of tariff trip (next_start trip front) end → IsWalk tariff trip (GoesOn front (HasEntry end entries)) before best after found → IsWalk tariff trip (GoesOn front (EndsAt end)) before best after found
-  entries_all end entries before after best found same walk =
-      walk_within tariff trip (GoesOn front (EndsAt end)) (GoesOn front (HasEntry end entries)) before after best found walk
+  pub entries_all : (end : ℕ) (entries : List Entry) (a b : Passed) (x y : Held) → entries ≡ entries_of tariff trip (next_start trip front) end → IsWalk tariff trip (GoesOn front (HasEntry end entries)) a x b y → IsWalk tariff trip (GoesOn front (EndsAt end)) a x b y
+  entries_all end entries a b x y same walk =
+      walk_within tariff trip (GoesOn front (EndsAt end)) (GoesOn front (HasEntry end entries)) a b x y walk
       (λ parts price l g.
       let P : List Entry → Type 0 = λ es. Member g.next.fare (map fare_of_entry es) in
       let Q : ℕ → Type 0 = λ n. Member g.next.fare (map fare_of_entry (entries_of tariff trip (next_start trip front) n)) in
@@ -180,9 +177,9 @@ module _ (tariff : Tariff) (trip : Itinerary) (front : List Part) where
       (goes_too front (HasEntry end entries) (EndsAt end) (λ q m. m.0))
 
   -- over units
-  pub units_none : (end number least : ℕ) (best : Found) → IsWalk tariff trip (GoesOn front (HasUnitBefore end number 1)) least best least best
-  units_none end number least best =
-      walk_nothing tariff trip (GoesOn front (HasUnitBefore end number 1)) least best
+  pub units_none : (end number : ℕ) (a : Passed) (x : Held) → IsWalk tariff trip (GoesOn front (HasUnitBefore end number 1)) a x a x
+  units_none end number a x =
+      walk_nothing tariff trip (GoesOn front (HasUnitBefore end number 1)) a x
       (λ parts price l g.
       let numbered : (1 ≤ g.next.unit) × (g.next.unit ≤ greatest_unit front (places front) + 1) = next_numbered tariff trip front g.next g.rest price (lawful_next (HasUnitBefore end number 1) parts price l g) in
       let low : 1 ≤ g.next.unit = numbered.0 in
@@ -202,16 +199,16 @@ module _ (tariff : Tariff) (trip : Itinerary) (front : List Part) where
   part_has_unit : (part q : Part) → IsPart part q → HasUnitBefore part.end part.fare (part.unit + 1) q
   part_has_unit part q e = (ap (λ (p : Part). p.end) e, ap (λ (p : Part). p.fare) e, let u : q.unit ≡ part.unit = ap (λ (p : Part). p.unit) e in omega arith)
 
-  pub units_more : (part : Part) (a b c : ℕ) (best middle found : Found) → IsWalk tariff trip (GoesOn front (HasUnitBefore part.end part.fare part.unit)) a best b middle → IsWalk tariff trip (GoesOn front (IsPart part)) b middle c found → IsWalk tariff trip (GoesOn front (HasUnitBefore part.end part.fare (part.unit + 1))) a best c found
-  units_more part a b c best middle found first second =
-      walk_then tariff trip (GoesOn front (HasUnitBefore part.end part.fare part.unit)) (GoesOn front (IsPart part)) (GoesOn front (HasUnitBefore part.end part.fare (part.unit + 1))) a b c best middle found first second
+  pub units_more : (part : Part) (a b c : Passed) (x y z : Held) → IsWalk tariff trip (GoesOn front (HasUnitBefore part.end part.fare part.unit)) a x b y → IsWalk tariff trip (GoesOn front (IsPart part)) b y c z → IsWalk tariff trip (GoesOn front (HasUnitBefore part.end part.fare (part.unit + 1))) a x c z
+  units_more part a b c x y z first second =
+      walk_then tariff trip (GoesOn front (HasUnitBefore part.end part.fare part.unit)) (GoesOn front (IsPart part)) (GoesOn front (HasUnitBefore part.end part.fare (part.unit + 1))) a b c x y z first second
       (goes_either front (HasUnitBefore part.end part.fare (part.unit + 1)) (HasUnitBefore part.end part.fare part.unit) (IsPart part) (unit_below_or_at part))
       (goes_too front (HasUnitBefore part.end part.fare part.unit) (HasUnitBefore part.end part.fare (part.unit + 1)) (λ q h. (h.0, h.1, let l : q.unit < part.unit = h.2 in omega arith)))
       (goes_too front (IsPart part) (HasUnitBefore part.end part.fare (part.unit + 1)) (part_has_unit part))
 
-  pub units_all : (end number past before after : ℕ) (best found : Found) → greatest_unit front (places front) + 2 ≤ past → IsWalk tariff trip (GoesOn front (HasUnitBefore end number past)) before best after found → IsWalk tariff trip (GoesOn front (HasFare end number)) before best after found
-  units_all end number past before after best found h walk =
-      walk_within tariff trip (GoesOn front (HasFare end number)) (GoesOn front (HasUnitBefore end number past)) before after best found walk
+  pub units_all : (end number past : ℕ) (a b : Passed) (x y : Held) → greatest_unit front (places front) + 2 ≤ past → IsWalk tariff trip (GoesOn front (HasUnitBefore end number past)) a x b y → IsWalk tariff trip (GoesOn front (HasFare end number)) a x b y
+  units_all end number past a b x y h walk =
+      walk_within tariff trip (GoesOn front (HasFare end number)) (GoesOn front (HasUnitBefore end number past)) a b x y walk
       (λ parts price l g.
       let numbered : (1 ≤ g.next.unit) × (g.next.unit ≤ greatest_unit front (places front) + 1) = next_numbered tariff trip front g.next g.rest price (lawful_next (HasFare end number) parts price l g) in
       let high : g.next.unit ≤ greatest_unit front (places front) + 1 = numbered.1 in
@@ -231,30 +228,29 @@ module _ (tariff : Tariff) (trip : Itinerary) (front : List Part) where
   is_completion : (part : Part) (parts : List Part) (price : ℕ) → IsLawful tariff trip parts price → GoesOn front (IsPart part) parts → IsCompletion tariff trip (front ++ part ∷ []) parts price
   is_completion part parts price l g = let c : Completes (front ++ part ∷ []) parts = completes_part part parts g in record { lawful = l; begins = (c.rest, c.whole) }
 
-  pub part_walked : (part : Part) (before after : ℕ) (best found : Found) → IsWalk tariff trip (Completes (front ++ part ∷ [])) before best after found → IsWalk tariff trip (GoesOn front (IsPart part)) before best after found
-  part_walked part before after best found walk =
-      walk_within tariff trip (GoesOn front (IsPart part)) (Completes (front ++ part ∷ [])) before after best found walk
+  pub part_walked : (part : Part) (a b : Passed) (x y : Held) → IsWalk tariff trip (Completes (front ++ part ∷ [])) a x b y → IsWalk tariff trip (GoesOn front (IsPart part)) a x b y
+  part_walked part a b x y walk =
+      walk_within tariff trip (GoesOn front (IsPart part)) (Completes (front ++ part ∷ [])) a b x y walk
       (λ parts price l g. completes_part part parts g)
       (goes_by_part part)
 
   -- a part after which nothing completes is left out
-  pub part_none : (part : Part) (least : ℕ) (best : Found) → HasNoCompletion tariff trip (front ++ part ∷ []) → IsWalk tariff trip (GoesOn front (IsPart part)) least best least best
-  part_none part least best none =
-      walk_nothing tariff trip (GoesOn front (IsPart part)) least best
+  pub part_none : (part : Part) (a : Passed) (x : Held) → HasNoCompletion tariff trip (front ++ part ∷ []) → IsWalk tariff trip (GoesOn front (IsPart part)) a x a x
+  part_none part a x none =
+      walk_nothing tariff trip (GoesOn front (IsPart part)) a x
       (λ parts price l g. none parts price (is_completion part parts price l g))
 
-  -- and so is one whose floor is above the least price known
-  pub part_dear : (part : Part) (before after floor : ℕ) (best : Found) → after ≤ before → after < floor → IsFloor tariff trip (front ++ part ∷ []) floor → IsWalk tariff trip (GoesOn front (IsPart part)) before best after best
-  part_dear part before after floor best h dear up =
-      walk_left_out tariff trip (GoesOn front (IsPart part)) before after best h
-      (λ parts price l g.
-      let least : floor ≤ price = up parts price (is_completion part parts price l g) in
-      inl (omega arith))
+  -- and so is one from whose floor on all are passed
+  pub part_dear : (part : Part) (floor : ℕ) (a b : Passed) (x y : Held) → IsStill a x b y → AllPassedFrom floor b → IsFloor tariff trip (front ++ part ∷ []) floor → IsWalk tariff trip (GoesOn front (IsPart part)) a x b y
+  part_dear part floor a b x y still dear up =
+      walk_left_out tariff trip (GoesOn front (IsPart part)) a b x y still
+      (λ parts price l g. dear parts price (up parts price (is_completion part parts price l g)))
 
-  -- or at which the best that was found is before all that complete it
-  pub part_beaten : (part : Part) (floor least : ℕ) (best : Found) → is_beaten best (front ++ part ∷ []) floor ≡ true → IsFloor tariff trip (front ++ part ∷ []) floor → IsWalk tariff trip (GoesOn front (IsPart part)) least best least best
-  part_beaten part floor least best beaten up =
-      walk_left_out tariff trip (GoesOn front (IsPart part)) least least best (omega arith)
+  -- or all that complete it are
+  pub part_behind : (part : Part) (floor : ℕ) (a b : Passed) (x y : Held) → IsStill a x b y → AllBehindPassed (front ++ part ∷ []) floor b → IsFloor tariff trip (front ++ part ∷ []) floor → IsWalk tariff trip (GoesOn front (IsPart part)) a x b y
+  part_behind part floor a b x y still behind up =
+      walk_left_out tariff trip (GoesOn front (IsPart part)) a b x y still
       (λ parts price l g.
       let c : Completes (front ++ part ∷ []) parts = completes_part part parts g in
-      inr (beaten_is_passed best (front ++ part ∷ []) c.rest parts floor price beaten (up parts price (is_completion part parts price l g)) c.whole))
+      let P : List Part → Type 0 = λ xs. b xs price in
+      subst P (sym c.whole) (behind c.rest price (up parts price (is_completion part parts price l g))))

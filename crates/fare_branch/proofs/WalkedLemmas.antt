@@ -1,4 +1,4 @@
--- Pruned walks over constructions: how they are put together, and what they come to.
+-- Walks for the best construction: what they leave out and take, and how they are put together.
 use Rattle.std.proofs.Common.{◌≡◌, ℕ, ◌<◌, ◌≤◌, ◌⊎◌, min, Bool, true, false, ◌&&◌, ◌||◌, not, List, [], ◌∷◌, ◌++◌, Option, Some, None, Result, Ok, Err, length, refl, ap, sym, subst, ◌∙◌, inl, inr, arith}
 use Rattle.std.specs.Prelude.{nat_le, nat_lt, ◌==◌}
 use Rattle.std.proofs.lemmas.Bool.{cases_Bool, cases_order, and_parts, or_cases, leb-true, ltb-true, eqb-true, eq-eqb}
@@ -12,18 +12,15 @@ use Rattle.fare_rules.specs.Order.{and_then, compare_parts, is_before, is_less, 
 use Rattle.fare_rules.proofs.OrderLemmas.{ListBefore, Before, before_tells, before_says}
 use Rattle.fare_units.specs.Walk.{TakesBetter, IsBound, IsList}
 use Rattle.fare_units.proofs.WalkLemmas.{before_before, not_before_itself}
-use Rattle.fare_branch.specs.Walked.{IsWalk, IsPassed, IsTold, IsAmong, is_beaten, is_no_sooner}
+use Rattle.fare_branch.proofs.SoughtLemmas.{walk_after, walk_nothing, walk_then}
+use Rattle.fare_branch.specs.Sought.{AllBehindPassed, AllPassedFrom, IsStill, IsWalk}
+use Rattle.fare_branch.specs.Walked.{IsBestWalk, IsPassed, IsTold, IsHeld, is_beaten, is_no_sooner}
 
 abbrev Found : Type 0
 Found = Option (List Part × ℕ)
 
 true_false : true ≡ false → ⊥
 true_false e = cc
-
--- what was found stays among more lists
-among_more : (D E : List Part → Type 0) → ((parts : List Part) → D parts → E parts) → (found : Found) → IsAmong D found → IsAmong E found
-among_more D E more None h = h
-among_more D E more (Some found) h = more found.0 h
 
 -- what was passed stays so where the least price falls
 passed_falls : (before after : ℕ) (best : Found) (parts : List Part) (price : ℕ) → after ≤ before → IsPassed before best parts price → IsPassed after best parts price
@@ -87,13 +84,22 @@ no_sooner_is_passed xs front rest px floor price h up =
     let past : nat_lt price px ≡ false = not_less price px (omega arith) in
     rw (past, tie_longer front xs rest long, tied) (and_false (price == px))
 
+-- what costs no less than a floor above the least price known is passed
+pub dear_is_passed : (least floor : ℕ) (best : Found) → least < floor → AllPassedFrom floor (IsPassed least best)
+dear_is_passed least floor best dear parts price up = inl (omega arith)
+
+-- and where the least price falls nothing else changes
+pub fallen_is_still : (before after : ℕ) (best : Found) → after ≤ before → IsStill (IsPassed before best) (IsHeld best) (IsPassed after best) (IsHeld best)
+fallen_is_still before after best falls = record {
+  kept = λ parts price p. passed_falls before after best parts price falls p;
+  from = λ parts h. h;
+}
+
 -- no completion of parts that are beaten is before the best that was found
-pub beaten_is_passed : (best : Found) (front rest parts : List Part) (floor price : ℕ) → is_beaten best front floor ≡ true → floor ≤ price → parts ≡ front ++ rest → IsBound parts price best
-beaten_is_passed None front rest parts floor price h up whole = absurd (true_false (sym h))
-beaten_is_passed (Some best) front rest parts floor price h up whole =
-    let P : List Part → Type 0 = λ xs. is_before xs price best.0 best.1 ≡ false in
-    subst P (sym whole)
-    (elim (or_cases (is_before best.0 best.1 front floor) (is_no_sooner best.0 best.1 front floor) h) [
+pub beaten_is_passed : (best : Found) (front : List Part) (floor least : ℕ) → is_beaten best front floor ≡ true → AllBehindPassed front floor (IsPassed least best)
+beaten_is_passed None front floor least h rest price up = absurd (true_false (sym h))
+beaten_is_passed (Some best) front floor least h rest price up =
+    inr (elim (or_cases (is_before best.0 best.1 front floor) (is_no_sooner best.0 best.1 front floor) h) [
       | inl l ↦
           not_after best.0 (front ++ rest) best.1 price
           (before_says best.0 (front ++ rest) best.1 price (before_longer best.0 front rest best.1 floor price up (before_tells best.0 front best.1 floor l)))
@@ -104,66 +110,40 @@ ok_same : (p q : ℕ) → ◌≡◌ {A = Result ℕ Broken} (Ok p) (Ok q) → p 
 ok_same p q e = cc
 
 module _ (tariff : Tariff) (trip : Itinerary) where
-  told_falls : (before after : ℕ) (best : Found) → after ≤ before → IsTold tariff trip before best → IsTold tariff trip after best
+  pub told_falls : (before after : ℕ) (best : Found) → after ≤ before → IsTold tariff trip before best → IsTold tariff trip after best
   told_falls before after None h t = tt
   told_falls before after (Some best) h t = (t.0, omega arith)
 
-  -- lists that are left out, since each lawful one is passed where the least price has fallen
-  pub walk_left_out : (D : List Part → Type 0) (before after : ℕ) (best : Found) → after ≤ before → ((parts : List Part) (price : ℕ) → IsLawful tariff trip parts price → D parts → IsPassed after best parts price) → IsWalk tariff trip D before best after best
-  walk_left_out D before after best h passed = record {
-    falls = h;
-    told = told_falls before after best h;
-    kept = λ parts price p. passed_falls before after best parts price h p;
-    walked = passed;
-    from = inl refl;
+  -- no walk
+  pub best_walk_none : (D : List Part → Type 0) (least : ℕ) (best : Found) → ((parts : List Part) (price : ℕ) → IsLawful tariff trip parts price → D parts → ⊥) → IsBestWalk tariff trip D least best least best
+  best_walk_none D least best none = record {
+    falls = omega arith;
+    told = λ t. t;
+    walk = walk_nothing tariff trip D (IsPassed least best) (IsHeld best) none;
   }
 
-  -- a walk over lists of which none is lawful
-  pub walk_nothing : (D : List Part → Type 0) (least : ℕ) (best : Found) → ((parts : List Part) (price : ℕ) → IsLawful tariff trip parts price → D parts → ⊥) → IsWalk tariff trip D least best least best
-  walk_nothing D least best none = walk_left_out D least least best (omega arith) (λ parts price l d. absurd (none parts price l d))
-
-  -- a walk from a least price that had fallen
-  pub walk_fallen : (D : List Part → Type 0) (before now after : ℕ) (best found : Found) → now ≤ before → IsWalk tariff trip D now best after found → IsWalk tariff trip D before best after found
-  walk_fallen D before now after best found h walk =
-      let falls : after ≤ now = walk.falls in
-      record {
-        falls = omega arith;
-        told = λ t. walk.told (told_falls before now best h t);
-        kept = λ parts price p. walk.kept parts price (passed_falls before now best parts price h p);
-        walked = walk.walked;
-        from = walk.from;
-      }
-
-  from_then : (D E F : List Part → Type 0) (best middle found : Found) → ((parts : List Part) → D parts → F parts) → ((parts : List Part) → E parts → F parts) → (middle ≡ best) ⊎ IsAmong D middle → (found ≡ middle) ⊎ IsAmong E found → (found ≡ best) ⊎ IsAmong F found
-  from_then D E F best middle found d e (inl same) (inl kept) = inl (kept ∙ same)
-  from_then D E F best middle found d e (inr among) (inl kept) = inr (subst (IsAmong F) (sym kept) (among_more D F d middle among))
-  from_then D E F best middle found d e first (inr among) = inr (among_more E F e found among)
-
-  -- one walk after another
-  pub walk_then : (D E F : List Part → Type 0) (a b c : ℕ) (best middle found : Found) → IsWalk tariff trip D a best b middle → IsWalk tariff trip E b middle c found → ((parts : List Part) → F parts → D parts ⊎ E parts) → ((parts : List Part) → D parts → F parts) → ((parts : List Part) → E parts → F parts) → IsWalk tariff trip F a best c found
-  walk_then D E F a b c best middle found first second each d e =
+  -- a walk after another, from a least price that has fallen
+  pub best_walk_then : (D E F : List Part → Type 0) (a b low c : ℕ) (best middle found : Found) → low ≤ b → IsBestWalk tariff trip D a best b middle → IsBestWalk tariff trip E low middle c found → ((parts : List Part) → F parts → D parts ⊎ E parts) → ((parts : List Part) → D parts → F parts) → ((parts : List Part) → E parts → F parts) → IsBestWalk tariff trip F a best c found
+  best_walk_then D E F a b low c best middle found fallen first second each d e =
       let one : b ≤ a = first.falls in
-      let two : c ≤ b = second.falls in
+      let two : c ≤ low = second.falls in
       record {
         falls = omega arith;
-        told = λ t. second.told (first.told t);
-        kept = λ parts price p. second.kept parts price (first.kept parts price p);
-        walked = λ parts price l f. elim (each parts f) [ inl h ↦ second.kept parts price (first.walked parts price l h) | inr h ↦ second.walked parts price l h ];
-        from = from_then D E F best middle found d e first.from second.from;
+        told = λ t. second.told (told_falls b low middle fallen (first.told t));
+        walk = walk_then tariff trip D E F (IsPassed a best) (IsPassed b middle) (IsPassed c found) (IsHeld best) (IsHeld middle) (IsHeld found) first.walk
+            (walk_after tariff trip E (IsPassed b middle) (IsPassed low middle) (IsPassed c found) (IsHeld middle) (IsHeld middle) (IsHeld found) (fallen_is_still b low middle fallen) second.walk)
+            each d e;
       }
 
-  -- a walk over lists among which are all lawful ones of those asked for
-  pub walk_within : (D E : List Part → Type 0) (before after : ℕ) (best found : Found) → IsWalk tariff trip E before best after found → ((parts : List Part) (price : ℕ) → IsLawful tariff trip parts price → D parts → E parts) → ((parts : List Part) → E parts → D parts) → IsWalk tariff trip D before best after found
-  walk_within D E before after best found walk each back = record {
-    falls = walk.falls;
-    told = walk.told;
-    kept = walk.kept;
-    walked = λ parts price l d. walk.walked parts price l (each parts price l d);
-    from = elim walk.from [ inl same ↦ inl same | inr among ↦ inr (among_more E D back found among) ];
-  }
+  held_of : (parts : List Part) (price : ℕ) (best found : Found) → TakesBetter parts price best found → (others : List Part) → IsHeld found others → IsHeld best others ⊎ IsList parts others
+  held_of parts price best found better others h =
+      elim better.chosen [
+        | inl same ↦ let P : Found → Type 0 = λ f. IsHeld f others in inl (subst P same h)
+        | inr new ↦ let P : Found → Type 0 = λ f. IsHeld f others in inr (subst P new h)
+      ]
 
   -- a lawful list is taken where it is better
-  pub walk_taken : (parts : List Part) (price before : ℕ) (best found : Found) → IsLawful tariff trip parts price → TakesBetter parts price best found → IsWalk tariff trip (IsList parts) before best (min before price) found
+  pub walk_taken : (parts : List Part) (price before : ℕ) (best found : Found) → IsLawful tariff trip parts price → TakesBetter parts price best found → IsBestWalk tariff trip (IsList parts) before best (min before price) found
   walk_taken parts price before best found lawful better =
       let least : ℕ = min before price in
       let low : min before price ≤ before = omega arith in
@@ -173,23 +153,14 @@ module _ (tariff : Tariff) (trip : Itinerary) where
           | inl same ↦ subst (IsTold tariff trip (min before price)) (sym same) (told_falls before (min before price) best low t)
           | inr new ↦ subst (IsTold tariff trip (min before price)) (sym new) (lawful, omega arith)
         ];
-        kept = λ others cost p. elim p [ inl l ↦ inl (omega arith) | inr b ↦ inr (better.kept others cost b) ];
-        walked = λ others cost l d.
-            let P : List Part → Type 0 = λ xs. IsLawful tariff trip xs cost in
-            let same : cost ≡ price = ok_same cost price (sym (subst P d l) ∙ lawful) in
-            let Q : List Part → Type 0 = λ xs. IsBound xs cost found in
-            let R : ℕ → Type 0 = λ n. IsBound parts n found in
-            inr (subst Q (sym d) (subst R (sym same) better.bound));
-        from = elim better.chosen [ inl same ↦ inl same | inr new ↦ inr (subst (IsAmong (IsList parts)) (sym new) refl) ];
+        walk = record {
+          kept = λ others cost p. elim p [ inl l ↦ inl (omega arith) | inr b ↦ inr (better.kept others cost b) ];
+          walked = λ others cost l d.
+              let P : List Part → Type 0 = λ xs. IsLawful tariff trip xs cost in
+              let same : cost ≡ price = ok_same cost price (sym (subst P d l) ∙ lawful) in
+              let Q : List Part → Type 0 = λ xs. IsBound xs cost found in
+              let R : ℕ → Type 0 = λ n. IsBound parts n found in
+              inr (subst Q (sym d) (subst R (sym same) better.bound));
+          from = held_of parts price best found better;
+        };
       }
-
-  err_ok : (x : Broken) (y : ℕ) → Err x ≡ Ok y → ⊥
-  err_ok x y e = cc
-
-  -- a list that is not lawful is left out
-  pub walk_unlawful : (parts : List Part) (broken : Broken) (least : ℕ) (best : Found) → lawful_price tariff trip parts ≡ Err broken → IsWalk tariff trip (IsList parts) least best least best
-  walk_unlawful parts broken least best e =
-      walk_nothing (IsList parts) least best
-      (λ others price l d.
-      let P : List Part → Type 0 = λ xs. IsLawful tariff trip xs price in
-      err_ok broken price (sym e ∙ subst P d l))

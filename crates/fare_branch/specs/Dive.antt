@@ -9,7 +9,7 @@ use Rattle.fare_units.specs.Walk.{Completes}
 use Rattle.fare_branch.specs.declared.pieces.Piece.{Piece}
 use Rattle.fare_floors.specs.Floors.{IsMadeWith}
 use Rattle.fare_branch.specs.Search.{BeginsIn}
-use Rattle.fare_branch.specs.Walked.{IsWalk}
+use Rattle.fare_branch.specs.Walked.{IsBestWalk}
 
 -- first parts with their floor go on from some others, within the trip
 pub record GoesFrom (table : Pricing) (front : List Part) (step : List Part × ℕ) : Type 0 where
@@ -36,4 +36,4 @@ IsAnyOf (one ∷ more) parts = (parts ≡ one) ⊎ IsAnyOf more parts
 abbrev pub IsDived : Tariff → Itinerary → Piece → ℕ → Option (List Part × ℕ) → ℕ → Option (List Part × ℕ) → Type 0
 IsDived tariff trip piece before best after found =
     (lists : List (List Part)) × ((parts : List Part) → IsAnyOf lists parts → BeginsIn tariff trip piece parts)
-    × IsWalk tariff trip (IsAnyOf lists) before best after found
+    × IsBestWalk tariff trip (IsAnyOf lists) before best after found

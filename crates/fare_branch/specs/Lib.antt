@@ -5,6 +5,7 @@ pub use Rattle.fare_bounds.specs.Covers
 pub use Rattle.fare_homing.specs.Homing
 pub mod Beginnings
 pub mod Crowding
+pub mod Sought
 pub mod Walked
 pub mod Search
 pub mod Dive

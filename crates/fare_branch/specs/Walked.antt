@@ -1,4 +1,4 @@
--- What a pruned walk over constructions has seen, and what its best is worth.
+-- What a walk for the best construction has seen, and what its best is worth.
 use Rattle.std.specs.Prelude.{◌≡◌, ℕ, ◌<◌, ◌≤◌, ◌⊎◌, Bool, false, not, ◌&&◌, ◌||◌, ◌==◌, nat_le, List, length, Option}
 use Rattle.std.specs.Prelude.{Some, None}
 use Rattle.fare_trip.specs.Itinerary.{Itinerary}
@@ -7,6 +7,7 @@ use Rattle.fare_rules.specs.declared.part.Part.{Part}
 use Rattle.fare_rules.specs.Best.{IsLawful}
 use Rattle.fare_rules.specs.Order.{is_before}
 use Rattle.fare_units.specs.Walk.{IsBound}
+use Rattle.fare_branch.specs.Sought.{IsWalk}
 
 -- a construction with its price is passed: it costs more than the least price known, or is not before the best that was
 -- found
@@ -18,22 +19,18 @@ abbrev pub IsTold : Tariff → Itinerary → ℕ → Option (List Part × ℕ) �
 IsTold tariff trip least None = Unit {0}
 IsTold tariff trip least (Some best) = IsLawful tariff trip best.0 best.1 × (least ≤ best.1)
 
--- something was found, and it is one of some lists
-abbrev pub IsAmong : (List Part → Type 0) → Option (List Part × ℕ) → Type 0
-IsAmong D None = ⊥
-IsAmong D (Some best) = D best.0
+-- something was found, and is a list
+abbrev pub IsHeld : Option (List Part × ℕ) → List Part → Type 0
+IsHeld None parts = ⊥
+IsHeld (Some best) parts = parts ≡ best.0
 
--- from a least price and a best a walk over some lists came to others: the least price has not risen; what is found is
--- lawful and told where it was before; what was passed stays so; each lawful list of those walked is passed; and the
--- best is the one before, or one of those walked
-pub record IsWalk (tariff : Tariff) (trip : Itinerary) (D : List Part → Type 0) (before : ℕ)
+-- from a least price and a best a walk over some lists came to others: the least price has not risen, what is found is
+-- lawful and told where it was before, and the lists were walked
+pub record IsBestWalk (tariff : Tariff) (trip : Itinerary) (D : List Part → Type 0) (before : ℕ)
     (best : Option (List Part × ℕ)) (after : ℕ) (found : Option (List Part × ℕ)) : Type 0 where
   pub falls : after ≤ before
   pub told : IsTold tariff trip before best → IsTold tariff trip after found
-  pub kept : (parts : List Part) (price : ℕ) → IsPassed before best parts price → IsPassed after found parts price
-  pub walked : (parts : List Part) (price : ℕ) → IsLawful tariff trip parts price → D parts
-      → IsPassed after found parts price
-  pub from : (found ≡ best) ⊎ IsAmong D found
+  pub walk : IsWalk tariff trip D (IsPassed before best) (IsHeld best) (IsPassed after found) (IsHeld found)
 
 -- a number is no more than the price of any lawful construction
 abbrev pub IsUnderAll : Tariff → Itinerary → ℕ → Type 0

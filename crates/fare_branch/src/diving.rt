@@ -48,13 +48,13 @@ fn lesser_step(stage: &Stage, part: Part, guess: Option<u64>, from: u64, found: 
     let Some(longer) = stage.front.next(table, part) else {
         return found;
     };
-    if is_crowded(table, homing, &longer) {
-        return found;
-    }
     let Some(floor) = stack_after(table, homing, &longer, &stage.ahead.floors).floor else {
         return found;
     };
-    if floor < from || is_no_dearer(&found, floor) || is_barred(table, &longer) {
+    if floor < from || is_no_dearer(&found, floor) {
+        return found;
+    }
+    if is_crowded(table, homing, &longer) || is_barred(table, &longer) {
         return found;
     }
     Some((longer, floor))
@@ -177,13 +177,10 @@ fn lesser_start(
     let Some(first) = stage.front.next(table, part) else {
         return found;
     };
-    if is_crowded(table, homing, &first) {
-        return found;
-    }
     let Some(floor) = stack_of(table, homing, &first).floor else {
         return found;
     };
-    if floor < from || is_no_dearer(&found, floor) {
+    if floor < from || is_no_dearer(&found, floor) || is_crowded(table, homing, &first) {
         return found;
     }
     Some((first, floor))

@@ -1,5 +1,5 @@
 //! The pruned search: the best construction of a trip among those that begin in a piece of the first-part choices,
-//! found by a walk that leaves out what can't be before what is known.
+//! found by a walk that leaves out what can't be before what is known. The walk serves whatever a `Seeker` looks for.
 //!
 //! - `bound`: what a search asks for the least price known, and tells what it finds;
 //! - `own_bound`: a bound that knows no more than it was told;
@@ -8,8 +8,10 @@
 //! - `barred`: whether the rules on stays and on combined fares bar first parts;
 //! - `diving`: the steps of a dive;
 //! - `descent`: a dive for a price to begin with;
+//! - `seeker`: what a walk over constructions looks for;
+//! - `best_so_far`: the best that was found so far, as what a walk looks for;
+//! - `walking`: the walk over the constructions that begin with some parts, whatever it looks for;
 //! - `opening`: what a search begins with: dives for a price, and a ceiling below it;
-//! - `walking`: the walk over the constructions that begin with some parts;
 //! - `searching`: the search of a piece;
 //! - `quoter`: the quoter that searches all of them.
 //!
@@ -17,6 +19,7 @@
 #![tactic(auto)]
 
 mod barred;
+mod best_so_far;
 mod bound;
 mod crowding;
 mod descent;
@@ -26,6 +29,7 @@ mod own_bound;
 mod pieces;
 mod quoter;
 mod searching;
+mod seeker;
 mod walking;
 
 pub use barred::is_barred;
@@ -38,3 +42,5 @@ pub use own_bound::OwnBound;
 pub use pieces::{Piece, choices};
 pub use quoter::{BranchQuoter, best_of, best_under};
 pub use searching::search;
+pub use seeker::Seeker;
+pub use walking::walk;

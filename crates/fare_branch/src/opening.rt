@@ -8,10 +8,10 @@ ghost use Rattle.fare_branch.specs.Opening.{is_far};
 ghost use Rattle.fare_branch.specs.Walked.{IsUnderAll};
 ghost use Rattle.fare_homing.specs.Rows.{AreHomingsOf};
 
+use crate::best_so_far::{Found, keep};
 use crate::bound::{Bound, NO_PRICE};
 use crate::descent::dive;
 use crate::pieces::Piece;
-use crate::walking::{Found, keep};
 use fare_component::Table;
 use fare_homing::{Homing, homing_of, number_at, with_barred};
 

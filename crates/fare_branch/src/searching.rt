@@ -6,12 +6,14 @@ ghost use Rattle.fare_floors.specs.Ahead.{IsStage};
 ghost use Rattle.fare_branch.specs.Beginnings.{AreCounts};
 ghost use Rattle.fare_homing.specs.Rows.{AreHomingsOf};
 ghost use Rattle.fare_branch.specs.Search.{IsLeastPrice, BeginsIn, BeginsBy, IsSearched, kept_at};
-ghost use Rattle.fare_branch.specs.Walked.{IsWalk, IsUnderAll};
+ghost use Rattle.fare_branch.specs.Sought.{IsWalk};
 
+use crate::best_so_far::{BestSoFar, Found};
 use crate::bound::Bound;
 use crate::opening::{closer, dives, raised};
 use crate::pieces::{Counts, Piece, choice, choices, counts_of};
-use crate::walking::{Found, follow};
+use crate::seeker::Seeker;
+use crate::walking::follow;
 use fare_bounds::Rest;
 use fare_component::Table;
 use fare_floors::{Partial, Stage, ahead_of, floor_ahead, stack_of};
@@ -35,9 +37,10 @@ pub fn search<B: Bound>(
     let (homing, first) = dives(table, piece, bound);
     let known = bound.seen();
     let homing = closer(table, raised(table, homing, known), known);
-    let found = walk_piece(table, &homing, piece, first, bound);
+    let mut best = BestSoFar { found: first };
+    walk_piece(table, &homing, piece, &mut best, bound);
     let least = bound.seen();
-    kept_at(found, least)
+    kept_at(best.found, least)
 }
 
 /// What was found, where its price is no more than a number.
@@ -51,18 +54,20 @@ fn kept_at(found: Found, least: u64) -> Found
 }
 
 /// Walks over the constructions that begin in a piece.
-fn walk_piece<B: Bound>(
+fn walk_piece<K, S: Seeker<K>>(
     table: &Table,
     homing: &Homing,
     piece: Piece,
-    best: Found,
-    bound: &mut B,
-) -> Found
+    seeker: &mut S,
+    known: &mut K,
+)
     requires homing { AreHomingsOf table.now.edition table.now.trip homing.now }
-    requires under { IsUnderAll table.now.edition table.now.trip (B.fixed bound.old) }
-    ensures fixed { B.fixed bound.new ≡ B.fixed bound.old }
+    requires holds { S.holds table.now.edition table.now.trip seeker.old known.old }
+    ensures fixed { S.fixed seeker.new known.new ≡ S.fixed seeker.old known.old }
+    ensures holds { S.holds table.now.edition table.now.trip seeker.new known.new }
     ensures walk { IsWalk table.now.edition table.now.trip (BeginsIn table.now.edition table.now.trip piece)
-        (B.least bound.old) best (B.least bound.new) result }
+        (S.passed seeker.old known.old) (S.has seeker.old known.old) (S.passed seeker.new known.new)
+        (S.has seeker.new known.new) }
 {
     let none = Partial::new();
     let ahead = ahead_of(table, homing, &none, stack_of(table, homing, &none));
@@ -73,34 +78,33 @@ fn walk_piece<B: Bound>(
         ahead: &ahead,
     };
     let counts = counts_of(table);
-    let mut best = best;
     for number in piece.first..piece.past.min(choices(table)) {
-        best = walk_choice(&stage, &counts, number, best, bound);
+        walk_choice(&stage, &counts, number, seeker, known);
     }
-    best
 }
 
 /// Walks over the constructions that begin with a choice.
-fn walk_choice<B: Bound>(
+fn walk_choice<K, S: Seeker<K>>(
     stage: &Stage,
     counts: &Counts,
     number: u32,
-    best: Found,
-    bound: &mut B,
-) -> Found
+    seeker: &mut S,
+    known: &mut K,
+)
     requires stage { IsStage stage.now.table.now stage.now.homing.now stage.now.front.now stage.now.ahead.now }
     requires none { stage.now.front.now ≡ [] }
     requires counts { AreCounts stage.now.table.now.edition stage.now.table.now.trip counts.now }
-    requires under { IsUnderAll stage.now.table.now.edition stage.now.table.now.trip (B.fixed bound.old) }
-    ensures fixed { B.fixed bound.new ≡ B.fixed bound.old }
+    requires holds { S.holds stage.now.table.now.edition stage.now.table.now.trip seeker.old known.old }
+    ensures fixed { S.fixed seeker.new known.new ≡ S.fixed seeker.old known.old }
+    ensures holds { S.holds stage.now.table.now.edition stage.now.table.now.trip seeker.new known.new }
     ensures walk { IsWalk stage.now.table.now.edition stage.now.table.now.trip
-        (BeginsBy stage.now.table.now.edition stage.now.table.now.trip number) (B.least bound.old) best
-        (B.least bound.new) result }
+        (BeginsBy stage.now.table.now.edition stage.now.table.now.trip number) (S.passed seeker.old known.old)
+        (S.has seeker.old known.old) (S.passed seeker.new known.new) (S.has seeker.new known.new) }
 {
     let table = stage.table;
     let _sectors = table.trip().count();
     let Some((end, fare)) = choice(table, counts, number) else {
-        return best;
+        return;
     };
     let part = Part {
         end: end as u8,
@@ -108,5 +112,5 @@ fn walk_choice<B: Bound>(
         fare,
     };
     let floor = floor_ahead(table, stage.ahead, stage.front, part);
-    follow(stage, part, floor, best, bound)
+    follow(stage, part, floor, seeker, known)
 }

@@ -1,174 +1,113 @@
-//! The walk over the constructions that begin with some parts. What can't be before the best that was found, or costs
-//! more than the least price known, is left out.
+//! The walk over the constructions that begin with some parts, whatever it looks for. What can't be lawful, or isn't
+//! wanted, is left out.
 
-ghost use Rattle.std.specs.Prelude.{◌≡◌, ◌+◌, ◌<◌, ◌≤◌, ◌++◌, ◌∷◌, [], length, Contains};
+ghost use Rattle.std.specs.Prelude.{◌≡◌, ◌<◌, ◌≤◌, ◌++◌, ◌∷◌, [], Contains};
 ghost use Rattle.fare_trip.specs.Itinerary.{count};
-ghost use Rattle.fare_rules.specs.Best.{IsLawful};
-ghost use Rattle.fare_rules.specs.Construction.{greatest_unit, places};
 ghost use Rattle.fare_component.specs.Table.{IsInBounds, entries_of};
-ghost use Rattle.fare_units.specs.Walk.{Completes, GoesOn, AnyPart, EndsAt, HasFare, IsPart, IsList, TakesBetter};
-ghost use Rattle.fare_units.specs.Walk.{next_start};
-ghost use Rattle.fare_floors.specs.Floors.{IsFloorAnswer};
+ghost use Rattle.fare_units.specs.Walk.{Completes, GoesOn, AnyPart, EndsAt, HasFare, IsPart, IsList, next_start};
 ghost use Rattle.fare_floors.specs.Ahead.{IsStage};
-ghost use Rattle.fare_branch.specs.Walked.{IsWalk, IsUnderAll, is_beaten, is_no_sooner};
+ghost use Rattle.fare_floors.specs.Floors.{IsFloorAnswer};
+ghost use Rattle.fare_branch.specs.Sought.{IsWalk};
 
 use crate::barred::is_barred;
-use crate::bound::Bound;
 use crate::crowding::is_crowded;
+use crate::seeker::Seeker;
 use fare_component::{Entry, Table};
 use fare_floors::{Partial, Stage, ahead_of, floor_with, stack_after};
 use fare_rules::Part;
-use fare_units::{Construction, earlier, lawful_price_by};
+use fare_units::lawful_price_by;
 
-/// The best construction that was found, with its price.
-pub(crate) type Found = Option<(Construction, u64)>;
-
-/// The better one of a construction and the best that was found.
-#[tactic(auto, using(fare_units::proofs::WalkLemmas::better_of_none, fare_units::proofs::WalkLemmas::better_of_earlier, fare_units::proofs::WalkLemmas::better_of_later))]
-fn better(front: &Partial, price: u64, best: Found) -> Found
-    ensures { TakesBetter front.now price best result }
-{
-    match best {
-        None => Some((front.to_construction(), price)),
-        Some((parts, least)) => {
-            if earlier(front.construction(), price, &parts, least) {
-                return Some((front.to_construction(), price));
-            }
-            Some((parts, least))
-        }
-    }
-}
-
-/// Whether some parts are no sooner than a construction that costs no more than their floor: they are as long, and not
-/// before it at one price.
-fn is_no_sooner(parts: &Construction, price: u64, front: &Partial, floor: u64) -> bool
-    ensures { result ≡ is_no_sooner parts.now price front.now floor }
-{
-    price <= floor
-        && front.parts().len() == parts.parts().len()
-        && !earlier(front.construction(), price, parts, price)
-}
-
-/// Whether no completion of some parts that costs no less than a floor is before what was found: that is before each of
-/// them, or they are no sooner than it.
-fn is_beaten(best: &Found, front: &Partial, floor: u64) -> bool
-    ensures { result ≡ is_beaten best.now front.now floor }
-{
-    match best {
-        None => false,
-        Some((parts, price)) => {
-            earlier(parts, *price, front.construction(), floor)
-                || is_no_sooner(parts, *price, front, floor)
-        }
-    }
-}
-
-/// Tells the price of a lawful construction, and keeps it where it is before the best that was found.
-pub(crate) fn keep<B: Bound>(
-    table: &Table,
-    front: &Partial,
-    price: u64,
-    best: Found,
-    bound: &mut B,
-) -> Found
-    requires lawful { IsLawful table.now.edition table.now.trip front.now price }
-    requires under { IsUnderAll table.now.edition table.now.trip (B.fixed bound.old) }
-    ensures fixed { B.fixed bound.new ≡ B.fixed bound.old }
-    ensures walk { IsWalk table.now.edition table.now.trip (IsList front.now) (B.least bound.old) best
-        (B.least bound.new) result }
-{
-    let _trip = table.trip();
-    bound.found(price);
-    better(front, price, best)
-}
-
-/// Takes a construction, where it is lawful and before the best that was found, and tells its price.
-pub(crate) fn take<B: Bound>(table: &Table, front: &Partial, best: Found, bound: &mut B) -> Found
-    requires under { IsUnderAll table.now.edition table.now.trip (B.fixed bound.old) }
-    ensures fixed { B.fixed bound.new ≡ B.fixed bound.old }
-    ensures walk { IsWalk table.now.edition table.now.trip (IsList front.now) (B.least bound.old) best
-        (B.least bound.new) result }
+/// Gives a construction to a seeker, where it is lawful.
+fn offer<K, S: Seeker<K>>(table: &Table, front: &Partial, seeker: &mut S, known: &mut K)
+    requires holds { S.holds table.now.edition table.now.trip seeker.old known.old }
+    ensures fixed { S.fixed seeker.new known.new ≡ S.fixed seeker.old known.old }
+    ensures holds { S.holds table.now.edition table.now.trip seeker.new known.new }
+    ensures walk { IsWalk table.now.edition table.now.trip (IsList front.now) (S.passed seeker.old known.old)
+        (S.has seeker.old known.old) (S.passed seeker.new known.new) (S.has seeker.new known.new) }
 {
     match lawful_price_by(table, front.construction()) {
-        Err(_) => best,
-        Ok(price) => keep(table, front, price, best, bound),
+        Err(_) => {}
+        Ok(price) => seeker.take(known, table, front, price),
     }
 }
 
-/// Walks over all constructions that have these parts as their first ones.
+/// Walks over all constructions that have these parts as their first ones: each that is lawful is passed then.
 #[cycle(walk)]
-fn walk<B: Bound>(stage: &Stage, best: Found, bound: &mut B) -> Found
+pub fn walk<K, S: Seeker<K>>(stage: &Stage, seeker: &mut S, known: &mut K)
     requires stage { IsStage stage.now.table.now stage.now.homing.now stage.now.front.now stage.now.ahead.now }
-    requires under { IsUnderAll stage.now.table.now.edition stage.now.table.now.trip (B.fixed bound.old) }
-    ensures fixed { B.fixed bound.new ≡ B.fixed bound.old }
+    requires holds { S.holds stage.now.table.now.edition stage.now.table.now.trip seeker.old known.old }
+    ensures fixed { S.fixed seeker.new known.new ≡ S.fixed seeker.old known.old }
+    ensures holds { S.holds stage.now.table.now.edition stage.now.table.now.trip seeker.new known.new }
     ensures walk { IsWalk stage.now.table.now.edition stage.now.table.now.trip (Completes stage.now.front.now)
-        (B.least bound.old) best (B.least bound.new) result }
+        (S.passed seeker.old known.old) (S.has seeker.old known.old) (S.passed seeker.new known.new)
+        (S.has seeker.new known.new) }
 {
     if stage.front.end() == stage.table.trip().count() {
-        return take(stage.table, stage.front, best, bound);
+        return offer(stage.table, stage.front, seeker, known);
     }
-    walk_ends(stage, best, bound)
+    walk_ends(stage, seeker, known)
 }
 
 /// Walks over those that go on with any part, the greatest end first.
 #[cycle(walk)]
-fn walk_ends<B: Bound>(stage: &Stage, best: Found, bound: &mut B) -> Found
+fn walk_ends<K, S: Seeker<K>>(stage: &Stage, seeker: &mut S, known: &mut K)
     requires stage { IsStage stage.now.table.now stage.now.homing.now stage.now.front.now stage.now.ahead.now }
-    requires under { IsUnderAll stage.now.table.now.edition stage.now.table.now.trip (B.fixed bound.old) }
-    ensures fixed { B.fixed bound.new ≡ B.fixed bound.old }
+    requires holds { S.holds stage.now.table.now.edition stage.now.table.now.trip seeker.old known.old }
+    ensures fixed { S.fixed seeker.new known.new ≡ S.fixed seeker.old known.old }
+    ensures holds { S.holds stage.now.table.now.edition stage.now.table.now.trip seeker.new known.new }
     ensures walk { IsWalk stage.now.table.now.edition stage.now.table.now.trip (GoesOn stage.now.front.now AnyPart)
-        (B.least bound.old) best (B.least bound.new) result }
+        (S.passed seeker.old known.old) (S.has seeker.old known.old) (S.passed seeker.new known.new)
+        (S.has seeker.new known.new) }
 {
     let trip = stage.table.trip();
-    let mut best = best;
     for end in (stage.front.next_start(trip) + 1..trip.count() + 1).rev() {
-        best = walk_entries(stage, end, best, bound);
+        walk_entries(stage, end, seeker, known);
     }
-    best
 }
 
 /// Walks over those that go on with a part that ends at a point, by record number.
 #[cycle(walk)]
-fn walk_entries<B: Bound>(stage: &Stage, end: usize, best: Found, bound: &mut B) -> Found
+fn walk_entries<K, S: Seeker<K>>(stage: &Stage, end: usize, seeker: &mut S, known: &mut K)
     requires stage { IsStage stage.now.table.now stage.now.homing.now stage.now.front.now stage.now.ahead.now }
     requires rises { next_start stage.now.table.now.trip stage.now.front.now < end }
     requires within { end ≤ count stage.now.table.now.trip }
-    requires under { IsUnderAll stage.now.table.now.edition stage.now.table.now.trip (B.fixed bound.old) }
-    ensures fixed { B.fixed bound.new ≡ B.fixed bound.old }
+    requires holds { S.holds stage.now.table.now.edition stage.now.table.now.trip seeker.old known.old }
+    ensures fixed { S.fixed seeker.new known.new ≡ S.fixed seeker.old known.old }
+    ensures holds { S.holds stage.now.table.now.edition stage.now.table.now.trip seeker.new known.new }
     ensures walk { IsWalk stage.now.table.now.edition stage.now.table.now.trip (GoesOn stage.now.front.now (EndsAt end))
-        (B.least bound.old) best (B.least bound.new) result }
+        (S.passed seeker.old known.old) (S.has seeker.old known.old) (S.passed seeker.new known.new)
+        (S.has seeker.new known.new) }
 {
     let start = stage.front.next_start(stage.table.trip());
-    let mut best = best;
     for entry in stage.table.entries(start, end) {
-        best = walk_units(stage, end, entry, best, bound);
+        walk_units(stage, end, entry, seeker, known);
     }
-    best
 }
 
 /// Walks over those that go on with a part that ends at a point and has the fare of a record number.
 #[cycle(walk)]
-fn walk_units<B: Bound>(
+fn walk_units<K, S: Seeker<K>>(
     stage: &Stage,
     end: usize,
     entry: &Entry,
-    best: Found,
-    bound: &mut B,
-) -> Found
+    seeker: &mut S,
+    known: &mut K,
+)
     requires stage { IsStage stage.now.table.now stage.now.homing.now stage.now.front.now stage.now.ahead.now }
     requires rises { next_start stage.now.table.now.trip stage.now.front.now < end }
     requires within { end ≤ count stage.now.table.now.trip }
     requires there { Contains (entries_of stage.now.table.now.edition stage.now.table.now.trip
         (next_start stage.now.table.now.trip stage.now.front.now) end) entry.now }
     requires bounds { IsInBounds entry.now }
-    requires under { IsUnderAll stage.now.table.now.edition stage.now.table.now.trip (B.fixed bound.old) }
-    ensures fixed { B.fixed bound.new ≡ B.fixed bound.old }
+    requires holds { S.holds stage.now.table.now.edition stage.now.table.now.trip seeker.old known.old }
+    ensures fixed { S.fixed seeker.new known.new ≡ S.fixed seeker.old known.old }
+    ensures holds { S.holds stage.now.table.now.edition stage.now.table.now.trip seeker.new known.new }
     ensures walk { IsWalk stage.now.table.now.edition stage.now.table.now.trip
-        (GoesOn stage.now.front.now (HasFare end entry.now.fare)) (B.least bound.old) best (B.least bound.new) result }
+        (GoesOn stage.now.front.now (HasFare end entry.now.fare)) (S.passed seeker.old known.old)
+        (S.has seeker.old known.old) (S.passed seeker.new known.new) (S.has seeker.new known.new) }
 {
     let sectors = stage.table.trip().count();
     prove!(end <= sectors);
-    let mut best = best;
     for unit in 1..stage.front.greatest_unit() + 2 {
         let part = Part {
             end: end as u8,
@@ -176,69 +115,73 @@ fn walk_units<B: Bound>(
             fare: entry.fare,
         };
         let floor = floor_with(stage.ahead, entry, part);
-        best = follow(stage, part, floor, best, bound);
+        follow(stage, part, floor, seeker, known);
     }
-    best
 }
 
-/// Walks over those that go on with a part, where its floor is no more than the least price known.
+/// Walks over those that go on with a part, where by its floor they can be wanted.
 #[cycle(walk)]
-pub(crate) fn follow<B: Bound>(
+pub(crate) fn follow<K, S: Seeker<K>>(
     stage: &Stage,
     part: Part,
     floor: Option<u64>,
-    best: Found,
-    bound: &mut B,
-) -> Found
+    seeker: &mut S,
+    known: &mut K,
+)
     requires stage { IsStage stage.now.table.now stage.now.homing.now stage.now.front.now stage.now.ahead.now }
     requires rises { next_start stage.now.table.now.trip stage.now.front.now < part.end }
     requires within { part.end ≤ count stage.now.table.now.trip }
     requires floor { IsFloorAnswer stage.now.table.now.edition stage.now.table.now.trip
         (stage.now.front.now ++ part ∷ []) floor }
-    requires under { IsUnderAll stage.now.table.now.edition stage.now.table.now.trip (B.fixed bound.old) }
-    ensures fixed { B.fixed bound.new ≡ B.fixed bound.old }
+    requires holds { S.holds stage.now.table.now.edition stage.now.table.now.trip seeker.old known.old }
+    ensures fixed { S.fixed seeker.new known.new ≡ S.fixed seeker.old known.old }
+    ensures holds { S.holds stage.now.table.now.edition stage.now.table.now.trip seeker.new known.new }
     ensures walk { IsWalk stage.now.table.now.edition stage.now.table.now.trip
-        (GoesOn stage.now.front.now (IsPart part)) (B.least bound.old) best (B.least bound.new) result }
+        (GoesOn stage.now.front.now (IsPart part)) (S.passed seeker.old known.old) (S.has seeker.old known.old)
+        (S.passed seeker.new known.new) (S.has seeker.new known.new) }
 {
     let Some(least) = floor else {
-        return best;
+        return;
     };
-    if bound.seen() < least {
-        return best;
+    if seeker.is_dear(known, least) {
+        return;
     }
-    enter(stage, part, best, bound)
+    enter(stage, part, seeker, known)
 }
 
-/// Walks over those that go on with a part, where that can still bring what is wanted.
+/// Walks over those that go on with a part, unless none is wanted, or none is lawful.
 #[cycle(walk)]
-fn enter<B: Bound>(stage: &Stage, part: Part, best: Found, bound: &mut B) -> Found
+fn enter<K, S: Seeker<K>>(stage: &Stage, part: Part, seeker: &mut S, known: &mut K)
     requires stage { IsStage stage.now.table.now stage.now.homing.now stage.now.front.now stage.now.ahead.now }
     requires rises { next_start stage.now.table.now.trip stage.now.front.now < part.end }
     requires within { part.end ≤ count stage.now.table.now.trip }
-    requires under { IsUnderAll stage.now.table.now.edition stage.now.table.now.trip (B.fixed bound.old) }
-    ensures fixed { B.fixed bound.new ≡ B.fixed bound.old }
+    requires holds { S.holds stage.now.table.now.edition stage.now.table.now.trip seeker.old known.old }
+    ensures fixed { S.fixed seeker.new known.new ≡ S.fixed seeker.old known.old }
+    ensures holds { S.holds stage.now.table.now.edition stage.now.table.now.trip seeker.new known.new }
     ensures walk { IsWalk stage.now.table.now.edition stage.now.table.now.trip
-        (GoesOn stage.now.front.now (IsPart part)) (B.least bound.old) best (B.least bound.new) result }
+        (GoesOn stage.now.front.now (IsPart part)) (S.passed seeker.old known.old) (S.has seeker.old known.old)
+        (S.passed seeker.new known.new) (S.has seeker.new known.new) }
 {
     let (table, homing) = (stage.table, stage.homing);
     let Some(longer) = stage.front.next(table, part) else {
-        return best;
+        return;
     };
-    if is_crowded(table, homing, &longer) {
-        return best;
-    }
     let stack = stack_after(table, homing, &longer, &stage.ahead.floors);
     let Some(floor) = stack.floor else {
-        return best;
+        return;
     };
-    if is_beaten(&best, &longer, floor) {
-        return best;
+    if seeker.is_dear(known, floor) {
+        return;
     }
-    if bound.seen() < floor {
-        return best;
+    if seeker.is_behind(known, &longer, floor) {
+        return;
+    }
+    // To find out that nothing is lawful costs more than that nothing is wanted.
+    if is_crowded(table, homing, &longer) {
+        return;
     }
     if is_barred(table, &longer) {
-        return best;
+        return;
     }
     let ahead = ahead_of(table, homing, &longer, stack);
     let further = Stage {
@@ -247,5 +190,5 @@ fn enter<B: Bound>(stage: &Stage, part: Part, best: Found, bound: &mut B) -> Fou
         front: &longer,
         ahead: &ahead,
     };
-    walk(&further, best, bound)
+    walk(&further, seeker, known)
 }

@@ -6,6 +6,7 @@ use Rattle.fare_codes.specs.declared.nuc.Nuc.{Nuc}
 use Rattle.fare_trip.specs.Itinerary.{Itinerary, count, point, sector}
 use Rattle.fare_tariff.specs.Record.{CurrencyRecord}
 use Rattle.fare_tariff.specs.Tariff.{Tariff}
+use Rattle.fare_rules.specs.declared.limits.TheConstants.{MOST_AMOUNT}
 use Rattle.fare_rules.specs.declared.miles.Mileage.{Mileage}
 use Rattle.fare_rules.specs.declared.miles.Mileage.TheVariants.{Direct, Within, Excess, NoTpm, NoMpm, Over}
 use Rattle.fare_rules.specs.declared.part.Part.{Part}
@@ -96,4 +97,4 @@ pub record FitsLine (sheet : PartSheet) : Type 0 where
   pub letter : is_letter (letter_of sheet.mileage) ≡ true
   pub pair : letter_of sheet.mileage ≡ Bare → sheet.higher ≡ None
   pub unit : is_unit sheet.unit ≡ true
-  pub amount : sheet.amount ≤ 1_250_000_000
+  pub amount : sheet.amount ≤ MOST_AMOUNT

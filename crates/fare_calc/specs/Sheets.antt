@@ -3,6 +3,7 @@ use Rattle.std.specs.Prelude.{◌≡◌, ℕ, ◌<◌, List, Some, None, All}
 use Rattle.fare_trip.specs.Itinerary.{Itinerary}
 use Rattle.fare_tariff.specs.Record.{CurrencyRecord, IsCurrency}
 use Rattle.fare_tariff.specs.Tariff.{Tariff}
+use Rattle.fare_rules.specs.declared.limits.TheConstants.{PRICE_LIMIT}
 use Rattle.fare_rules.specs.declared.part.Part.{Part}
 use Rattle.fare_rules.specs.Lawful.{first_broken}
 use Rattle.fare_rules.specs.UnitPrice.{price as unit_prices}
@@ -24,7 +25,7 @@ pub record AreSheets (of : LawfulParts) (sheets : List PartSheet) (units : List 
     (currency : CurrencyRecord) : Type 0 where
   pub lawful : first_broken of.edition of.trip of.parts ≡ None
   pub total : of.price ≡ unit_prices of.edition of.trip of.parts
-  pub bound : of.price < 40_000_000_000
+  pub bound : of.price < PRICE_LIMIT
   pub sheets_are : sheets ≡ part_sheets of.edition of.trip of.parts
   pub sheets_fit : All FitsLine sheets
   pub units_are : units ≡ unit_sheets of.edition of.trip of.parts

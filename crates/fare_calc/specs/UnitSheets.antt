@@ -5,6 +5,7 @@ use Rattle.fare_tariff.specs.Tariff.{Tariff}
 use Rattle.fare_rules.specs.declared.part.Part.{Part}
 use Rattle.fare_rules.specs.Construction.{units, own}
 use Rattle.fare_rules.specs.UnitPrice.{unit_sheet}
+use Rattle.fare_units.specs.declared.prices.price.TheConstants.{MOST_UNIT_PRICE}
 use Rattle.fare_line.specs.Line.{is_unit}
 use Rattle.fare_calc.specs.declared.numbered_unit.NumberedUnit.{NumberedUnit}
 
@@ -21,6 +22,6 @@ unit_sheets tariff trip parts = map (numbered_unit tariff trip parts) (units par
 -- neither its sum nor its minimum is above its price
 pub record FitsUnit (unit : NumberedUnit) : Type 0 where
   pub number : is_unit unit.number ≡ true
-  pub price : unit.sheet.price ≤ 20_000_000_000
+  pub price : unit.sheet.price ≤ MOST_UNIT_PRICE
   pub sum : unit.sheet.sum ≤ unit.sheet.price
   pub minimum : IfSome unit.sheet.minimum (λ minimum. minimum ≤ unit.sheet.price)

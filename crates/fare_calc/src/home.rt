@@ -8,6 +8,7 @@ ghost use Rattle.fare_calc.specs.PartSheets.{home_currency};
 ghost use Rattle.fare_calc.specs.Worksheet.{local_amount};
 
 use fare_codes::convert;
+use fare_rules::PRICE_LIMIT;
 use fare_tariff::{CurRec, Edition};
 use fare_trip::Trip;
 use fare_units::Construction;
@@ -25,7 +26,7 @@ pub(crate) fn home_currency<'a>(edition: &'a Edition, trip: &Trip) -> Option<&'a
 
 /// A price in hundredths of a NUC, converted to a currency and counted in the last of its decimals.
 pub(crate) fn local_amount(price: u64, currency: &CurRec) -> u128
-    requires price { price < 40_000_000_000 }
+    requires price { price < PRICE_LIMIT }
     requires currency { IsCurrency currency.now.roe currency.now.decimals currency.now.unit }
     ensures { result ≡ local_amount price currency.now }
 {

@@ -7,12 +7,12 @@ ghost use Rattle.fare_calc.specs.UnitSheets.{FitsUnit, numbered_unit};
 
 use fare_tariff::Edition;
 use fare_trip::Trip;
-use fare_units::{Construction, UnitKind, UnitSheet, unit_sheet};
+use fare_units::{Construction, MOST_PARTS, UnitKind, UnitSheet, unit_sheet};
 
 /// A pricing unit: its number and how it is priced.
 #[derive(Clone, Copy, Debug)]
 pub struct NumberedUnit {
-    /// Its number, 1 to 16.
+    /// Its number, 1 to `MOST_PARTS`.
     pub number: u8,
     /// How it is priced, in hundredths of a NUC.
     pub sheet: UnitSheet,
@@ -33,7 +33,7 @@ impl Default for NumberedUnit {
     }
 }
 
-/// A unit of a lawful construction, which has at most 16.
+/// A unit of a lawful construction, which has at most `MOST_PARTS`.
 pub(crate) fn numbered_unit(
     edition: &Edition,
     trip: &Trip,
@@ -43,7 +43,7 @@ pub(crate) fn numbered_unit(
     requires lawful { first_broken edition.now trip.now c.now ≡ None }
     requires from_one { 1 ≤ number }
     requires to_greatest { number ≤ greatest_unit c.now (places c.now) }
-    requires few { number ≤ 16 }
+    requires few { number ≤ MOST_PARTS }
     ensures value { result ≡ numbered_unit edition.now trip.now c.now number }
     ensures fits { FitsUnit result }
 {

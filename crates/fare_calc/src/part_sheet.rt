@@ -15,10 +15,10 @@ use fare_codes::{Cabin, Carrier, City, Indicator, Kind, Nuc, Season};
 use fare_component::applicable;
 use fare_mileage::{Mileage, mileage};
 use fare_points::{higher, indicator};
-use fare_rules::Part;
+use fare_rules::{MOST_AMOUNT, Part};
 use fare_tariff::{Edition, FareRec};
 use fare_trip::Trip;
-use fare_units::{is_back, part_at, start_of};
+use fare_units::{MOST_PARTS, is_back, part_at, start_of};
 
 /// How a part of a construction is priced.
 #[derive(Clone, Copy, Debug)]
@@ -155,7 +155,7 @@ fn amount_of(edition: &Edition, trip: &Trip, a: usize, b: usize, number: u32, ba
     requires rises { a < b }
     requires ends { b ≤ count trip.now }
     ensures value { result ≡ hundredths_of (component_amount edition.now trip.now a b number back) }
-    ensures bound { result ≤ 1_250_000_000 }
+    ensures bound { result ≤ MOST_AMOUNT }
 {
     match applicable(edition, trip, a, b, number, back) {
         None => Nuc::new(0),
@@ -166,11 +166,11 @@ fn amount_of(edition: &Edition, trip: &Trip, a: usize, b: usize, number: u32, ba
 /// The sheet of a part with its fare.
 #[tactic(auto, unfolding(crate::specs::PartSheets::sheet_with, fare_rules::specs::UnitPrice::part_amount))]
 fn sheet_with(edition: &Edition, trip: &Trip, parts: &[Part], k: usize, fare: &FareRec) -> PartSheet
-    requires few { length parts.now ≤ 16 }
+    requires few { length parts.now ≤ MOST_PARTS }
     requires advances { Advances trip.now parts.now }
     requires place { IsPlace parts.now k }
     ensures value { result ≡ sheet_with edition.now trip.now parts.now k fare.now }
-    ensures bound { result.amount ≤ 1_250_000_000 }
+    ensures bound { result.amount ≤ MOST_AMOUNT }
 {
     let part = part_at(parts, k);
     let a = start_of(trip, parts, k);
@@ -200,11 +200,11 @@ pub(crate) fn sheet_of_part(
     parts: &[Part],
     k: usize,
 ) -> Option<PartSheet>
-    requires few { length parts.now ≤ 16 }
+    requires few { length parts.now ≤ MOST_PARTS }
     requires advances { Advances trip.now parts.now }
     requires place { IsPlace parts.now k }
     ensures value { result ≡ sheet_of_part edition.now trip.now parts.now k }
-    ensures bound { IfSome result (λ sheet. sheet.amount ≤ 1_250_000_000) }
+    ensures bound { IfSome result (λ sheet. sheet.amount ≤ MOST_AMOUNT) }
 {
     match edition.fare_at(part_at(parts, k).fare) {
         None => None,

@@ -15,9 +15,10 @@ use crate::part_sheet::{PartSheet, sheet_of_part};
 use crate::priced::Priced;
 use arrayvec::ArrayVec;
 use fare_codes::Nuc;
+use fare_rules::PRICE_LIMIT;
 use fare_tariff::{CurRec, Edition};
 use fare_trip::Trip;
-use fare_units::{Construction, price_is_of_unbroken, unit_count};
+use fare_units::{Construction, MOST_PARTS, price_is_of_unbroken, unit_count};
 use std::marker::Model;
 
 /// The sheets of a lawful construction: its parts and its units with their figures, its price, and the currency of the
@@ -26,8 +27,8 @@ use std::marker::Model;
 #[derive(Drop)]
 pub struct Sheets<'a> {
     priced: Priced<'a>,
-    parts: ArrayVec<PartSheet, 16>,
-    units: ArrayVec<NumberedUnit, 16>,
+    parts: ArrayVec<PartSheet, MOST_PARTS>,
+    units: ArrayVec<NumberedUnit, MOST_PARTS>,
     currency: &'a CurRec,
 }
 
@@ -101,7 +102,7 @@ impl<'a> Sheets<'a> {
     pub fn price(&self) -> u64
         ensures value { result ≡ self.now.price }
         ensures total { result ≡ price self.now.edition self.now.trip self.now.parts }
-        ensures bound { result < 40_000_000_000 }
+        ensures bound { result < PRICE_LIMIT }
         ensures lawful { first_broken self.now.edition self.now.trip self.now.parts ≡ None }
     {
         self.priced.price
@@ -111,7 +112,7 @@ impl<'a> Sheets<'a> {
     pub fn parts(&self) -> &[PartSheet]
         ensures value { result.now ≡ part_sheets self.now.edition self.now.trip self.now.parts }
         ensures fit { All FitsLine result.now }
-        ensures few { length result.now ≤ 16 }
+        ensures few { length result.now ≤ MOST_PARTS }
     {
         self.parts.as_slice()
     }
@@ -120,7 +121,7 @@ impl<'a> Sheets<'a> {
     pub fn units(&self) -> &[NumberedUnit]
         ensures value { result.now ≡ unit_sheets self.now.edition self.now.trip self.now.parts }
         ensures fit { All FitsUnit result.now }
-        ensures few { length result.now ≤ 16 }
+        ensures few { length result.now ≤ MOST_PARTS }
     {
         self.units.as_slice()
     }
@@ -155,7 +156,7 @@ fn fitting_sheet(edition: &Edition, trip: &Trip, c: &Construction, k: usize) -> 
 }
 
 /// The sheets of the parts of a lawful construction.
-fn part_sheets(edition: &Edition, trip: &Trip, c: &Construction) -> ArrayVec<PartSheet, 16>
+fn part_sheets(edition: &Edition, trip: &Trip, c: &Construction) -> ArrayVec<PartSheet, MOST_PARTS>
     requires lawful { first_broken edition.now trip.now c.now ≡ None }
     requires advances { Advances trip.now c.now }
     ensures sheets { result.items ≡ part_sheets edition.now trip.now c.now }
@@ -173,7 +174,11 @@ fn part_sheets(edition: &Edition, trip: &Trip, c: &Construction) -> ArrayVec<Par
 
 /// The units of a lawful construction.
 #[tactic(auto, using(crate::proofs::LineParts::lawful_few_units))]
-fn unit_sheets(edition: &Edition, trip: &Trip, c: &Construction) -> ArrayVec<NumberedUnit, 16>
+fn unit_sheets(
+    edition: &Edition,
+    trip: &Trip,
+    c: &Construction,
+) -> ArrayVec<NumberedUnit, MOST_PARTS>
     requires { first_broken edition.now trip.now c.now ≡ None }
     ensures units { result.items ≡ unit_sheets edition.now trip.now c.now }
     ensures fit { All FitsUnit result.items }

@@ -4,6 +4,7 @@ ghost use Rattle.std.specs.Prelude.{ℕ, IfSome, ◌≡◌, ◌*◌, ◌/◌, �
 ghost use Rattle.fare_codes.specs.Amounts.{greater, surcharged, tenths, rounded, converted, IsLeastMultiple};
 
 use crate::decimals::RATE_LIMIT;
+use crate::limits::{MOST_DECIMALS, MOST_SURCHARGE, MOST_UNIT};
 use crate::mode::Mode;
 use crate::nuc::{FARE_LIMIT, Nuc};
 
@@ -24,9 +25,9 @@ pub fn greater(a: Option<Nuc>, b: Option<Nuc>) -> Option<Nuc>
 #[tactic(auto, unfolding(crate::specs::Amounts::surcharged))]
 pub fn surcharged(base: Nuc, s: u32) -> Nuc
     requires base { base < FARE_LIMIT }
-    requires surcharge { s ≤ 25 }
+    requires surcharge { s ≤ MOST_SURCHARGE }
     ensures value { result ≡ surcharged base s }
-    ensures bound { result ≤ base * 125 / 100 }
+    ensures bound { result ≤ base * (100 + MOST_SURCHARGE) / 100 }
 {
     Nuc::new(base.hundredths() * (100 + s as u64) / 100)
 }
@@ -37,9 +38,9 @@ pub fn surcharged(base: Nuc, s: u32) -> Nuc
 pub fn convert(nuc: u64, roe: u64, decimals: u8, unit: u32, mode: Mode) -> u128
     requires nuc { nuc ≤ 4 * 10 ^ 10 }
     requires roe { roe < RATE_LIMIT }
-    requires decimals { decimals ≤ 2 }
+    requires decimals { decimals ≤ MOST_DECIMALS }
     requires some { 1 ≤ unit }
-    requires unit { unit ≤ 10000 }
+    requires unit { unit ≤ MOST_UNIT }
     ensures value { result ≡ converted nuc roe decimals unit mode }
     ensures up { mode ≡ Mode.Up → IsLeastMultiple (10 * unit) (tenths nuc roe decimals) (10 * result) }
 {
@@ -51,7 +52,7 @@ pub fn convert(nuc: u64, roe: u64, decimals: u8, unit: u32, mode: Mode) -> u128
 fn tenths(nuc: u64, roe: u64, decimals: u8) -> u128
     requires nuc { nuc ≤ 4 * 10 ^ 10 }
     requires roe { roe < RATE_LIMIT }
-    requires decimals { decimals ≤ 2 }
+    requires decimals { decimals ≤ MOST_DECIMALS }
     ensures value { result ≡ tenths nuc roe decimals }
     ensures bound { result < 10 ^ 24 }
 {
@@ -62,7 +63,7 @@ fn tenths(nuc: u64, roe: u64, decimals: u8) -> u128
 fn rounded(mode: Mode, x: u128, unit: u32) -> u128
     requires x { x < 10 ^ 24 }
     requires some { 1 ≤ unit }
-    requires unit { unit ≤ 10000 }
+    requires unit { unit ≤ MOST_UNIT }
     ensures { result ≡ rounded mode x unit }
 {
     let multiple = 10 * unit as u128;

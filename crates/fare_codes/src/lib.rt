@@ -6,6 +6,7 @@
 //! - Days: `Day`, `MonthDay` and `Season`.
 //! - Numbers: `Nuc`, and the plain numbers and rates that records write.
 //! - Amounts: `surcharged` and `convert`.
+//! - Limits: how great the numbers may be that several crates speak of.
 //!
 //! Each `read` answers the one value whose text the bytes are, or nothing; each `text` writes it. No call takes memory.
 #![tactic(auto)]
@@ -22,6 +23,7 @@ mod day;
 mod decimals;
 mod indicator;
 mod kind;
+mod limits;
 mod mode;
 mod month_day;
 mod nuc;
@@ -42,6 +44,10 @@ pub use day::Day;
 pub use decimals::{RATE_LIMIT, rate_text, read_rate};
 pub use indicator::Indicator;
 pub use kind::Kind;
+pub use limits::{
+    LAST_EDITION, LAST_SEED, MOST_BEST, MOST_DECIMALS, MOST_EXTRA, MOST_SECTORS, MOST_SURCHARGE,
+    MOST_UNIT, MOST_WORKERS,
+};
 pub use mode::Mode;
 pub use month_day::MonthDay;
 pub use nuc::{FARE_LIMIT, NUC_LIMIT, Nuc};

@@ -12,7 +12,7 @@ use Rattle.fare_json.specs.JsonText.{json_line}
 use Rattle.fare_commands.specs.declared.exit.Exit.{Exit}
 use Rattle.fare_commands.specs.declared.exit.Exit.TheVariants as ended
 use Rattle.fare_commands.specs.Answer.{Answer, ExitAndText}
-use Rattle.fare_commands.specs.Limits.{check_limit}
+use Rattle.fare_outside.specs.declared.limits.TheConstants.{MOST_TEXT}
 
 -- the end of `check`: `BadTariff` of the first fault, where there is one
 abbrev pub checked_end : Option TextFault → Exit
@@ -26,7 +26,7 @@ checked text = record { exit = checked_end (fault_in (edition_of text)); text = 
 -- the answer to the source of `check`: `Limit` where it holds more bytes than that
 abbrev pub AnswersCheck : List ℕ → Answer → Type 0
 AnswersCheck source answer =
-    MatchBool (nat_lt check_limit (length source)) (answer ≡ Err ended.Limit) (answer ≡ Ok (checked source))
+    MatchBool (nat_lt MOST_TEXT (length source)) (answer ≡ Err ended.Limit) (answer ≡ Ok (checked source))
 
 -- a tariff text is refused for its first fault, which is told in JSON where that is wanted
 abbrev pub tariff_refusal : Bool → List ℕ → TextFault → Answer

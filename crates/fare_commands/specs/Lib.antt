@@ -2,7 +2,6 @@ pub mod Exit
 pub mod FaultText
 pub mod Answer
 pub mod Opened
-pub mod Limits
 pub mod Input
 pub mod StoreOutcome
 pub mod CheckOutcome

@@ -8,7 +8,7 @@ use Rattle.fare_changes.specs.DiffText.{diff_text}
 use Rattle.fare_changes.specs.Items.{items_of}
 use Rattle.fare_commands.specs.declared.exit.Exit.TheVariants as ended
 use Rattle.fare_commands.specs.Answer.{Answer, done}
-use Rattle.fare_commands.specs.Limits.{compare_limit}
+use Rattle.fare_outside.specs.declared.limits.TheConstants.{MOST_TEXT}
 use Rattle.fare_commands.specs.StoreOutcome.{AnswersOver, Bodies}
 
 -- the answer to two numbers over editions: `NoSuch` of the first that names none, and else that to the two editions
@@ -38,7 +38,7 @@ AnswersBatchOver from to text bodies answer =
 -- the answer to the source of `compare`: `Limit` where it holds more bytes than that
 abbrev pub AnswersCompare : ℕ → ℕ → List ℕ → Bodies → Answer → Type 0
 AnswersCompare from to source bodies answer =
-    MatchBool (nat_lt compare_limit (length source)) (answer ≡ Err ended.Limit)
+    MatchBool (nat_lt MOST_TEXT (length source)) (answer ≡ Err ended.Limit)
     (AnswersBatchOver from to source bodies answer)
 
 -- a text is a JSON array

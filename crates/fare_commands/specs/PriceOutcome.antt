@@ -10,7 +10,7 @@ use Rattle.fare_commands.specs.declared.exit.Exit.TheVariants as ended
 use Rattle.fare_commands.specs.Answer.{Answer}
 use Rattle.fare_commands.specs.CheckOutcome.{tariff_refusal}
 use Rattle.fare_commands.specs.Input.{itinerary_text, tariff_text, itinerary_of}
-use Rattle.fare_commands.specs.Limits.{price_limit}
+use Rattle.fare_commands.specs.declared.limits.TheConstants.{MOST_PRICED}
 use Rattle.fare_commands.specs.StoreOutcome.{AnswersTrip}
 
 -- the answer to an itinerary over the book of one edition: `BadTrip` of its first fault, if it has one
@@ -29,4 +29,4 @@ AnswersSource asked json source answer =
 -- the answer to the source of `price`: `Limit` where it holds more bytes than that
 abbrev pub AnswersPrice : Asked → Bool → List ℕ → Answer → Type 0
 AnswersPrice asked json source answer =
-    MatchBool (nat_lt price_limit (length source)) (answer ≡ Err ended.Limit) (AnswersSource asked json source answer)
+    MatchBool (nat_lt MOST_PRICED (length source)) (answer ≡ Err ended.Limit) (AnswersSource asked json source answer)

@@ -2,6 +2,7 @@
 -- in which the refusals come: the length of the source, what it holds, the bodies of the store, and their editions.
 use Rattle.std.specs.Prelude.{◌≡◌, ℕ, Bool, true, false, List, Option, Some, Ok, Err, IfSome, MatchResult, MatchOption}
 use Rattle.std.specs.Prelude.{MatchBool, nat_lt, length, map, count_by, ⊤}
+use Rattle.fare_outside.specs.declared.limits.TheConstants.{MOST_TEXT}
 use Rattle.fare_words.specs.declared.asked.Asked.{Asked}
 use Rattle.fare_words.specs.declared.asked.Asked.TheVariants as ask
 use Rattle.fare_trip.specs.Itinerary.{Itinerary}
@@ -24,7 +25,7 @@ use Rattle.fare_json.specs.ListData.{list_data}
 use Rattle.fare_json.specs.Quotation.{QuotesJson}
 use Rattle.fare_commands.specs.declared.exit.Exit.TheVariants as ended
 use Rattle.fare_commands.specs.Answer.{Answer, answer_of, done, migrated_text, publication_answer}
-use Rattle.fare_commands.specs.Limits.{publish_limit, quote_limit}
+use Rattle.fare_commands.specs.declared.limits.TheConstants.{MOST_ITINERARY}
 
 -- the bodies of a store
 abbrev pub Bodies : Type 0
@@ -71,7 +72,7 @@ AnswersItineraryOver asked json text bodies answer =
 -- the answer to `quote`: `Limit` where the source is too long, and else that to its itinerary
 abbrev pub AnswersQuote : Asked → Bool → List ℕ → Bodies → Answer → Type 0
 AnswersQuote asked json source bodies answer =
-    MatchBool (nat_lt quote_limit (length source)) (answer ≡ Err ended.Limit)
+    MatchBool (nat_lt MOST_ITINERARY (length source)) (answer ≡ Err ended.Limit)
     (AnswersItineraryOver asked json source bodies answer)
 
 -- the answer to an edition over the editions that the bodies stand for, and what is left of the bodies: as that edition
@@ -90,7 +91,7 @@ AnswersTariffOver text bodies left answer =
 -- the answer to `publish`: `Limit` where the source is too long, and else that to its tariff
 abbrev pub AnswersPublish : List ℕ → Bodies → Bodies → Answer → Type 0
 AnswersPublish source bodies left answer =
-    MatchBool (nat_lt publish_limit (length source)) (answer ≡ Err ended.Limit)
+    MatchBool (nat_lt MOST_TEXT (length source)) (answer ≡ Err ended.Limit)
     (AnswersTariffOver source bodies left answer)
 
 -- all bodies are in the canonical spelling of their editions, and the answer is how many weren't

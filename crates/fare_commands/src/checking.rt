@@ -3,17 +3,15 @@
 ghost use Rattle.std.specs.Prelude.{◌≡◌, IfErr, IfOk, IfSome, ⊤};
 ghost use Rattle.fare_commands.specs.CheckOutcome.{AnswersCheck, OwnExit, checked, checked_end};
 ghost use Rattle.fare_commands.specs.Ends.{IsRefusalOfCheck};
-ghost use Rattle.fare_commands.specs.Limits.{check_limit};
 ghost use Rattle.fare_commands.specs.Steps.{Answers, IsReading};
 
 use crate::context::Context;
 use crate::exit::Exit;
-use crate::limits::CHECK_LIMIT;
 use crate::outcome::Outcome;
 use crate::source::source_up_to;
 use fare_check::check_text;
 use fare_csv::TextFault;
-use fare_outside::{NoMemory, Source};
+use fare_outside::{MOST_TEXT, NoMemory, Source};
 use std::thread::Threads;
 
 /// Tells every fault of the source's tariff.
@@ -24,10 +22,10 @@ pub fn check<R: Threads + Sync, S: Source>(
     ensures answer { IfSome (S.left src.old) (λ source. Answers (AnswersCheck source) result) }
     ensures own { IfOk result (λ ending. OwnExit ⊤ ending.exit) }
     ensures ends { IfErr result IsRefusalOfCheck }
-    ensures reading { IsReading check_limit result
+    ensures reading { IsReading MOST_TEXT result
         (S.left src.old) (S.left src.new) (S.faults src.old) (S.faults src.new) }
 {
-    let source = source_up_to(context.alloc, src, CHECK_LIMIT as usize)?;
+    let source = source_up_to(context.alloc, src, MOST_TEXT as usize)?;
     Ok(checked(context, source.as_slice())?)
 }
 

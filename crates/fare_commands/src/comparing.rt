@@ -7,7 +7,6 @@ ghost use Rattle.fare_changes.specs.Items.{items_of, items_seen};
 ghost use Rattle.fare_commands.specs.Answer.{IsDoneOr};
 ghost use Rattle.fare_commands.specs.declared.exit.Exit.TheVariants.{BadTrip};
 ghost use Rattle.fare_commands.specs.Ends.{IsRefusalOfCompare};
-ghost use Rattle.fare_commands.specs.Limits.{compare_limit};
 ghost use Rattle.fare_commands.specs.Opened.{Names};
 ghost use Rattle.fare_commands.specs.PairOutcome.{AnswersBatchOver, AnswersCompare, AnswersPair, Compares, IsBatch};
 ghost use Rattle.fare_commands.specs.Readable.{HoldsBatch};
@@ -16,14 +15,13 @@ ghost use Rattle.fare_commands.specs.StoreSteps.{AnswersReading};
 
 use crate::context::Context;
 use crate::exit::Exit;
-use crate::limits::COMPARE_LIMIT;
 use crate::outcome::Outcome;
 use crate::source::source_up_to;
 use crate::store::book_of;
 use fare_book::Book;
 use fare_branch::BranchQuoter;
 use fare_changes::{Comparer, Watch, compare_text, items_of};
-use fare_outside::{Keeper, Source};
+use fare_outside::{Keeper, MOST_TEXT, Source};
 use fare_trip::TripFault;
 use serde_json::Value;
 use std::alloc::Global;
@@ -51,14 +49,14 @@ pub fn compare<R: Threads + Sync, S: Source, P: Keeper, W: Watch>(
     ensures answer { IfSome (S.left src.old) (λ source. AnswersReading (P.bodies store.old) (P.bodies store.new)
         (AnswersCompare asked.entry.from asked.entry.to source) result) }
     ensures ends { IsDoneOr IsRefusalOfCompare result }
-    ensures reading { IsReading compare_limit result
+    ensures reading { IsReading MOST_TEXT result
         (S.left src.old) (S.left src.new) (S.faults src.old) (S.faults src.new) }
     ensures bodies { WhereTold (P.bodies store.old) (P.bodies store.new) BodiesStay }
     ensures name { Names asked.entry.name.now (P.opened_as store.old) (P.opened_as store.new) result }
     ensures keeping { IsKeeping result (P.faults store.old) (P.faults store.new) }
-    ensures keeper_last { IsErrOf result Exit.KeeperFault → IfSome (S.left src.old) (HoldsBatch compare_limit) }
+    ensures keeper_last { IsErrOf result Exit.KeeperFault → IfSome (S.left src.old) (HoldsBatch MOST_TEXT) }
 {
-    let source = source_up_to(context.alloc, src, COMPARE_LIMIT as usize)?;
+    let source = source_up_to(context.alloc, src, MOST_TEXT as usize)?;
     compare_of(context, source.as_slice(), store, asked, watch)
 }
 

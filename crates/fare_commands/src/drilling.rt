@@ -1,7 +1,7 @@
 //! The command `drill`.
 
 ghost use Rattle.std.specs.Prelude.{◌≤◌};
-ghost use Rattle.fare_drill.specs.declared.limits.TheConstants.{LAST_SEED, MOST_EXTRA, MOST_SECTORS};
+ghost use Rattle.fare_codes.specs.declared.limits.TheConstants.{LAST_SEED, MOST_EXTRA, MOST_SECTORS};
 ghost use Rattle.fare_commands.specs.Answer.{IsDoneOr};
 ghost use Rattle.fare_commands.specs.DrillOutcome.{Drills};
 ghost use Rattle.fare_commands.specs.Ends.{IsRefusalOfDrill};

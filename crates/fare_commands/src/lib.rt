@@ -3,7 +3,7 @@
 //!
 //! - `exit`, `refused`: what a run ends in, and the ends for what the crates below refuse; `fault_line`: the status and
 //!   the line on standard error of each; `outcome`: an exit with the text that is written before;
-//! - `context`: what every command works with; `limits`: how many bytes the source of each may hold; `source`, `input`:
+//! - `context`: what every command works with; `limits`: how many bytes sources may hold; `source`, `input`:
 //!   the bytes of the source, and the itinerary and the tariff in them; `store`: the book of a store;
 //! - `quote`: what is asked of a trip over a book, as a plain text or in JSON;
 //! - `pricing`, `publishing`, `listing`, `exporting`, `stored_quotes`, `drilling`, `migration`, `checking`,
@@ -40,7 +40,7 @@ pub use drilling::drill;
 pub use exit::Exit;
 pub use exporting::export;
 pub use fault_line::fault_text;
-pub use limits::{CHECK_LIMIT, COMPARE_LIMIT, PRICE_LIMIT, PUBLISH_LIMIT, QUOTE_LIMIT};
+pub use limits::{MOST_ITINERARY, MOST_PRICED};
 pub use listing::list;
 pub use migration::migrate;
 pub use outcome::Outcome;

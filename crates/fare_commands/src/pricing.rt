@@ -6,14 +6,13 @@ ghost use Rattle.fare_commands.specs.Answer.{IsDoneOr};
 ghost use Rattle.fare_commands.specs.CheckOutcome.{OwnExit, tariff_refusal};
 ghost use Rattle.fare_commands.specs.Ends.{IsRefusalOfPrice};
 ghost use Rattle.fare_commands.specs.Input.{itinerary_of};
-ghost use Rattle.fare_commands.specs.Limits.{price_limit};
 ghost use Rattle.fare_commands.specs.PriceOutcome.{AnswersItinerary, AnswersPrice, AnswersSource};
 ghost use Rattle.fare_commands.specs.Steps.{Answers, IsEndOnceRead, IsReading};
 
 use crate::context::Context;
 use crate::exit::Exit;
 use crate::input::{itinerary_in, split_source};
-use crate::limits::PRICE_LIMIT;
+use crate::limits::MOST_PRICED;
 use crate::outcome::Outcome;
 use crate::quote::{Question, quote};
 use crate::source::source_up_to;
@@ -36,10 +35,10 @@ pub fn price<R: Threads + Sync, S: Source>(
         Answers (AnswersPrice question.asked question.json source) result) }
     ensures own { IfOk result (λ ending. OwnExit (question.json ≡ true) ending.exit) }
     ensures ends { IfErr result IsRefusalOfPrice }
-    ensures reading { IsReading price_limit result
+    ensures reading { IsReading MOST_PRICED result
         (S.left src.old) (S.left src.new) (S.faults src.old) (S.faults src.new) }
 {
-    let source = source_up_to(context.alloc, src, PRICE_LIMIT as usize)?;
+    let source = source_up_to(context.alloc, src, MOST_PRICED as usize)?;
     price_of(context, source.as_slice(), question)
 }
 

@@ -6,7 +6,6 @@ ghost use Rattle.fare_book.specs.Publish.{IsReadable};
 ghost use Rattle.fare_book.specs.Reopens.{Stay};
 ghost use Rattle.fare_commands.specs.Answer.{IsDoneOr};
 ghost use Rattle.fare_commands.specs.Ends.{IsRefusalOfPublish};
-ghost use Rattle.fare_commands.specs.Limits.{publish_limit};
 ghost use Rattle.fare_commands.specs.Opened.{Names};
 ghost use Rattle.fare_commands.specs.Publication.{MayPublish, PublishesNothing};
 ghost use Rattle.fare_commands.specs.Readable.{HoldsTariff};
@@ -17,13 +16,12 @@ ghost use Rattle.fare_commands.specs.StoreSteps.{AnswersChanging, AnswersOffer, 
 use crate::context::Context;
 use crate::exit::Exit;
 use crate::input::edition_in;
-use crate::limits::PUBLISH_LIMIT;
 use crate::numbered_line::numbered_line;
 use crate::outcome::Outcome;
 use crate::source::source_up_to;
 use crate::store::book_of;
 use fare_book::{Book, Published};
-use fare_outside::{Keeper, Source};
+use fare_outside::{Keeper, MOST_TEXT, Source};
 use fare_tariff::Edition;
 use std::thread::Threads;
 
@@ -37,7 +35,7 @@ pub fn publish<R: Threads + Sync, S: Source, P: Keeper>(
     ensures answer { IfSome (S.left src.old) (λ source.
         AnswersChanging (P.bodies store.old) (P.bodies store.new) (AnswersPublish source) result) }
     ensures ends { IsDoneOr IsRefusalOfPublish result }
-    ensures reading { IsReading publish_limit result
+    ensures reading { IsReading MOST_TEXT result
         (S.left src.old) (S.left src.new) (S.faults src.old) (S.faults src.new) }
     ensures bodies { IfSome (S.left src.old) (λ source.
         WhereTold (P.bodies store.old) (P.bodies store.new) (MayPublish source)) }
@@ -45,9 +43,9 @@ pub fn publish<R: Threads + Sync, S: Source, P: Keeper>(
         WhereTold (P.bodies store.old) (P.bodies store.new) BodiesStay) }
     ensures name { Names name.now (P.opened_as store.old) (P.opened_as store.new) result }
     ensures keeping { IsKeeping result (P.faults store.old) (P.faults store.new) }
-    ensures keeper_last { IsErrOf result Exit.KeeperFault → IfSome (S.left src.old) (HoldsTariff publish_limit) }
+    ensures keeper_last { IsErrOf result Exit.KeeperFault → IfSome (S.left src.old) (HoldsTariff MOST_TEXT) }
 {
-    let source = source_up_to(context.alloc, src, PUBLISH_LIMIT as usize)?;
+    let source = source_up_to(context.alloc, src, MOST_TEXT as usize)?;
     publish_of(context, source.as_slice(), store, name)
 }
 

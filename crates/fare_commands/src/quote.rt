@@ -1,7 +1,6 @@
 //! What is asked of a trip over a book, as a plain text or in JSON.
 
 ghost use Rattle.std.specs.Prelude.{◌≡◌, ◌≤◌};
-ghost use Rattle.fare_words.specs.Limits.{most_best};
 ghost use Rattle.fare_words.specs.WithinLimits.{IsFew};
 ghost use Rattle.fare_words.specs.declared.asked.Asked.TheVariants as ask;
 ghost use Rattle.fare_answers.specs.Answers.{Answers as Gives};
@@ -14,6 +13,7 @@ use crate::exit::Exit;
 use crate::outcome::Outcome;
 use fare_answers::{QuoteFault, best_text, quote_text};
 use fare_book::Book;
+use fare_codes::MOST_BEST;
 use fare_json::{best_json, quote_json};
 use fare_trip::Trip;
 use fare_why::{Searches, why_text};
@@ -90,7 +90,7 @@ fn quotation<R: Threads + Sync>(
 /// The first constructions of a trip over a book.
 fn first(alloc: Global, book: &Book, trip: &Trip, k: u32, json: bool) -> Result<Vec<u8>, QuoteFault>
     requires some { 1 ≤ k }
-    requires few { k ≤ most_best }
+    requires few { k ≤ MOST_BEST }
     ensures { Gives (Tells (ask.Best k) json book.now.editions trip.now) result }
 {
     if json {

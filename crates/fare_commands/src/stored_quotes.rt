@@ -5,7 +5,6 @@ ghost use Rattle.fare_outside.specs.Keeper.{BodiesStay, WhereTold};
 ghost use Rattle.fare_words.specs.WithinLimits.{IsFew};
 ghost use Rattle.fare_commands.specs.Answer.{IsDoneOr};
 ghost use Rattle.fare_commands.specs.Ends.{IsRefusalOfQuote};
-ghost use Rattle.fare_commands.specs.Limits.{quote_limit};
 ghost use Rattle.fare_commands.specs.Opened.{Names};
 ghost use Rattle.fare_commands.specs.Readable.{HoldsItinerary, IsItinerary};
 ghost use Rattle.fare_commands.specs.Steps.{IsEndOnceRead, IsKeeping, IsReading};
@@ -15,7 +14,7 @@ ghost use Rattle.fare_commands.specs.StoreSteps.{AnswersReading};
 use crate::context::Context;
 use crate::exit::Exit;
 use crate::input::trip_in;
-use crate::limits::QUOTE_LIMIT;
+use crate::limits::MOST_ITINERARY;
 use crate::outcome::Outcome;
 use crate::quote::{Question, quote};
 use crate::source::source_up_to;
@@ -35,14 +34,14 @@ pub fn stored_quote<R: Threads + Sync, S: Source, P: Keeper>(
     ensures answer { IfSome (S.left src.old) (λ source. AnswersReading (P.bodies store.old) (P.bodies store.new)
         (AnswersQuote question.asked question.json source) result) }
     ensures ends { IsDoneOr IsRefusalOfQuote result }
-    ensures reading { IsReading quote_limit result
+    ensures reading { IsReading MOST_ITINERARY result
         (S.left src.old) (S.left src.new) (S.faults src.old) (S.faults src.new) }
     ensures bodies { WhereTold (P.bodies store.old) (P.bodies store.new) BodiesStay }
     ensures name { Names name.now (P.opened_as store.old) (P.opened_as store.new) result }
     ensures keeping { IsKeeping result (P.faults store.old) (P.faults store.new) }
-    ensures keeper_last { IsErrOf result Exit.KeeperFault → IfSome (S.left src.old) (HoldsItinerary quote_limit) }
+    ensures keeper_last { IsErrOf result Exit.KeeperFault → IfSome (S.left src.old) (HoldsItinerary MOST_ITINERARY) }
 {
-    let source = source_up_to(context.alloc, src, QUOTE_LIMIT as usize)?;
+    let source = source_up_to(context.alloc, src, MOST_ITINERARY as usize)?;
     quote_of(context, source.as_slice(), store, name, question)
 }
 

@@ -4,10 +4,12 @@ use Rattle.std.specs.Prelude.{Option, Some, None, IfSome, option_and_then, unwra
 use Rattle.std.proofs.lemmas.Bool.{cases_eq, cases_lt, le-ltb}
 use Rattle.std.proofs.lemmas.Grind.{get_or-set_at}
 use Rattle.std.proofs.lemmas.List.{get_or-replicate, get_or-set_other, get_or_past, length-replicate, length-set}
+use Rattle.fare_codes.specs.declared.limits.TheConstants.{MOST_SECTORS}
 use Rattle.fare_trip.specs.Itinerary.{Itinerary, count}
 use Rattle.fare_tariff.specs.Record.{FareRecord}
 use Rattle.fare_tariff.specs.Lookup.{terms}
 use Rattle.fare_tariff.specs.Tariff.{Tariff}
+use Rattle.fare_rules.specs.declared.limits.TheConstants.{MOST_POINTS}
 use Rattle.fare_rules.specs.Backhaul.{backhaul, greatest_reference, minimum_above}
 use Rattle.fare_rules.specs.Base.{base, compared_pairs, greatest_amount}
 use Rattle.fare_rules.specs.Numbers.{greatest_of}
@@ -45,12 +47,12 @@ at_put slots place at found P here there =
 
 -- what is known is right once one more reference is
 pub references_put : (tariff : Tariff) (trip : Itinerary) (known : References) (i j : ℕ) (found : Option ℕ)
-    → count trip ≤ 16 → i < j → j ≤ count trip → AreReferences tariff trip known
+    → count trip ≤ MOST_SECTORS → i < j → j ≤ count trip → AreReferences tariff trip known
     → IsReference tariff trip known.form i j found
-    → AreReferences tariff trip (record known { found = set known.found (i * 17 + j) (Some found) })
+    → AreReferences tariff trip (record known { found = set known.found (i * MOST_POINTS + j) (Some found) })
 references_put tariff trip known i j found short rises within right one =
     record {
-      found = λ p q up last. at_put known.found (i * 17 + j) (p * 17 + q) found (IsReference tariff trip known.form p q)
+      found = λ p q up last. at_put known.found (i * MOST_POINTS + j) (p * MOST_POINTS + q) found (IsReference tariff trip known.form p q)
           (λ same.
           let first : i ≡ p = omega arith in
           let second : j ≡ q = omega arith in
@@ -69,7 +71,7 @@ pub nothing_known : (tariff : Tariff) (trip : Itinerary) (known : References)
     → AreReferences tariff trip known
 nothing_known tariff trip known none columns reach asked =
     record {
-      found = λ i j up last. subst (λ (o : Option (Option ℕ)). IfSome o (IsReference tariff trip known.form i j)) (sym (none (i * 17 + j))) tt;
+      found = λ i j up last. subst (λ (o : Option (Option ℕ)). IfSome o (IsReference tariff trip known.form i j)) (sym (none (i * MOST_POINTS + j))) tt;
       columns = λ j within. subst (λ (o : Option Column). IfSome o (IsColumn tariff trip known.form j)) (sym (columns j)) tt;
       reach = reach;
       asked = asked;

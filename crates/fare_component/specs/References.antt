@@ -6,6 +6,7 @@ use Rattle.fare_codes.specs.declared.nuc.TheConstants.{FARE_LIMIT}
 use Rattle.fare_trip.specs.Itinerary.{Itinerary, count}
 use Rattle.fare_tariff.specs.Record.{FareRecord}
 use Rattle.fare_tariff.specs.Tariff.{Tariff}
+use Rattle.fare_rules.specs.declared.limits.TheConstants.{MOST_POINTS}
 use Rattle.fare_rules.specs.Numbers.{greatest_of, numbers}
 use Rattle.fare_rules.specs.Base.{Compared, with_amount, is_end_or_stopover, reference_between, greatest_amount}
 use Rattle.fare_rules.specs.Span.{first_day, is_stopover}
@@ -26,7 +27,7 @@ pub record IsOfForm (fare : FareRecord) (back : Bool) (form : Form) : Type 0 whe
 
 -- what is known of two points: nothing yet, or what was found between them
 abbrev pub known_at : References → ℕ → ℕ → Option (Option Nuc)
-known_at known i j = slice_index_or known.found (i * 17 + j) None
+known_at known i j = slice_index_or known.found (i * MOST_POINTS + j) None
 
 -- the reference of a form between two points
 abbrev pub reference_of : Tariff → Itinerary → Form → ℕ → ℕ → Option Nuc

@@ -6,7 +6,7 @@ use Rattle.fare_codes.specs.declared.cabin.Cabin.{Cabin}
 use Rattle.fare_codes.specs.declared.carrier.Carrier.{Carrier}
 use Rattle.fare_trip.specs.Itinerary.{Itinerary, count}
 use Rattle.fare_tariff.specs.Tariff.{Tariff}
-use Rattle.fare_rules.specs.declared.limits.TheConstants.{MOST_SURCHARGE}
+use Rattle.fare_codes.specs.declared.limits.TheConstants.{MOST_SURCHARGE}
 use Rattle.fare_rules.specs.Indicator.{indicator}
 use Rattle.fare_rules.specs.Span.{holds_surface, sectors, stopovers, transfers}
 use Rattle.fare_rules.specs.ComponentAmount.{covers_cabin, is_carried_by, rank, repeats_city, span_surcharge}

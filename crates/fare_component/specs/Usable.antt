@@ -5,7 +5,8 @@ use Rattle.fare_tariff.specs.Record.{FareRecord}
 use Rattle.fare_tariff.specs.Tariff.{Tariff}
 use Rattle.fare_rules.specs.declared.amount.Amount.{Amount}
 use Rattle.fare_codes.specs.declared.nuc.TheConstants.{FARE_LIMIT}
-use Rattle.fare_rules.specs.declared.limits.TheConstants.{MOST_AMOUNT, MOST_SURCHARGE}
+use Rattle.fare_codes.specs.declared.limits.TheConstants.{MOST_SURCHARGE}
+use Rattle.fare_rules.specs.declared.limits.TheConstants.{MOST_AMOUNT}
 use Rattle.fare_rules.specs.Span.{holds_surface}
 use Rattle.fare_rules.specs.Terms.{stops_hold, transfers_hold, advance_holds}
 use Rattle.fare_rules.specs.ComponentAmount.{repeats_city, runs_between, may_be_priced, has_indicator, covers_cabins}

@@ -9,9 +9,9 @@ ghost use Rattle.fare_component.specs.Usable.{IsAmount};
 use crate::component::Component;
 use crate::conditions::{is_allowed, span_surcharge};
 use crate::usable::is_usable;
-use fare_codes::{FARE_LIMIT, Nuc, surcharged};
+use fare_codes::{FARE_LIMIT, MOST_SURCHARGE, Nuc, surcharged};
 use fare_points::higher;
-use fare_rules::{Amount, MOST_SURCHARGE};
+use fare_rules::Amount;
 use fare_tariff::{Edition, FareRec};
 use fare_trip::Trip;
 

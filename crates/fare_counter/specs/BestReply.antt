@@ -1,6 +1,7 @@
 -- The reply to a trip whose first constructions are asked for, plain or in JSON: the parameter first, then the
 -- itinerary, then the trip.
 use Rattle.std.specs.Prelude.{◌≡◌, ℕ, List, length, drop, Option, Some, None, Result, codes, MatchResult}
+use Rattle.fare_codes.specs.declared.limits.TheConstants.{MOST_BEST}
 use Rattle.fare_codes.specs.Numbers.{read_number}
 use Rattle.fare_trip.specs.Itinerary.{Itinerary}
 use Rattle.fare_trip.specs.ItineraryText.{read_trip}
@@ -16,9 +17,9 @@ use Rattle.fare_json.specs.BestData.{BestJson}
 use Rattle.fare_desk.specs.Quoting.{fault_reply, quotation_reply}
 use Rattle.fare_desk.specs.Replies.{no_route}
 
--- how many constructions may be asked for is 1 to 10, written without a zero in front
+-- how many constructions may be asked for is 1 to MOST_BEST, written without a zero in front
 abbrev pub asked_count : List ℕ → Option ℕ
-asked_count text = above_zero (read_number 10 text)
+asked_count text = above_zero (read_number MOST_BEST text)
 
 -- what stands in a path of a form before the number of constructions
 abbrev pub before_count : Form → List ℕ

@@ -7,9 +7,8 @@ ghost use Rattle.fare_counter.specs.BestReply.{BestIn, IsBestReply, IsFirstOf, I
 ghost use Rattle.fare_counter.specs.BestReply.{count_text};
 
 use fare_answers::{QuoteFault, best_text};
-use fare_best::MOST_BEST;
 use fare_book::Book;
-use fare_codes::read_number;
+use fare_codes::{MOST_BEST, read_number};
 use fare_desk::{body_reply, fault_reply, no_route_reply, refusal_reply};
 use fare_http::{Form, Reply, Status};
 use fare_json::best_json;

@@ -6,18 +6,19 @@ use Rattle.std.specs.Global.{Vec}
 use Rattle.std.specs.List.{AllZip, concat}
 use Rattle.std.specs.Str.{bytes_eq}
 use Rattle.std.proofs.lemmas.Slice.Eq.{bytes_eq-Decides}
+use Rattle.csv.proofs.OnLiterals.{csv_on_literals}
 use Rattle.fare_tariff.specs.declared.records.record.Record.{Record}
 use Rattle.fare_csv.specs.declared.pieces.NotInPieces.{NotInPieces}
 use Rattle.fare_csv.specs.declared.head.Head.{Head}
 use Rattle.fare_csv.specs.declared.head.Version.{Version}
 use Rattle.fare_csv.specs.declared.text_fault.TextFault.{TextFault}
-use Rattle.fare_csv.specs.Fields.{field}
+use Rattle.fare_csv.specs.Fields.{counted, field}
 use Rattle.fare_csv.specs.Head.{head_of}
 use Rattle.fare_csv.specs.Joined.{joined}
 use Rattle.fare_csv.specs.Pieces.{IsHeadAlone, IsRead, is_unmarked, is_whole, records_each}
 use Rattle.fare_csv.specs.RecordKind.{kind_named}
 use Rattle.fare_csv.specs.Rows.{Fields, rows_of}
-use Rattle.fare_csv.specs.TariffText.{followed_by, headed, number_after, record_of, record_of_kind, records_of, tariff_of}
+use Rattle.fare_csv.specs.TariffText.{end_of, ended_by, followed_by, headed, nothing_after, number_after, record_of, record_of_kind, records_of, tariff_of}
 use Rattle.fare_csv.proofs.Renumbered.{record-renumbered, records-renumbered}
 use Rattle.fare_csv.proofs.RowsOfPieces.{rows_of-behind, unmarked-behind}
 
@@ -144,3 +145,11 @@ pub tariff_in_pieces : (first body text : List ℕ) (head : Head) (records : Lis
 unfolding tariff_of headed
 tariff_in_pieces first body text head records cut whole unmarked alone reading =
     rw (cut, rows_of-behind first body whole unmarked, alone.only, alone.named, alone.reading, reading) refl
+
+-- a text that is just the line of END has no records
+end-alone : (version : Version) → records_of version 2 (rows_of (codes "END\n")) ≡ Ok []
+unfolding csv_on_literals rows_of records_of ended_by end_of nothing_after counted
+end-alone version = refl
+
+pub none_before_end : (version : Version) (left : List ℕ) → bytes_eq left (codes "END\n") ≡ true → records_of version 2 (rows_of left) ≡ Ok []
+none_before_end version left h = rw ((bytes_eq-Decides left (codes "END\n")).0 h) (end-alone version)

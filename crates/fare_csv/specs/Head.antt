@@ -3,7 +3,7 @@ use Rattle.std.specs.Prelude.{ℕ, List, codes, Option, Some, None, Result, Ok, 
 use Rattle.std.specs.Str.{bytes_eq}
 use Rattle.fare_codes.specs.Day.{read_day}
 use Rattle.fare_codes.specs.Numbers.{read_number}
-use Rattle.fare_tariff.specs.declared.limits.TheConstants.{LAST_EDITION}
+use Rattle.fare_codes.specs.declared.limits.TheConstants.{LAST_EDITION}
 use Rattle.fare_csv.specs.declared.text_fault.TextFault.{TextFault}
 use Rattle.fare_csv.specs.declared.head.Version.{Version}
 use Rattle.fare_csv.specs.declared.head.Version.TheVariants.{One, Two}

@@ -8,10 +8,11 @@ use Rattle.fare_codes.specs.Day.{read_month_day}
 use Rattle.fare_codes.specs.Numbers.{read_nuc, read_number, read_rate}
 use Rattle.fare_codes.specs.Season.{whole_year}
 use Rattle.fare_codes.specs.declared.city.City.{City}
+use Rattle.fare_codes.specs.declared.limits.TheConstants.{MOST_UNIT}
 use Rattle.fare_codes.specs.declared.nuc.TheConstants.{FARE_LIMIT}
 use Rattle.fare_codes.specs.declared.rule_id.RuleId.{RuleId}
 use Rattle.fare_codes.specs.declared.season.Season.{Season}
-use Rattle.fare_tariff.specs.declared.limits.TheConstants.{MOST_DAYS, MOST_MILES, MOST_STOPS, MOST_TRANSFERS, MOST_UNIT}
+use Rattle.fare_tariff.specs.declared.limits.TheConstants.{MOST_DAYS, MOST_MILES, MOST_STOPS, MOST_TRANSFERS}
 use Rattle.fare_tariff.specs.declared.records.fare_key.FareKey.{FareKey}
 use Rattle.fare_csv.specs.declared.head.Version.{Version}
 use Rattle.fare_csv.specs.declared.head.Version.TheVariants.{One, Two}

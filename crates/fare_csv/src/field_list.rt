@@ -47,7 +47,8 @@ impl<'a> FieldList<'a> {
         self.slices.clear();
     }
 
-    /// Adds a field at the end.
+    /// Adds a field at the end. It is called for each field of a text.
+    #[inline(always)]
     pub(crate) fn push(&mut self, field: &'a [u8]) -> Result<(), AllocError>
         ensures { OnOk result (self.new ≡ self.old ++ (field.now ∷ [])) }
     {

@@ -7,8 +7,7 @@ use crate::numbers::read_edition_number;
 use crate::read_plain::counted;
 use crate::rows::Row;
 use crate::text_fault::TextFault;
-use fare_codes::Day;
-use fare_tariff::LAST_EDITION;
+use fare_codes::{Day, LAST_EDITION};
 
 /// How the fares of a text are spelled.
 #[derive(Clone, Copy, Debug, PartialEq, Eq)]

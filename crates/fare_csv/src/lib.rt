@@ -6,7 +6,7 @@
 //! - `field_list`, `plain_line`: the fields of a row, taken where they stand;
 //! - `head`, `record_kind`, `read_plain`, `read_rule`, `read_fare`, `name_list`, `numbers`: records from their fields;
 //! - `read_text`: the whole text row by row;
-//! - `pieces`, `read_pieces`: a text in pieces of whole lines, which are read on all processors;
+//! - `pieces`, `read_pieces`: a text in pieces of whole lines, of which a long one's are read on all processors;
 //! - `spelling`, `edition`: the whole text, in pieces where it can be;
 //! - `write_record`, `write_names`, `canonical`: the canonical text;
 //! - `laws`: it is read back as its edition, and no two editions have one;

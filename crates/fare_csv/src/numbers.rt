@@ -4,8 +4,7 @@ ghost use Rattle.std.specs.Prelude.{◌≡◌, ◌<◌, ◌≤◌, IfSome};
 ghost use Rattle.fare_codes.specs.Numbers.{read_number, read_rate};
 ghost use Rattle.fare_csv.specs.Numbers.{above_zero};
 
-use fare_codes::{RATE_LIMIT, read_number, read_rate};
-use fare_tariff::{LAST_EDITION, MOST_UNIT};
+use fare_codes::{LAST_EDITION, MOST_UNIT, RATE_LIMIT, read_number, read_rate};
 
 /// The rate of exchange in millionths that the bytes spell, above zero.
 #[tactic(auto, unfolding(crate::specs::Numbers::above_zero))]

@@ -1,6 +1,7 @@
 //! A text cut into pieces of whole lines, of which each is read by itself.
 
-ghost use Rattle.std.specs.Prelude.{◌≡◌, ◌≤◌, ◌++◌, map, length, IfOk};
+ghost use Rattle.std.specs.Prelude.{◌≡◌, ◌≤◌, ◌++◌, map, codes, length, IfOk};
+ghost use Rattle.std.specs.Str.{bytes_eq};
 ghost use Rattle.std.specs.List.{concat, list_all};
 ghost use Rattle.fare_csv.specs.Pieces.{ends_a_line, is_unmarked, is_unquoted, is_whole};
 
@@ -30,11 +31,24 @@ impl<T: Drop> From<AllocFailed<T>> for NotInPieces {
     }
 }
 
-/// How many pieces a text is cut into.
+/// A text of fewer bytes is read in one piece sooner than threads begin.
+const LONG: usize = 262_144;
+
+/// How many pieces a long text is cut into.
 const PIECES: usize = 64;
 
-/// About how many bytes at the end of a text stay behind its pieces, so that END is in none of them.
+/// About how many bytes at the end of a long text stay behind its pieces, so that END is in none of them.
 const LEFT: usize = 4_096;
+
+/// The line of END.
+const END: &[u8] = b"END\n";
+
+/// Whether a text is just the line of END.
+pub(crate) fn is_end_alone(text: &[u8]) -> bool
+    ensures { result ≡ bytes_eq text.now (codes "END\n") }
+{
+    text == END
+}
 
 /// Whether a text doesn't begin as a byte order mark does.
 #[tactic(auto, unfolding(crate::specs::Pieces::is_unmarked))]
@@ -93,9 +107,19 @@ pub(crate) struct Pieces<'a> {
     pub(crate) left: &'a [u8],
 }
 
-/// The pieces of a text, about equally long, each to the end of a line where there is one.
+/// All of a text but the line of END, as one piece.
+fn one_piece<'a>(alloc: Global, text: &'a [u8]) -> Result<Pieces<'a>, NotInPieces>
+    ensures { IfOk result (λ cut. concat (map (λ piece. piece.now) cut.pieces.items) ++ cut.left.now ≡ text.now) }
+{
+    let (piece, left) = text.split_at(text.len().saturating_sub(END.len()));
+    let mut pieces = Vec::with_capacity(alloc, 1)?;
+    pieces.push(piece)?;
+    Ok(Pieces { pieces, left })
+}
+
+/// The pieces of a long text, about equally long, each to the end of a line where there is one.
 #[tactic(auto, using(crate::proofs::PiecesCut::cut_further))]
-pub(crate) fn pieces_of<'a>(alloc: Global, text: &'a [u8]) -> Result<Pieces<'a>, NotInPieces>
+fn many_pieces<'a>(alloc: Global, text: &'a [u8]) -> Result<Pieces<'a>, NotInPieces>
     ensures { IfOk result (λ cut. concat (map (λ piece. piece.now) cut.pieces.items) ++ cut.left.now ≡ text.now) }
 {
     let mut pieces = Vec::with_capacity(alloc, PIECES)?;
@@ -107,4 +131,15 @@ pub(crate) fn pieces_of<'a>(alloc: Global, text: &'a [u8]) -> Result<Pieces<'a>,
         left = more;
     }
     Ok(Pieces { pieces, left })
+}
+
+/// The pieces of a text.
+pub(crate) fn pieces_of<'a>(alloc: Global, text: &'a [u8]) -> Result<Pieces<'a>, NotInPieces>
+    ensures { IfOk result (λ cut. concat (map (λ piece. piece.now) cut.pieces.items) ++ cut.left.now ≡ text.now) }
+{
+    if text.len() < LONG {
+        one_piece(alloc, text)
+    } else {
+        many_pieces(alloc, text)
+    }
 }

@@ -10,7 +10,7 @@ ghost use Rattle.fare_csv.specs.TariffText.{records_of};
 
 use crate::field_list::FieldList;
 use crate::head::Version;
-use crate::pieces::{NotInPieces, is_unmarked, is_whole, pieces_of};
+use crate::pieces::{NotInPieces, is_end_alone, is_unmarked, is_whole, pieces_of};
 use crate::plain_line::take_line;
 use crate::read_text::{read_fields, read_record, read_records};
 use crate::rows::{Row, Rows};
@@ -114,6 +114,18 @@ fn joined(
     Ok(records)
 }
 
+/// The records up to END of what is left of a text behind its pieces, which most often is just END.
+#[tactic(auto, using(crate::proofs::PiecesRead::none_before_end))]
+fn read_last(alloc: Global, left: &[u8], version: Version) -> Result<Vec<Record>, NotInPieces>
+    ensures { IfOk result (λ records. records_of version 2 (rows_of left.now) ≡ Ok records.items) }
+{
+    if is_end_alone(left) {
+        return Ok(Vec::new(alloc));
+    }
+    let mut rows = Rows::new(alloc, left);
+    Ok(read_records(alloc, &mut rows, version)?)
+}
+
 /// The records of a text behind its HEAD.
 pub(crate) fn read_body<R: Threads + Sync>(
     rt: &R,
@@ -130,8 +142,7 @@ pub(crate) fn read_body<R: Threads + Sync>(
     }
     let read = read_pieces(rt, alloc, cut.pieces.as_slice(), version)?;
     let mut records = joined(alloc, text.len() / BYTES, read)?;
-    let mut rows = Rows::new(alloc, cut.left);
-    let mut last = read_records(alloc, &mut rows, version)?;
+    let mut last = read_last(alloc, cut.left, version)?;
     records.append(&mut last)?;
     Ok(records)
 }

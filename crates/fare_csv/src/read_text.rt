@@ -16,8 +16,8 @@ use crate::read_rule::read_rule;
 use crate::record_kind::RecordKind;
 use crate::rows::{Row, Rows};
 use crate::text_fault::TextFault;
-use fare_codes::Day;
-use fare_tariff::{FiledRule, LAST_EDITION, Record};
+use fare_codes::{Day, LAST_EDITION};
+use fare_tariff::{FiledRule, Record};
 use std::alloc::Global;
 
 /// The record of a row that isn't END, by its first field, or its fault, which has this number.

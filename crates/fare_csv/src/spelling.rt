@@ -1,5 +1,5 @@
-//! HEAD and the records of a text: in pieces on all processors where the text is long and each piece is without a
-//! fault, else row by row.
+//! HEAD and the records of a text: in pieces where each is without a fault, on all processors where the text is long;
+//! else row by row.
 
 ghost use Rattle.std.specs.Prelude.{◌≡◌, ◌<◌, ◌≤◌, IfOk, Ok};
 ghost use Rattle.fare_outside.specs.Memory.{Gives};
@@ -14,12 +14,9 @@ use crate::read_pieces::read_body;
 use crate::read_text::{Spelled, is_head, read_in_order};
 use crate::rows::{Row, Rows};
 use crate::text_fault::TextFault;
-use fare_tariff::LAST_EDITION;
+use fare_codes::LAST_EDITION;
 use std::alloc::Global;
 use std::thread::Threads;
-
-/// A text of fewer bytes is read row by row sooner than threads begin.
-const LONG: usize = 262_144;
 
 /// The HEAD of a text that has no other row.
 #[tactic(auto, using(crate::proofs::PiecesRead::head_alone))]
@@ -49,9 +46,6 @@ pub(crate) fn read_at_once<R: Threads + Sync>(
     ensures reading { IfOk result (λ spelled. tariff_of (rows_of text.now) ≡ Ok (spelled_tariff spelled)) }
     ensures range { IfOk result (λ spelled. (0 < spelled.number) × (spelled.number ≤ LAST_EDITION)) }
 {
-    if text.len() < LONG {
-        return Err(NotInPieces);
-    }
     let (first, body) = text.split_at(behind_line(text, 0));
     if !is_whole(first) {
         return Err(NotInPieces);

@@ -11,8 +11,8 @@ ghost use Rattle.fare_csv.specs.CanonicalText.{head_row, mileage_row, pair_row, 
 use crate::lines::Lines;
 use crate::write_names::names_text;
 use arrayvec::ArrayString;
-use fare_codes::{City, Day, RuleId, number_text, rate_text};
-use fare_tariff::{CityRec, CurRec, EmaRec, FareRec, LAST_EDITION, MileRec, PairRec, RuleRec};
+use fare_codes::{City, Day, LAST_EDITION, RuleId, number_text, rate_text};
+use fare_tariff::{CityRec, CurRec, EmaRec, FareRec, MileRec, PairRec, RuleRec};
 use std::alloc::{AllocError, Global};
 
 /// The bytes of a text.

@@ -16,6 +16,7 @@ use Rattle.fare_http.specs.declared.reply.Reply.{Reply}
 use Rattle.fare_http.specs.declared.reply.Status.TheVariants.{BadRequest, ContentTooLarge, Okay}
 use Rattle.fare_json.specs.BatchData.{batch_begin, batch_end, item_json}
 use Rattle.fare_sentences.specs.declared.fault.Fault.TheVariants.{BatchLimit, NoBatch}
+use Rattle.fare_desk.specs.declared.batcher.TheConstants.{MOST_ITEMS}
 use Rattle.fare_desk.specs.Quoting.{IsQuoteReply, fault_reply}
 use Rattle.fare_desk.specs.Replies.{refused, says}
 
@@ -47,14 +48,10 @@ AreItemReplies form editions (item value items) [] = ⊥
 AreItemReplies form editions (item value items) (reply ∷ replies) =
     IsQuoteReply form editions (trip_of value) reply × AreItemReplies form editions items replies
 
--- the most items of a batch
-abbrev pub most_items : ℕ
-most_items = 256
-
 -- the reply to the items of a batch, which are counted before any of them is looked at
 abbrev pub IsItemsReply : Form → List Tariff → Items → Reply → Type 0
 IsItemsReply form editions items reply =
-    MatchBool (nat_lt most_items (items_len items)) (reply ≡ refused form ContentTooLarge BatchLimit)
+    MatchBool (nat_lt MOST_ITEMS (items_len items)) (reply ≡ refused form ContentTooLarge BatchLimit)
     ((replies : List Reply) × AreItemReplies form editions items replies
     × (reply ≡ says form Okay (batch_body form replies)))
 

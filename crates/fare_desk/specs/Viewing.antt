@@ -2,6 +2,7 @@
 -- at, then the parameter and the body.
 use Rattle.std.specs.Prelude.{◌≡◌, ℕ, List, ◌++◌, length, drop, Option, Some, None, codes, decimal}
 use Rattle.fare_codes.specs.Numbers.{read_number}
+use Rattle.fare_codes.specs.declared.limits.TheConstants.{LAST_EDITION}
 use Rattle.fare_trip.specs.ItineraryText.{read_trip}
 use Rattle.fare_tariff.specs.Tariff.{Tariff}
 use Rattle.fare_csv.specs.CanonicalText.{canonical_text}
@@ -30,9 +31,9 @@ list_body Json editions = json_line (list_data editions)
 abbrev pub list_reply : Form → List Tariff → Reply
 list_reply form editions = says form Okay (list_body form editions)
 
--- the number of an edition is 1 to 99999, written without a zero in front
+-- the number of an edition is 1 to LAST_EDITION, written without a zero in front
 abbrev pub edition_number : List ℕ → Option ℕ
-edition_number text = above_zero (read_number 99999 text)
+edition_number text = above_zero (read_number LAST_EDITION text)
 
 -- what stands in a path behind `/editions/`
 abbrev pub number_text : List ℕ → List ℕ

@@ -8,16 +8,13 @@ ghost use Rattle.fare_desk.specs.Viewing.{no_such_edition, number_text};
 use crate::replies::{body_reply, line_reply, no_route_reply};
 use fare_answers::list_text;
 use fare_book::Book;
-use fare_codes::read_number;
+use fare_codes::{LAST_EDITION, read_number};
 use fare_csv::edition_text;
 use fare_http::{Form, Reply, Status};
 use fare_json::list_json;
 use fare_outside::NoMemory;
 use fare_text::{push_short_number, short_text};
 use std::alloc::Global;
-
-/// The last number of an edition.
-const LAST_EDITION: u32 = 99_999;
 
 /// What stands in a path before the number of an edition.
 const BEFORE_NUMBER: &str = "/editions/";
@@ -59,7 +56,7 @@ pub fn number_text(path: &str) -> &[u8]
     &bytes[BEFORE_NUMBER.len().min(bytes.len())..]
 }
 
-/// The number of an edition that a text writes, 1 to 99999 without a zero in front, if it writes one.
+/// The number of an edition that a text writes, 1 to `LAST_EDITION` without a zero in front, if it writes one.
 #[tactic(auto, unfolding(fare_csv::specs::Numbers::above_zero))]
 pub fn edition_number(text: &[u8]) -> Option<u32>
     ensures { result ≡ edition_number text.now }

@@ -10,9 +10,11 @@ use Rattle.fare_codes.specs.declared.currency.Currency.{Currency}
 use Rattle.fare_tariff.specs.declared.records.record.Record.{Record}
 use Rattle.fare_tariff.specs.declared.records.record.Record.TheVariants as filed
 use Rattle.fare_tariff.specs.declared.records.names.Names.TheVariants.{All}
+use Rattle.fare_tariff.specs.declared.limits.TheConstants.{MOST_DAYS, MOST_STOPS, MOST_TRANSFERS}
 use Rattle.fare_tariff.specs.Tariff.{Tariff}
 use Rattle.fare_trip.specs.declared.sector.Sector.{Sector}
 use Rattle.fare_trip.specs.Itinerary.{Itinerary}
+use Rattle.fare_drill.specs.declared.limits.TheConstants.{EXTRA_CITIES}
 use Rattle.fare_drill.specs.Cities.{city_count, city, city_record, extra_record}
 use Rattle.fare_drill.specs.Fares.{fares}
 use Rattle.fare_drill.specs.Miles.{pairs, permitted, ticketed, extra_miles}
@@ -30,11 +32,11 @@ currencies = currency_record (codes "XA") (codes "XXA") ∷ currency_record (cod
 abbrev pub rule_record : Record
 rule_record = filed.Rule (record {
   id = codes "A";
-  stops = 16;
-  transfers = 16;
+  stops = MOST_STOPS;
+  transfers = MOST_TRANSFERS;
   advance = 0;
   min_stay = 0;
-  max_stay = 999;
+  max_stay = MOST_DAYS;
   excess = true;
   units = All;
   ends = All;
@@ -42,7 +44,7 @@ rule_record = filed.Rule (record {
 
 -- how many extra cities there are where there are any: one for each two letters
 unfoldable pub extra_city_count : ℕ
-extra_city_count = 676
+extra_city_count = EXTRA_CITIES
 
 -- the extra cities, and miles between the first so many pairs of them; none of either where no miles are wanted
 unfoldable pub extra_records : ℕ → List Record

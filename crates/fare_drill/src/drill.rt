@@ -1,7 +1,7 @@
 //! The edition and the trip of a drill.
 
 ghost use Rattle.std.specs.Prelude.{◌≡◌, ◌≤◌, IfOk};
-ghost use Rattle.fare_drill.specs.declared.limits.TheConstants.{LAST_SEED, MOST_SECTORS, MOST_EXTRA};
+ghost use Rattle.fare_codes.specs.declared.limits.TheConstants.{LAST_SEED, MOST_EXTRA, MOST_SECTORS};
 ghost use Rattle.fare_drill.specs.Drill.{drill_tariff, drill_trip};
 
 use crate::edition::drill_edition;

@@ -1,7 +1,7 @@
 //! The edition of a drill.
 
 ghost use Rattle.std.specs.Prelude.{◌≡◌, ◌≤◌, IfOk};
-ghost use Rattle.fare_drill.specs.declared.limits.TheConstants.{MOST_SECTORS, MOST_EXTRA};
+ghost use Rattle.fare_codes.specs.declared.limits.TheConstants.{MOST_EXTRA, MOST_SECTORS};
 ghost use Rattle.fare_drill.specs.Drill.{drill_tariff};
 
 use crate::days::sale_day;

@@ -31,5 +31,4 @@ mod way;
 mod ways;
 
 pub use drill::drill_input;
-pub use limits::{LAST_SEED, MOST_EXTRA, MOST_SECTORS};
 pub use summary::drill_text;

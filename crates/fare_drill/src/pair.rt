@@ -9,7 +9,7 @@ pub(crate) struct Pair {
 
 impl Model for Pair {
     ghost use Rattle.std.specs.Prelude.{◌<◌};
-    ghost use Rattle.fare_drill.specs.declared.limits.TheConstants.{MOST_SECTORS};
+    ghost use Rattle.fare_codes.specs.declared.limits.TheConstants.{MOST_SECTORS};
     ghost use Rattle.fare_drill.specs.Miles.{NumberPair};
 
     ghost Value = { NumberPair };

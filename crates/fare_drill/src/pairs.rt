@@ -1,11 +1,10 @@
 //! The unordered pairs of numbers, first by the lesser one and then by the greater one.
 
 ghost use Rattle.std.specs.Prelude.{◌≡◌, ◌<◌, ◌≤◌, ◌++◌, OnOk, IfOk};
-ghost use Rattle.fare_drill.specs.declared.limits.TheConstants.{MOST_SECTORS};
 ghost use Rattle.fare_drill.specs.Miles.{pairs, pairs_from};
 
-use crate::limits::MOST_SECTORS;
 use crate::pair::Pair;
+use fare_codes::MOST_SECTORS;
 use fare_outside::NoMemory;
 use std::alloc::Global;
 
@@ -14,7 +13,7 @@ pub(crate) fn pairs(alloc: Global, count: u32) -> Result<Vec<Pair>, NoMemory>
     requires { count ≤ MOST_SECTORS }
     ensures { IfOk result (λ all. all.items ≡ pairs count) }
 {
-    let room = count as usize * MOST_SECTORS as usize / 2;
+    let room = count as usize * MOST_SECTORS / 2;
     let mut pairs = Vec::with_capacity(alloc, room)?;
     for first in 0..count {
         push_from(&mut pairs, count, first)?;

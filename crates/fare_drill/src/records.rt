@@ -2,7 +2,6 @@
 
 ghost use Rattle.std.specs.Prelude.{◌≡◌, ◌≤◌, ◌++◌, [], ◌∷◌, OnOk, IfOk, map};
 ghost use Rattle.std.specs.List.{range_with_len};
-ghost use Rattle.fare_drill.specs.declared.limits.TheConstants.{EXTRA_CITIES, MOST_SECTORS};
 ghost use Rattle.fare_drill.specs.Cities.{city_count, city_record, extra_record};
 ghost use Rattle.fare_drill.specs.Fares.{fares};
 ghost use Rattle.fare_drill.specs.Drill.{currency_record, currencies, rule_record, extra_records, base_records};
@@ -14,13 +13,15 @@ use crate::limits::EXTRA_CITIES;
 use crate::miles::{push_extra_miles, push_permitted, push_ticketed};
 use crate::pairs::pairs;
 use crate::ways::ways;
-use fare_codes::{Country, Currency, Mode, RuleId};
+use fare_codes::{Country, Currency, MOST_SECTORS, Mode, RuleId};
 use fare_outside::NoMemory;
-use fare_tariff::{CurRec, FiledRule, Names, Record, RuleRec};
+use fare_tariff::{
+    CurRec, FiledRule, MOST_DAYS, MOST_STOPS, MOST_TRANSFERS, Names, Record, RuleRec,
+};
 use std::alloc::Global;
 
 /// Room for the records of as many cities as there can be and for the extra cities.
-const ROOM: usize = 9 * 16 * 16 + 3 + 676;
+const ROOM: usize = 9 * MOST_SECTORS * MOST_SECTORS + 3 + EXTRA_CITIES as usize;
 
 /// The records of a drill.
 #[tactic(auto, unfolding(crate::specs::Drill::drill_records))]
@@ -101,11 +102,11 @@ fn rule_record(alloc: Global) -> Result<Record, NoMemory>
 {
     let rule = RuleRec {
         id: RuleId::read(b"A").unwrap(),
-        stops: 16,
-        transfers: 16,
+        stops: MOST_STOPS,
+        transfers: MOST_TRANSFERS,
         advance: 0,
         min_stay: 0,
-        max_stay: 999,
+        max_stay: MOST_DAYS,
         excess: true,
         units: Names::All,
         ends: Names::All,

@@ -2,13 +2,12 @@
 
 ghost use Rattle.std.specs.Prelude.{◌≡◌, ◌≤◌, map};
 ghost use Rattle.std.specs.List.{range_with_len};
-ghost use Rattle.fare_drill.specs.declared.limits.TheConstants.{MOST_SECTORS};
 ghost use Rattle.fare_drill.specs.Drill.{drill_point, drill_sector, drill_trip};
 
 use crate::cities::city;
 use crate::days::{sale_day, travel_day};
 use arrayvec::ArrayVec;
-use fare_codes::{Cabin, Carrier, City, Over};
+use fare_codes::{Cabin, Carrier, City, MOST_SECTORS, Over};
 use fare_trip::{Sector, Trip};
 
 /// The trip of a drill.
@@ -23,7 +22,7 @@ pub(crate) fn drill_trip(sectors: u32) -> Trip
 }
 
 /// The sectors of the trip.
-fn drill_sectors(sectors: u32) -> ArrayVec<Sector, 16>
+fn drill_sectors(sectors: u32) -> ArrayVec<Sector, MOST_SECTORS>
     requires { sectors ≤ MOST_SECTORS }
     ensures { result.items ≡ map (drill_sector sectors) (range_with_len 1 sectors) }
 {

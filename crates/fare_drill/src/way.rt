@@ -13,7 +13,7 @@ pub(crate) struct Way {
 
 impl Model for Way {
     ghost use Rattle.std.specs.Prelude.{◌<◌};
-    ghost use Rattle.fare_drill.specs.declared.limits.TheConstants.{MOST_SECTORS};
+    ghost use Rattle.fare_codes.specs.declared.limits.TheConstants.{MOST_SECTORS};
     ghost use Rattle.fare_drill.specs.Fares.{FareWay};
 
     ghost Value = { FareWay };

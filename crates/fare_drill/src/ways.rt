@@ -2,7 +2,7 @@
 
 ghost use Rattle.std.specs.Prelude.{◌≡◌, ◌<◌, ◌≤◌, ◌++◌, OnOk, IfOk, map};
 ghost use Rattle.std.specs.List.{flat_map};
-ghost use Rattle.fare_drill.specs.declared.limits.TheConstants.{MOST_SECTORS};
+ghost use Rattle.fare_codes.specs.declared.limits.TheConstants.{MOST_SECTORS};
 ghost use Rattle.fare_drill.specs.Fares.{carriers, rules, ways_between, ways_to, ways_from, ways};
 
 use crate::way::Way;

@@ -28,12 +28,12 @@ use Rattle.fare_floors.specs.Costs.{AreUnitFloors, or_nothing, part_least, true_
 use Rattle.fare_floors.specs.Floors.{IsFloorAnswer}
 use Rattle.fare_floors.specs.Joining.{is_stuck}
 use Rattle.fare_homing.specs.Ceiling.{IsWithin}
-use Rattle.fare_homing.specs.Homing.{IsUpTo, homing_at, is_same_city, may_end_at}
-use Rattle.fare_homing.specs.Rows.{cell, closing_from, jaw_from, AreHomingsOf}
-use Rattle.fare_floors.specs.Stack.{AreOver, IsOver, IsOverOpen, may_come_to}
+use Rattle.fare_homing.specs.Homing.{IsUpTo, closing_by, homing_at, is_same_city, may_end_at}
+use Rattle.fare_homing.specs.Rows.{begun_from, cell, closing_from, jaw_from, AreHomingsOf}
+use Rattle.fare_floors.specs.Stack.{AreOver, IsOver, IsOverOpen, has_more, may_come_to}
 use Rattle.fare_floors.specs.Barring.{left_of}
 use Rattle.fare_floors.proofs.BarringLemmas.{left_is_behind}
-use Rattle.fare_floors.proofs.OverLemmas.{all_over, alone_behind, apart, behind_front, behind_next, comes_home_later, ComesHome, fewer, first_by, last_behind, last_by, last_may, none_new, rises, within}
+use Rattle.fare_floors.proofs.OverLemmas.{all_over, alone_behind, apart, behind_front, behind_next, comes_home_later, ComesHome, fewer, first_by, last_behind, last_by, last_may, more_now, none_new, one_now, rises, within}
 use Rattle.fare_homing.proofs.ReachLemmas.{up_more}
 use Rattle.fare_floors.proofs.ShutLemmas.{own_behind}
 use Rattle.fare_floors.proofs.StackFloorLemmas.{first_is, firsts, has_first_in, not_stuck, not_shut, spent_up, within_is_floor}
@@ -80,7 +80,7 @@ module _ (table : Pricing) (homing : Homing) (are : AreHomingsOf table.edition t
   unit_is = ap (λ (p : Part). p.unit) (next_part front part rest)
 
   abbrev Stands : ℕ → ℕ → ℕ → ℕ → Type 0
-  Stands k u i cost = IsOver table.edition table.trip (closing_from homing) (jaw_from homing) (rest_at (left_of table.edition homing front)) (front ++ part ∷ rest) k u i cost
+  Stands k u i cost = IsOver table.edition table.trip (begun_from homing) (closing_from homing) (jaw_from homing) (rest_at (left_of table.edition homing front)) (front ++ part ∷ rest) k u i cost
 
   mine : Member (length front + 1) (own (front ++ part ∷ rest) (unit_of (front ++ part ∷ rest) (length front + 1)))
   mine = own_has table.edition table.trip (front ++ part ∷ rest) price lawful (length front + 1) (omega arith) high
@@ -95,18 +95,18 @@ module _ (table : Pricing) (homing : Homing) (are : AreHomingsOf table.edition t
   module _ (cost : ℕ) (over : Stands (length front + 1) (greatest_unit (front ++ part ∷ rest) (places (front ++ part ∷ rest))) (end_of (front ++ part ∷ rest) (length front + 1)) cost) where
     from_low : end_of front (length front) ≤ end_of (front ++ part ∷ rest) (length front + 1)
     from_low =
-        let rise : point_behind (front ++ part ∷ rest) (length front) < end_of (front ++ part ∷ rest) (length front + 1) = rises table.edition table.trip (front ++ part ∷ rest) price lawful homing.ceiling are.ceiling cheap (closing_from homing) (jaw_from homing) (cell homing.whole) (rest_at (left_of table.edition homing front)) (left_is_behind table homing are front (part ∷ rest) price lawful) (length front) high cost over in
+        let rise : point_behind (front ++ part ∷ rest) (length front) < end_of (front ++ part ∷ rest) (length front + 1) = rises table.edition table.trip (front ++ part ∷ rest) price lawful homing.ceiling are.ceiling cheap (begun_from homing) (closing_from homing) (jaw_from homing) (cell homing.whole) (rest_at (left_of table.edition homing front)) (left_is_behind table homing are front (part ∷ rest) price lawful) (length front) high cost over in
         let same : point_behind (front ++ part ∷ rest) (length front) ≡ end_of front (length front) = behind_front front (part ∷ rest) in
         omega arith
 
     to_end : end_of (front ++ part ∷ rest) (length front + 1) ≤ count table.trip
-    to_end = within table.edition table.trip (front ++ part ∷ rest) price lawful homing.ceiling are.ceiling cheap (closing_from homing) (jaw_from homing) (cell homing.whole) (rest_at (left_of table.edition homing front)) (left_is_behind table homing are front (part ∷ rest) price lawful) (length front) high cost over
+    to_end = within table.edition table.trip (front ++ part ∷ rest) price lawful homing.ceiling are.ceiling cheap (begun_from homing) (closing_from homing) (jaw_from homing) (cell homing.whole) (rest_at (left_of table.edition homing front)) (left_is_behind table homing are front (part ∷ rest) price lawful) (length front) high cost over
 
     -- the row of the part's unit is no more than what is over the units that go on behind it
     module _ (way : is_ow table.edition (front ++ part ∷ rest) (length front + 1) ≡ false) (under row : List (Option ℕ)) (known : AreOver table homing front (unit_of (front ++ part ∷ rest) (length front + 1) - 1) under) (start : ℕ) (begins : begins_at table.trip (front ++ part ∷ rest) (unit_of (front ++ part ∷ rest) (length front + 1)) ≡ start) (begun : Bool)
         (row_is : IsHalfRow table homing (end_of front (length front)) start begun under row) (earlier : begun ≡ true → first_of (own (front ++ part ∷ rest) (unit_of (front ++ part ∷ rest) (length front + 1))) < length front + 1)
         (now : begun ≡ false → first_of (own (front ++ part ∷ rest) (unit_of (front ++ part ∷ rest) (length front + 1))) ≡ length front + 1) where
-      here : IsOverOpen table.trip homing (end_of (front ++ part ∷ rest) (length front + 1) + 1) (end_of (front ++ part ∷ rest) (length front + 1)) start (must_go_from table.edition table.trip start begun (end_of (front ++ part ∷ rest) (length front + 1))) (end_of (front ++ part ∷ rest) (length front + 1)) row_is.0
+      here : IsOverOpen table.trip homing (end_of (front ++ part ∷ rest) (length front + 1) + 1) begun (end_of (front ++ part ∷ rest) (length front + 1)) start (must_go_from table.edition table.trip start begun (end_of (front ++ part ∷ rest) (length front + 1))) (end_of (front ++ part ∷ rest) (length front + 1)) row_is.0
           (rest_at under (end_of (front ++ part ∷ rest) (length front + 1))) (rest_at row (end_of (front ++ part ∷ rest) (length front + 1)))
       here = row_is.2 (end_of (front ++ part ∷ rest) (length front + 1)) from_low to_end
 
@@ -114,20 +114,20 @@ module _ (table : Pricing) (homing : Homing) (are : AreHomingsOf table.edition t
       as_last last =
           let up : IsUpTo cost (rest_at under (end_of (front ++ part ∷ rest) (length front + 1))) =
           known (part ∷ rest) price (end_of (front ++ part ∷ rest) (length front + 1)) cost lawful cheap from_low to_end
-          (last_behind table.edition table.trip (front ++ part ∷ rest) price lawful homing.ceiling are.ceiling cheap (closing_from homing) (jaw_from homing) (cell homing.whole) (rest_at (left_of table.edition homing front)) (left_is_behind table homing are front (part ∷ rest) price lawful) (length front) high cost over way last) in
+          (last_behind table.edition table.trip (front ++ part ∷ rest) price lawful homing.ceiling are.ceiling cheap (begun_from homing) (closing_from homing) (jaw_from homing) (cell homing.whole) (rest_at (left_of table.edition homing front)) (left_is_behind table homing are front (part ∷ rest) price lawful) (length front) high cost over way last) in
           let P : ℕ → Type 0 = λ a. may_end_at table.edition table.trip a (end_of (front ++ part ∷ rest) (length front + 1)) ≡ true in
-          let may : may_end_at table.edition table.trip start (end_of (front ++ part ∷ rest) (length front + 1)) ≡ true = subst P begins (last_may table.edition table.trip (front ++ part ∷ rest) price lawful homing.ceiling are.ceiling cheap (closing_from homing) (jaw_from homing) (cell homing.whole) (rest_at (left_of table.edition homing front)) (left_is_behind table homing are front (part ∷ rest) price lawful) (length front) high cost over way last) in
+          let may : may_end_at table.edition table.trip start (end_of (front ++ part ∷ rest) (length front + 1)) ≡ true = subst P begins (last_may table.edition table.trip (front ++ part ∷ rest) price lawful homing.ceiling are.ceiling cheap (begun_from homing) (closing_from homing) (jaw_from homing) (cell homing.whole) (rest_at (left_of table.edition homing front)) (left_is_behind table homing are front (part ∷ rest) price lawful) (length front) high cost over way last) in
           elim (cases_Bool begun) [
             | inl t ↦
                 let free : must_go_from table.edition table.trip start begun (end_of (front ++ part ∷ rest) (length front + 1)) ≡ false = rw (t, may) refl in
                 here.whole free cost up
             | inr f ↦
                 let first : first_of (own (front ++ part ∷ rest) (unit_of (front ++ part ∷ rest) (length front + 1))) ≡ length front + 1 = now f in
-                let two : first_of (own (front ++ part ∷ rest) (unit_of (front ++ part ∷ rest) (length front + 1))) < last_of (own (front ++ part ∷ rest) (unit_of (front ++ part ∷ rest) (length front + 1))) = apart table.edition table.trip (front ++ part ∷ rest) price lawful homing.ceiling are.ceiling cheap (closing_from homing) (jaw_from homing) (cell homing.whole) (rest_at (left_of table.edition homing front)) (left_is_behind table homing are front (part ∷ rest) price lawful) (length front) high cost over way in
+                let two : first_of (own (front ++ part ∷ rest) (unit_of (front ++ part ∷ rest) (length front + 1))) < last_of (own (front ++ part ∷ rest) (unit_of (front ++ part ∷ rest) (length front + 1))) = apart table.edition table.trip (front ++ part ∷ rest) price lawful homing.ceiling are.ceiling cheap (begun_from homing) (closing_from homing) (jaw_from homing) (cell homing.whole) (rest_at (left_of table.edition homing front)) (left_is_behind table homing are front (part ∷ rest) price lawful) (length front) high cost over way in
                 absurd (omega arith)
           ]
 
-      may_home : ComesHome table.edition table.trip (front ++ part ∷ rest) price lawful homing.ceiling are.ceiling cheap (closing_from homing) (jaw_from homing) (cell homing.whole) (rest_at (left_of table.edition homing front)) (left_is_behind table homing are front (part ∷ rest) price lawful) (length front) high cost over way
+      may_home : ComesHome table.edition table.trip (front ++ part ∷ rest) price lawful homing.ceiling are.ceiling cheap (begun_from homing) (closing_from homing) (jaw_from homing) (cell homing.whole) (rest_at (left_of table.edition homing front)) (left_is_behind table homing are front (part ∷ rest) price lawful) (length front) high cost over way
           → may_come_to table.edition table.trip start begun (home_at (front ++ part ∷ rest) (unit_of (front ++ part ∷ rest) (length front + 1))) ≡ true
       may_home h =
           let P : ℕ → Type 0 = λ a. is_same_city table.trip a (home_at (front ++ part ∷ rest) (unit_of (front ++ part ∷ rest) (length front + 1))) ≡ true in
@@ -137,14 +137,23 @@ module _ (table : Pricing) (homing : Homing) (are : AreHomingsOf table.edition t
             | inr f ↦ rw f (subst Q begins h.may)
           ]
 
+      -- with the part its unit has more than one where it had one before
+      more_is : has_more (front ++ part ∷ rest) (length front + 1) (unit_of (front ++ part ∷ rest) (length front + 1)) ≡ begun
+      more_is =
+          elim (cases_Bool begun) [
+            | inl t ↦ more_now table.edition table.trip (front ++ part ∷ rest) price lawful homing.ceiling are.ceiling cheap (begun_from homing) (closing_from homing) (jaw_from homing) (cell homing.whole) (rest_at (left_of table.edition homing front)) (left_is_behind table homing are front (part ∷ rest) price lawful) (length front) high cost over way (earlier t) ∙ sym t
+            | inr f ↦ one_now table.edition table.trip (front ++ part ∷ rest) price lawful homing.ceiling are.ceiling cheap (begun_from homing) (closing_from homing) (jaw_from homing) (cell homing.whole) (rest_at (left_of table.edition homing front)) (left_is_behind table homing are front (part ∷ rest) price lawful) (length front) high cost over way (now f) ∙ sym f
+          ]
+
       as_open : length front + 1 < last_of (own (front ++ part ∷ rest) (unit_of (front ++ part ∷ rest) (length front + 1))) → IsUpTo cost (rest_at row (end_of (front ++ part ∷ rest) (length front + 1)))
       as_open less =
-          let h = comes_home_later table.edition table.trip (front ++ part ∷ rest) price lawful homing.ceiling are.ceiling cheap (closing_from homing) (jaw_from homing) (cell homing.whole) (rest_at (left_of table.edition homing front)) (left_is_behind table homing are front (part ∷ rest) price lawful) (length front) high cost over way less in
+          let h = comes_home_later table.edition table.trip (front ++ part ∷ rest) price lawful homing.ceiling are.ceiling cheap (begun_from homing) (closing_from homing) (jaw_from homing) (cell homing.whole) (rest_at (left_of table.edition homing front)) (left_is_behind table homing are front (part ∷ rest) price lawful) (length front) high cost over way less in
           let home : ℕ = home_at (front ++ part ∷ rest) (unit_of (front ++ part ∷ rest) (length front + 1)) in
           let from : end_of front (length front) ≤ end_of (front ++ part ∷ rest) (length front + 1) = from_low in
           let later : end_of (front ++ part ∷ rest) (length front + 1) < home_at (front ++ part ∷ rest) (unit_of (front ++ part ∷ rest) (length front + 1)) = h.later in
-          let P : ℕ → Type 0 = λ a. IsUpTo h.until (homing_at table.trip (closing_from homing (end_of (front ++ part ∷ rest) (length front + 1))) (jaw_from homing (end_of (front ++ part ∷ rest) (length front + 1))) a (end_of (front ++ part ∷ rest) (length front + 1)) (home_at (front ++ part ∷ rest) (unit_of (front ++ part ∷ rest) (length front + 1)))) in
-          let until = subst P begins h.homing in
+          let B : Bool → Type 0 = λ more. IsUpTo h.until (homing_at table.trip (closing_by more (begun_from homing) (closing_from homing) (end_of (front ++ part ∷ rest) (length front + 1))) (jaw_from homing (end_of (front ++ part ∷ rest) (length front + 1))) (begins_at table.trip (front ++ part ∷ rest) (unit_of (front ++ part ∷ rest) (length front + 1))) (end_of (front ++ part ∷ rest) (length front + 1)) (home_at (front ++ part ∷ rest) (unit_of (front ++ part ∷ rest) (length front + 1)))) in
+          let P : ℕ → Type 0 = λ a. IsUpTo h.until (homing_at table.trip (closing_by begun (begun_from homing) (closing_from homing) (end_of (front ++ part ∷ rest) (length front + 1))) (jaw_from homing (end_of (front ++ part ∷ rest) (length front + 1))) a (end_of (front ++ part ∷ rest) (length front + 1)) (home_at (front ++ part ∷ rest) (unit_of (front ++ part ∷ rest) (length front + 1)))) in
+          let until = subst P begins (subst B more_is h.homing) in
           let then_up = known (part ∷ rest) price (home_at (front ++ part ∷ rest) (unit_of (front ++ part ∷ rest) (length front + 1))) h.left_over lawful cheap (omega arith) h.home_within h.stands in
           let there : rest_at row_is.0 (home_at (front ++ part ∷ rest) (unit_of (front ++ part ∷ rest) (length front + 1))) ≡ rest_at under (home_at (front ++ part ∷ rest) (unit_of (front ++ part ∷ rest) (length front + 1))) =
           row_is.1 (home_at (front ++ part ∷ rest) (unit_of (front ++ part ∷ rest) (length front + 1))) (omega arith) h.home_within (may_home h) in
@@ -156,7 +165,7 @@ module _ (table : Pricing) (homing : Homing) (are : AreHomingsOf table.edition t
 
       row_is_under : IsUpTo cost (rest_at row (end_of (front ++ part ∷ rest) (length front + 1)))
       row_is_under =
-          let most : length front + 1 ≤ last_of (own (front ++ part ∷ rest) (unit_of (front ++ part ∷ rest) (length front + 1))) = last_by table.edition table.trip (front ++ part ∷ rest) price lawful homing.ceiling are.ceiling cheap (closing_from homing) (jaw_from homing) (cell homing.whole) (rest_at (left_of table.edition homing front)) (left_is_behind table homing are front (part ∷ rest) price lawful) (length front) high cost over in
+          let most : length front + 1 ≤ last_of (own (front ++ part ∷ rest) (unit_of (front ++ part ∷ rest) (length front + 1))) = last_by table.edition table.trip (front ++ part ∷ rest) price lawful homing.ceiling are.ceiling cheap (begun_from homing) (closing_from homing) (jaw_from homing) (cell homing.whole) (rest_at (left_of table.edition homing front)) (left_is_behind table homing are front (part ∷ rest) price lawful) (length front) high cost over in
           elim (cases_eq (last_of (own (front ++ part ∷ rest) (unit_of (front ++ part ∷ rest) (length front + 1)))) (length front + 1)) [
             | inl last ↦ as_last last
             | inr other ↦ as_open (above (last_of (own (front ++ part ∷ rest) (unit_of (front ++ part ∷ rest) (length front + 1)))) (length front + 1) most other)
@@ -197,10 +206,10 @@ module _ (table : Pricing) (homing : Homing) (are : AreHomingsOf table.edition t
       (row_is_under table homing are front part rest price lawful cheap cost over way under row (subst P below_it known) start begins false row_is (λ t. absurd (true_false (sym t))) (λ f. first))
     where
       first_now : (part : Part) (rest : List Part) (price cost : ℕ) (lawful : IsLawful table.edition table.trip (front ++ part ∷ rest) price) (cheap : IsWithin homing.ceiling price)
-          → IsOver table.edition table.trip (closing_from homing) (jaw_from homing) (rest_at (left_of table.edition homing front)) (front ++ part ∷ rest) (length front + 1) (greatest_unit (front ++ part ∷ rest) (places (front ++ part ∷ rest))) (end_of (front ++ part ∷ rest) (length front + 1)) cost
+          → IsOver table.edition table.trip (begun_from homing) (closing_from homing) (jaw_from homing) (rest_at (left_of table.edition homing front)) (front ++ part ∷ rest) (length front + 1) (greatest_unit (front ++ part ∷ rest) (places (front ++ part ∷ rest))) (end_of (front ++ part ∷ rest) (length front + 1)) cost
           → unit_of (front ++ part ∷ rest) (length front + 1) ≡ unit → unit ≡ greatest_unit front (places front) + 1 → first_of (own (front ++ part ∷ rest) (unit_of (front ++ part ∷ rest) (length front + 1))) ≡ length front + 1
       first_now part rest price cost lawful cheap over e new =
-          let most : first_of (own (front ++ part ∷ rest) (unit_of (front ++ part ∷ rest) (length front + 1))) ≤ length front + 1 = first_by table.edition table.trip (front ++ part ∷ rest) price lawful homing.ceiling are.ceiling cheap (closing_from homing) (jaw_from homing) (cell homing.whole) (rest_at (left_of table.edition homing front)) (left_is_behind table homing are front (part ∷ rest) price lawful) (length front) (high table homing are front part rest price lawful cheap) cost over in
+          let most : first_of (own (front ++ part ∷ rest) (unit_of (front ++ part ∷ rest) (length front + 1))) ≤ length front + 1 = first_by table.edition table.trip (front ++ part ∷ rest) price lawful homing.ceiling are.ceiling cheap (begun_from homing) (closing_from homing) (jaw_from homing) (cell homing.whole) (rest_at (left_of table.edition homing front)) (left_is_behind table homing are front (part ∷ rest) price lawful) (length front) (high table homing are front part rest price lawful cheap) cost over in
           elim (cases_eq (first_of (own (front ++ part ∷ rest) (unit_of (front ++ part ∷ rest) (length front + 1)))) (length front + 1)) [
             | inl same ↦ same
             | inr other ↦ absurd (not_before (below (first_of (own (front ++ part ∷ rest) (unit_of (front ++ part ∷ rest) (length front + 1)))) (length front + 1) most other))
@@ -251,12 +260,12 @@ module _ (table : Pricing) (homing : Homing) (are : AreHomingsOf table.edition t
         (ahead.spent + part_least table.edition table.trip (front ++ part ∷ rest) (length front + 1) + up.0, ap (option_map (λ more. ahead.spent + part_least table.edition table.trip (front ++ part ∷ rest) (length front + 1) + more)) up.1, omega arith)
 
     next_over : (part : Part) (rest : List Part) (price : ℕ) → IsLawful table.edition table.trip (front ++ part ∷ rest) price → IsWithin homing.ceiling price
-        → IsOver table.edition table.trip (closing_from homing) (jaw_from homing) (rest_at (left_of table.edition homing front)) (front ++ part ∷ rest) (length front + 1) (greatest_unit (front ++ part ∷ rest) (places (front ++ part ∷ rest))) (end_of (front ++ part ∷ rest) (length front + 1))
+        → IsOver table.edition table.trip (begun_from homing) (closing_from homing) (jaw_from homing) (rest_at (left_of table.edition homing front)) (front ++ part ∷ rest) (length front + 1) (greatest_unit (front ++ part ∷ rest) (places (front ++ part ∷ rest))) (end_of (front ++ part ∷ rest) (length front + 1))
         (sum_by (true_cost table.edition table.trip (front ++ part ∷ rest)) (range_with_len (length front + 1 + 1) (length rest)))
     next_over part rest price lawful cheap =
         let n : length (front ++ part ∷ rest) ≡ length front + suc (length rest) = length-append front (part ∷ rest) in
-        let P : ℕ → Type 0 = λ j. IsOver table.edition table.trip (closing_from homing) (jaw_from homing) (rest_at (left_of table.edition homing front)) (front ++ part ∷ rest) (length front + 1) (greatest_unit (front ++ part ∷ rest) (places (front ++ part ∷ rest))) j (sum_by (true_cost table.edition table.trip (front ++ part ∷ rest)) (range_with_len (length front + 1 + 1) (length rest))) in
-        subst P (behind_next (front ++ part ∷ rest) (length front)) (all_over table.edition table.trip (front ++ part ∷ rest) price lawful homing.ceiling are.ceiling cheap (closing_from homing) (jaw_from homing) (cell homing.whole) (rest_at (left_of table.edition homing front)) (left_is_behind table homing are front (part ∷ rest) price lawful) (length rest) (length front + 1) (omega arith) (omega arith))
+        let P : ℕ → Type 0 = λ j. IsOver table.edition table.trip (begun_from homing) (closing_from homing) (jaw_from homing) (rest_at (left_of table.edition homing front)) (front ++ part ∷ rest) (length front + 1) (greatest_unit (front ++ part ∷ rest) (places (front ++ part ∷ rest))) j (sum_by (true_cost table.edition table.trip (front ++ part ∷ rest)) (range_with_len (length front + 1 + 1) (length rest))) in
+        subst P (behind_next (front ++ part ∷ rest) (length front)) (all_over table.edition table.trip (front ++ part ∷ rest) price lawful homing.ceiling are.ceiling cheap (begun_from homing) (closing_from homing) (jaw_from homing) (cell homing.whole) (rest_at (left_of table.edition homing front)) (left_is_behind table homing are front (part ∷ rest) price lawful) (length rest) (length front + 1) (omega arith) (omega arith))
 
     alone_by : AreOver table homing front (greatest_unit front (places front)) ahead.alone → (part : Part) (rest : List Part) (price : ℕ) → IsLawful table.edition table.trip (front ++ part ∷ rest) price → IsWithin homing.ceiling price → is_ow table.edition (front ++ part ∷ rest) (length front + 1) ≡ true
         → IsBehindNext table front part rest price ahead.spent (rest_at ahead.alone part.end)
@@ -264,8 +273,8 @@ module _ (table : Pricing) (homing : Homing) (are : AreHomingsOf table.edition t
         let over = next_over part rest price lawful cheap in
         let cost : ℕ = sum_by (true_cost table.edition table.trip (front ++ part ∷ rest)) (range_with_len (length front + 1 + 1) (length rest)) in
         let up_to_end = high table homing are front part rest price lawful cheap in
-        let o = alone_behind table.edition table.trip (front ++ part ∷ rest) price lawful homing.ceiling are.ceiling cheap (closing_from homing) (jaw_from homing) (cell homing.whole) (rest_at (left_of table.edition homing front)) (left_is_behind table homing are front (part ∷ rest) price lawful) (length front) up_to_end (sum_by (true_cost table.edition table.trip (front ++ part ∷ rest)) (range_with_len (length front + 1 + 1) (length rest))) over way in
-        let down = over_down table.edition table.trip (closing_from homing) (jaw_from homing) (rest_at (left_of table.edition homing front)) (front ++ part ∷ rest) (length front) (greatest_unit front (places front)) (greatest_unit (front ++ part ∷ rest) (places (front ++ part ∷ rest))) (end_of (front ++ part ∷ rest) (length front + 1))
+        let o = alone_behind table.edition table.trip (front ++ part ∷ rest) price lawful homing.ceiling are.ceiling cheap (begun_from homing) (closing_from homing) (jaw_from homing) (cell homing.whole) (rest_at (left_of table.edition homing front)) (left_is_behind table homing are front (part ∷ rest) price lawful) (length front) up_to_end (sum_by (true_cost table.edition table.trip (front ++ part ∷ rest)) (range_with_len (length front + 1 + 1) (length rest))) over way in
+        let down = over_down table.edition table.trip (begun_from homing) (closing_from homing) (jaw_from homing) (rest_at (left_of table.edition homing front)) (front ++ part ∷ rest) (length front) (greatest_unit front (places front)) (greatest_unit (front ++ part ∷ rest) (places (front ++ part ∷ rest))) (end_of (front ++ part ∷ rest) (length front + 1))
         (sum_by (true_cost table.edition table.trip (front ++ part ∷ rest)) (range_with_len (length front + 1 + 1) (length rest))) (fewer table.edition table.trip front (part ∷ rest) price lawful) (λ v low most. none_new table.edition table.trip front (part ∷ rest) price lawful v low) o in
         let S : ℕ → Type 0 = λ i. IsUpTo (sum_by (true_cost table.edition table.trip (front ++ part ∷ rest)) (range_with_len (length front + 1 + 1) (length rest))) (rest_at ahead.alone i) in
         by_cost part rest price lawful cheap (rest_at ahead.alone part.end)

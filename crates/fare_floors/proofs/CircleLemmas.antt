@@ -155,6 +155,28 @@ at_least_minimum sum m None e = absurd (none-some m e)
     none-some n e = cc
 at_least_minimum sum m (Some x) e = let same : x ≡ m = same_Some x m e in omega arith
 
+-- a circle trip costs no less than twice the reference to where an earlier part ends
+module _ (tariff : Tariff) (trip : Itinerary) (parts : List Part) (cost : ℕ) (lawful : IsLawful tariff trip parts cost) (k : ℕ) (low : 1 ≤ k) (high : k ≤ length parts) (less : k < last_of (own parts (unit_of parts k))) (circle : unit_kind tariff trip parts (own parts (unit_of parts k)) ≡ CT) where
+  priced : unit_price tariff trip parts (unit_of parts k) ≡ at_least (unit_sum tariff trip parts (own parts (unit_of parts k))) (unit_circle_minimum tariff trip parts (own parts (unit_of parts k)))
+  unfolding unit_sheet unit_minimum
+  priced = rw circle refl
+
+  pub turning_in_unit : (amount : ℕ) → circle_reference tariff trip parts (own parts (unit_of parts k)) k (end_of parts k) ≡ Some amount → 2 * amount ≤ unit_price tariff trip parts (unit_of parts k)
+  unfolding unit_circle_minimum
+  turning_in_unit amount e =
+      let other : eqb k (last_of (own parts (unit_of parts k))) ≡ false = ne_eqb k (last_of (own parts (unit_of parts k))) (λ same. omega arith) in
+      let R : ℕ → Option ℕ = circle_reference tariff trip parts (own parts (unit_of parts k)) k in
+      let end : Member (end_of parts k) (part_points trip parts k) = member_right (end_of parts k) (part_stopovers trip parts k) (end_of parts k ∷ []) (inl refl) in
+      let in_part = greatest_up R (part_points trip parts k) (end_of parts k) amount end e in
+      let turning : greatest_turning tariff trip parts (own parts (unit_of parts k)) k ≡ Some in_part.0 = rw other in_part.1 in
+      let in_unit = greatest_up (greatest_turning tariff trip parts (own parts (unit_of parts k))) (own parts (unit_of parts k)) k in_part.0 (own_has tariff trip parts cost lawful k low high) turning in
+      let minimum : unit_circle_minimum tariff trip parts (own parts (unit_of parts k)) ≡ Some (2 * in_unit.0) = ap (option_map twice) in_unit.1 in
+      let up : 2 * in_unit.0 ≤ at_least (unit_sum tariff trip parts (own parts (unit_of parts k))) (unit_circle_minimum tariff trip parts (own parts (unit_of parts k))) = at_least_minimum (unit_sum tariff trip parts (own parts (unit_of parts k))) (2 * in_unit.0) (unit_circle_minimum tariff trip parts (own parts (unit_of parts k))) minimum in
+      let is : unit_price tariff trip parts (unit_of parts k) ≡ at_least (unit_sum tariff trip parts (own parts (unit_of parts k))) (unit_circle_minimum tariff trip parts (own parts (unit_of parts k))) = priced in
+      let a : amount ≤ in_part.0 = in_part.2 in
+      let b : in_part.0 ≤ in_unit.0 = in_unit.2 in
+      omega arith
+
 module _ (tariff : Tariff) (trip : Itinerary) (parts : List Part) (cost : ℕ) (lawful : IsLawful tariff trip parts cost) (k : ℕ) (low : 1 ≤ k) (high : k ≤ length parts) (none : holds_ow tariff parts (own parts (unit_of parts k)) ≡ false) (long : 3 ≤ length (own parts (unit_of parts k))) (less : k < last_of (own parts (unit_of parts k))) where
   abbrev mine : List ℕ
   mine = own parts (unit_of parts k)
@@ -162,10 +184,6 @@ module _ (tariff : Tariff) (trip : Itinerary) (parts : List Part) (cost : ℕ) (
   circle : unit_kind tariff trip parts (own parts (unit_of parts k)) ≡ CT
   unfolding unit_kind is_open_jaw is_round_trip
   circle = rw (none, no_jaw tariff trip parts (own parts (unit_of parts k)) long, not_two (part_cost tariff trip parts (own parts (unit_of parts k))) (own parts (unit_of parts k)) long, and_false (closes trip parts (own parts (unit_of parts k)))) refl
-
-  priced : unit_price tariff trip parts (unit_of parts k) ≡ at_least (unit_sum tariff trip parts (own parts (unit_of parts k))) (unit_circle_minimum tariff trip parts (own parts (unit_of parts k)))
-  unfolding unit_sheet unit_minimum
-  priced = rw circle refl
 
   -- no unit costs more than all
   unit_in_price : unit_price tariff trip parts (unit_of parts k) ≤ cost
@@ -180,20 +198,9 @@ module _ (tariff : Tariff) (trip : Itinerary) (parts : List Part) (cost : ℕ) (
 
   -- twice the reference to where an earlier part ends is no more than the price
   turning_up : (amount : ℕ) → circle_reference tariff trip parts (own parts (unit_of parts k)) k (end_of parts k) ≡ Some amount → 2 * amount ≤ cost
-  unfolding unit_circle_minimum
   turning_up amount e =
-      let other : eqb k (last_of (own parts (unit_of parts k))) ≡ false = ne_eqb k (last_of (own parts (unit_of parts k))) (λ same. omega arith) in
-      let R : ℕ → Option ℕ = circle_reference tariff trip parts (own parts (unit_of parts k)) k in
-      let end : Member (end_of parts k) (part_points trip parts k) = member_right (end_of parts k) (part_stopovers trip parts k) (end_of parts k ∷ []) (inl refl) in
-      let in_part = greatest_up R (part_points trip parts k) (end_of parts k) amount end e in
-      let turning : greatest_turning tariff trip parts (own parts (unit_of parts k)) k ≡ Some in_part.0 = rw other in_part.1 in
-      let in_unit = greatest_up (greatest_turning tariff trip parts (own parts (unit_of parts k))) (own parts (unit_of parts k)) k in_part.0 (own_has tariff trip parts cost lawful k low high) turning in
-      let minimum : unit_circle_minimum tariff trip parts (own parts (unit_of parts k)) ≡ Some (2 * in_unit.0) = ap (option_map twice) in_unit.1 in
-      let up : 2 * in_unit.0 ≤ at_least (unit_sum tariff trip parts (own parts (unit_of parts k))) (unit_circle_minimum tariff trip parts (own parts (unit_of parts k))) = at_least_minimum (unit_sum tariff trip parts (own parts (unit_of parts k))) (2 * in_unit.0) (unit_circle_minimum tariff trip parts (own parts (unit_of parts k))) minimum in
-      let is : unit_price tariff trip parts (unit_of parts k) ≡ at_least (unit_sum tariff trip parts (own parts (unit_of parts k))) (unit_circle_minimum tariff trip parts (own parts (unit_of parts k))) = priced in
+      let up : 2 * amount ≤ unit_price tariff trip parts (unit_of parts k) = turning_in_unit tariff trip parts cost lawful k low high less circle amount e in
       let most : unit_price tariff trip parts (unit_of parts k) ≤ cost = unit_in_price in
-      let a : amount ≤ in_part.0 = in_part.2 in
-      let b : in_part.0 ≤ in_unit.0 = in_unit.2 in
       omega arith
 
   module _ (ceiling : Ceiling) (alike : HasOneIndicator tariff trip ceiling.indicator) (within : cost ≤ ceiling.price) (home : ℕ) (city : point trip home ≡ origin trip parts (own parts (unit_of parts k))) where

@@ -23,6 +23,7 @@ pub mod LastPartLemmas
 pub mod OverLastLemmas
 pub mod GoesOnLemmas
 pub mod TrueCostLemmas
+pub mod OwedLemmas
 pub mod OverLemmas
 pub mod AddedLemmas
 pub mod AheadLemmas

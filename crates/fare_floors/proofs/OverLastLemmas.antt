@@ -77,8 +77,9 @@ module _ (table : Pricing) (homing : Homing) (front : List Part) (u : ℕ) (high
           let back = back_costs table.edition table.trip (front ++ rest) price lawful (last_of (own (front ++ rest) (suc u))) (omega arith) g.within (not_ow table.edition table.trip front rest price lawful (suc u) (omega arith) high on) own_last in
           let least = over_row.lasts i (start_of table.trip (front ++ rest) (last_of (own (front ++ rest) (suc u)))) low begins (end_of (front ++ rest) (last_of (own (front ++ rest) (suc u)))) then.0
           (entry table.edition table.trip (front ++ rest) price lawful (last_of (own (front ++ rest) (suc u)))) (there ∙ then.1) (entry_there table.edition table.trip (front ++ rest) price lawful (last_of (own (front ++ rest) (suc u))) (omega arith) g.within)
-          (true_cost table.edition table.trip (front ++ rest) (last_of (own (front ++ rest) (suc u)))) back (fits_by_unit table.edition table.trip front rest price lawful (suc u) (omega arith) high on) in
-          up_more (true_cost table.edition table.trip (front ++ rest) (last_of (own (front ++ rest) (suc u))) + then.0) cost (rest_at row i) (omega arith) least
+          back.0 back.1 (fits_by_unit table.edition table.trip front rest price lawful (suc u) (omega arith) high on) in
+          let low_back : back.0 ≤ true_cost table.edition table.trip (front ++ rest) (last_of (own (front ++ rest) (suc u))) = back.2 in
+          up_more (back.0 + then.0) cost (rest_at row i) (omega arith) least
 
 -- the same by the number of the unit
 pub over_lasts_unit : (table : Pricing) (homing : Homing) (front : List Part) (unit : ℕ) → 1 ≤ unit → unit ≤ greatest_unit front (places front) → (behind : List (Option ℕ)) → AreOver table homing front (unit - 1) behind

@@ -1,6 +1,6 @@
 -- What the parts behind a place of a lawful construction cost is over the units that go on there.
 use Rattle.std.proofs.Common.{◌≡◌, ℕ, zero, suc, ◌+◌, ◌-◌, ◌<◌, ◌≤◌, Bool, true, false, ◌&&◌, not, leb, List, [], ◌∷◌, ◌++◌, length, refl, ap, sym, subst, ◌∙◌, inl, inr, arith}
-use Rattle.std.specs.Prelude.{Option, Some, Contains, sum_by, bytes_eq}
+use Rattle.std.specs.Prelude.{Option, Some, Contains, filter, sum_by, bytes_eq}
 use Rattle.std.specs.List.{range_with_len, list_any}
 use Rattle.std.proofs.Math.ListN.{length-append}
 use Rattle.std.proofs.lemmas.Bool.{cases_Bool, cases_lt, cases_eq, and_parts, leb-true, lt-leb, or_parts}
@@ -10,7 +10,8 @@ use Rattle.fare_trip.specs.Itinerary.{Itinerary, count, point}
 use Rattle.fare_tariff.specs.Tariff.{Tariff}
 use Rattle.fare_rules.specs.declared.part.Part.{Part}
 use Rattle.fare_rules.specs.Span.{is_surface, sectors}
-use Rattle.fare_rules.specs.Construction.{begin_after, part_at, start_of, end_of, places, own, origin, unit_of, first_of, last_of, but_last, greatest_unit}
+use Rattle.fare_rules.specs.Numbers.{numbers}
+use Rattle.fare_rules.specs.Construction.{begin_after, part_at, start_of, end_of, places, own, is_own, origin, unit_of, first_of, last_of, but_last, greatest_unit}
 use Rattle.fare_rules.specs.Lawful.{holds_gap}
 use Rattle.fare_rules.specs.Shape.{is_ow, holds_ow, is_jaw, ends_in, comes_home, comes_home_early, ends_at_home, lie_together}
 use Rattle.fare_rules.proofs.MemberLemmas.{Member}
@@ -23,7 +24,9 @@ use Rattle.fare_units.proofs.NextLemmas.{front_unit, greatest_same}
 use Rattle.fare_component.specs.Table.{entries_of}
 use Rattle.fare_homing.specs.declared.ceiling.Ceiling.{Ceiling}
 use Rattle.fare_homing.specs.Ceiling.{IsCeiling, IsWithin, below_ceiling}
-use Rattle.fare_homing.specs.Homing.{IsUpTo, homing_at, is_same_city, may_end_at, may_go_on, back_cost, between_cost, heads_to}
+use Rattle.fare_homing.specs.Homing.{IsUpTo, closing_by, homing_at, is_same_city, may_end_at, may_go_on, back_cost, between_cost, heads_to}
+use Rattle.fare_homing.specs.HomingRows.{IsLast, IsPart}
+use Rattle.fare_homing.specs.Owed.{IsOwed}
 use Rattle.fare_homing.specs.Barred.{is_barred}
 use Rattle.fare_floors.proofs.CircleLemmas.{below_every}
 use Rattle.fare_floors.proofs.CostLemmas.{member_place, unit_from_one}
@@ -34,12 +37,14 @@ use Rattle.fare_homing.specs.Pairs.{HasPair}
 use Rattle.fare_floors.proofs.PairLemmas.{pair_of}
 use Rattle.fare_floors.proofs.OnwardLemmas.{ends_rise, must_close_from, closed_whole, ends_home, either_left, either_right}
 use Rattle.fare_floors.specs.Costs.{true_cost}
-use Rattle.fare_floors.specs.Stack.{goes_on, stand_of, IsOver, LastsBy}
-use Rattle.fare_homing.proofs.UnderLemmas.{alone_free_under, alone_under, between_under, first_free_under, first_under, last_closes_under, last_jaw_under, nothing_free_left}
+use Rattle.fare_floors.specs.Stack.{goes_on, has_more, own_to, stand_of, IsOver, LastsBy}
+use Rattle.fare_homing.proofs.ReachLemmas.{up_more}
+use Rattle.fare_homing.proofs.UnderLemmas.{alone_free_under, alone_under, between_under, first_free_under, first_under, last_closes_under, last_jaw_under, nothing_free_left, second_closes_under}
 use Rattle.fare_floors.proofs.StackLemmas.{IsBehind, home_at, begins_at, lasts_more, AreSame, over_more, over_same, over_down, over_up, Opens, opens, from_open, step_over}
 use Rattle.fare_floors.proofs.ShutLemmas.{any_at, long_ends_at_home}
-use Rattle.fare_floors.proofs.StandLemmas.{point_behind, ends_before, begins_between, begins_near, begins_there, stand_here, stand_low, stand_over}
-use Rattle.fare_floors.proofs.SumLemmas.{greatest_fewer, unit_up_to}
+use Rattle.fare_floors.proofs.OwedLemmas.{owes, pair_at}
+use Rattle.fare_floors.proofs.StandLemmas.{point_behind, ends_before, begins_between, begins_near, begins_there, more_here, more_over, one_here, own_about, some_to, stand_here, stand_low, stand_over}
+use Rattle.fare_floors.proofs.SumLemmas.{greatest_fewer, kept_member, unit_up_to}
 use Rattle.fare_floors.proofs.TrueCostLemmas.{entry, entry_there, alone_cost, first_costs, back_costs, between_costs}
 
 true_false : true ≡ false → ⊥
@@ -150,15 +155,15 @@ module _ (tariff : Tariff) (trip : Itinerary) (parts : List Part) (price : ℕ) 
       either j last (inl home) = either_left (bytes_eq (point trip (end_of parts last)) (point trip (start_of trip parts j))) (lie_together tariff (point trip (end_of parts last)) (point trip (start_of trip parts j))) home
       either j last (inr near) = either_right (bytes_eq (point trip (end_of parts last)) (point trip (start_of trip parts j))) (lie_together tariff (point trip (end_of parts last)) (point trip (start_of trip parts j))) near
 
-  module _ (ceiling : Option Ceiling) (alike : IsCeiling tariff trip ceiling) (cheap : IsWithin ceiling price) (closing jaw : ℕ → ℕ → ℕ → Option ℕ) (whole : ℕ → ℕ → Option ℕ) (left : ℕ → Option ℕ) {from : ℕ} (are : IsBehind tariff trip ceiling closing jaw whole left parts from) where
+  module _ (ceiling : Option Ceiling) (alike : IsCeiling tariff trip ceiling) (cheap : IsWithin ceiling price) (begun closing jaw : ℕ → ℕ → ℕ → Option ℕ) (whole : ℕ → ℕ → Option ℕ) (left : ℕ → Option ℕ) {from : ℕ} (are : IsBehind tariff trip ceiling begun closing jaw whole left parts from) where
     abbrev Stands : ℕ → ℕ → ℕ → ℕ → Type 0
-    Stands k u i cost = IsOver tariff trip closing jaw left parts k u i cost
+    Stands k u i cost = IsOver tariff trip begun closing jaw left parts k u i cost
 
     at_city : (c start i j x : ℕ) → is_same_city trip start j ≡ true → IsUpTo x (homing_at trip (closing c) (jaw c) start i j) → IsUpTo x (closing c i j)
     at_city c start i j x t up = rw t at up
 
-    from_city : (c start i j x : ℕ) → is_same_city trip start j ≡ true → IsUpTo x (closing c i j) → IsUpTo x (homing_at trip (closing c) (jaw c) start i j)
-    from_city c start i j x t up = rw t up
+    from_city : (more : Bool) (c start i j x : ℕ) → is_same_city trip start j ≡ true → IsUpTo x (closing_by more begun closing c i j) → IsUpTo x (homing_at trip (closing_by more begun closing c) (jaw c) start i j)
+    from_city more c start i j x t up = rw t up
 
     -- a part behind some others, before what is over the units that go on behind it
     module _ (k : ℕ) (high : k + 1 ≤ length parts) (behind : ℕ) (over : Stands (k + 1) (greatest_unit parts (places parts)) (end_of parts (k + 1)) behind) where
@@ -220,8 +225,8 @@ module _ (tariff : Tariff) (trip : Itinerary) (parts : List Part) (price : ℕ) 
       under_same : (i x : ℕ) → Stands (k + 1) (unit_of parts (k + 1) - 1) i x → Stands k (unit_of parts (k + 1) - 1) i x
       under_same i x o =
           let low_mine : 1 ≤ unit_of parts (k + 1) = mine_low in
-          let same : AreSame tariff trip closing jaw left parts (k + 1) k (unit_of parts (k + 1) - 1) = λ v low most. (other_same v (λ e. omega arith), λ t. stand_over parts k v (λ e. omega arith)) in
-          over_same tariff trip closing jaw left parts (k + 1) k (unit_of parts (k + 1) - 1) i x same o
+          let same : AreSame tariff trip begun closing jaw left parts (k + 1) k (unit_of parts (k + 1) - 1) = λ v low most. (other_same v (λ e. omega arith), λ t. (stand_over parts k v (λ e. omega arith), more_over parts k v (λ e. omega arith))) in
+          over_same tariff trip begun closing jaw left parts (k + 1) k (unit_of parts (k + 1) - 1) i x same o
 
       -- what goes on before it and behind it comes home behind it, and stands before it
       home_and_stand : (v : ℕ) → goes_on parts (k + 1) v ≡ goes_on parts k v → goes_on parts k v ≡ true → (end_of parts (k + 1) < home_at parts v) × (stand_of parts k v ≤ point_behind parts k)
@@ -257,24 +262,25 @@ module _ (tariff : Tariff) (trip : Itinerary) (parts : List Part) (price : ℕ) 
               | inr other ↦ other_same v other
             ]
 
-        alone_stands : (v : ℕ) → goes_on parts (k + 1) v ≡ true → stand_of parts (k + 1) v ≡ stand_of parts k v
+        alone_stands : (v : ℕ) → goes_on parts (k + 1) v ≡ true → (stand_of parts (k + 1) v ≡ stand_of parts k v) × (has_more parts (k + 1) v ≡ has_more parts k v)
         alone_stands v t =
-            stand_over parts k v (λ e.
+            let other : unit_of parts (k + 1) ≡ v → ⊥ = λ e.
             let P : ℕ → Type 0 = λ u. goes_on parts (k + 1) u ≡ false in
-            true_false (sym t ∙ subst P e alone_not))
+            true_false (sym t ∙ subst P e alone_not) in
+            (stand_over parts k v other, more_over parts k v other)
 
         -- so what is over the units behind it is over those before it
         pub alone_behind : Stands k (greatest_unit parts (places parts)) (end_of parts (k + 1)) behind
         alone_behind =
-            let same : AreSame tariff trip closing jaw left parts (k + 1) k (greatest_unit parts (places parts)) = λ v low most. (alone_same v, alone_stands v) in
-            over_same tariff trip closing jaw left parts (k + 1) k (greatest_unit parts (places parts)) (end_of parts (k + 1)) behind same over
+            let same : AreSame tariff trip begun closing jaw left parts (k + 1) k (greatest_unit parts (places parts)) = λ v low most. (alone_same v, alone_stands v) in
+            over_same tariff trip begun closing jaw left parts (k + 1) k (greatest_unit parts (places parts)) (end_of parts (k + 1)) behind same over
 
         alone_over : from ≤ k → Stands k (greatest_unit parts (places parts)) (point_behind parts k) (true_cost tariff trip parts (k + 1) + behind)
         alone_over past =
             let first : first_of (own parts (unit_of parts (k + 1))) ≡ k + 1 = alone_at.0 in
             let free : IsUpTo (true_cost tariff trip parts (k + 1)) (are.outer (point_behind parts k) (end_of parts (k + 1))) = alone_free_under are.rests (point_behind parts k) (end_of parts (k + 1)) (entry tariff trip parts price lawful (k + 1)) (true_cost tariff trip parts (k + 1)) contained (are.clear (k + 1) (omega arith) high (omega arith)) (alone_cost tariff trip parts price lawful (k + 1) (omega arith) high way) in
             let up : IsUpTo (true_cost tariff trip parts (k + 1)) (whole (point_behind parts k) (end_of parts (k + 1))) = alone_under are.homings (point_behind parts k) (end_of parts (k + 1)) (entry tariff trip parts price lawful (k + 1)) (true_cost tariff trip parts (k + 1)) contained (alone_cost tariff trip parts price lawful (k + 1) (omega arith) high way) in
-            step_over tariff trip ceiling closing jaw whole left parts are k (greatest_unit parts (places parts)) (point_behind parts k) (end_of parts (k + 1)) (true_cost tariff trip parts (k + 1)) behind rises within up free (λ v low most t. home_and_stand v (alone_same v) t) alone_behind
+            step_over tariff trip ceiling begun closing jaw whole left parts are k (greatest_unit parts (places parts)) (point_behind parts k) (end_of parts (k + 1)) (true_cost tariff trip parts (k + 1)) behind rises within up free (λ v low most t. home_and_stand v (alone_same v) t) alone_behind
 
       -- a half round trip stands first, between or last in its unit
       module _ (way : is_ow tariff parts (k + 1) ≡ false) where
@@ -296,11 +302,11 @@ module _ (tariff : Tariff) (trip : Itinerary) (parts : List Part) (price : ℕ) 
 
         -- behind the first part of its unit
         module _ (first : first_of (own parts (unit_of parts (k + 1))) < k + 1) where
-          begun : Member (first_of (own parts (unit_of parts (k + 1)))) (own parts (unit_of parts (k + 1)))
-          begun = let some : 2 ≤ length (own parts (unit_of parts (k + 1))) = shape.0 in first_member (own parts (unit_of parts (k + 1))) (omega arith)
+          begins_in : Member (first_of (own parts (unit_of parts (k + 1)))) (own parts (unit_of parts (k + 1)))
+          begins_in = let some : 2 ≤ length (own parts (unit_of parts (k + 1))) = shape.0 in first_member (own parts (unit_of parts (k + 1))) (omega arith)
 
           begun_place : (1 ≤ first_of (own parts (unit_of parts (k + 1)))) × (first_of (own parts (unit_of parts (k + 1))) ≤ length parts) × (unit_of parts (first_of (own parts (unit_of parts (k + 1)))) ≡ unit_of parts (k + 1))
-          begun_place = member_place tariff trip parts price lawful (unit_of parts (k + 1)) (first_of (own parts (unit_of parts (k + 1)))) begun
+          begun_place = member_place tariff trip parts price lawful (unit_of parts (k + 1)) (first_of (own parts (unit_of parts (k + 1)))) begins_in
 
           -- its unit stands no later than where it begins
           stand_before : stand_of parts k (unit_of parts (k + 1)) ≤ point_behind parts k
@@ -324,33 +330,86 @@ module _ (tariff : Tariff) (trip : Itinerary) (parts : List Part) (price : ℕ) 
           there_last : is_same_city trip (begins_at trip parts (unit_of parts (k + 1))) (end_of parts (k + 1)) ≡ false → is_same_city trip (stand_of parts k (unit_of parts (k + 1))) (begin_after trip (point_behind parts k)) ≡ true
           there_last elsewhere = there_from (begins_there tariff trip parts price lawful k high way (first_of (own parts (unit_of parts (k + 1)))) begun_place.0 (omega arith) begun_place.2 elsewhere)
 
-          last_up : back_cost (entry tariff trip parts price lawful (k + 1)) ≡ Some (true_cost tariff trip parts (k + 1))
-              → IsUpTo (true_cost tariff trip parts (k + 1)) (homing_at trip (closing (stand_of parts k (unit_of parts (k + 1)))) (jaw (stand_of parts k (unit_of parts (k + 1)))) (begins_at trip parts (unit_of parts (k + 1))) (point_behind parts k) (end_of parts (k + 1)))
-          last_up cost =
-              elim (cases_Bool (is_same_city trip (begins_at trip parts (unit_of parts (k + 1))) (end_of parts (k + 1)))) [
-                | inl t ↦ rw t (last_closes_under are.homings (stand_of parts k (unit_of parts (k + 1))) (point_behind parts k) (end_of parts (k + 1)) (entry tariff trip parts price lawful (k + 1)) (true_cost tariff trip parts (k + 1)) stand_before near contained cost)
-                | inr f ↦ rw f (last_jaw_under are.homings (stand_of parts k (unit_of parts (k + 1))) (point_behind parts k) (end_of parts (k + 1)) (entry tariff trip parts price lawful (k + 1)) (true_cost tariff trip parts (k + 1)) stand_before (there_last f) contained cost)
-              ]
+          -- the places of its unit before it
+          some_before : 1 ≤ length (own_to parts k (unit_of parts (k + 1)))
+          some_before = some_to tariff trip parts price lawful k (unit_of parts (k + 1)) (first_of (own parts (unit_of parts (k + 1)))) begun_place.0 (omega arith) begun_place.2
+
+          -- where it is the last of its unit, it is worth what its unit owes
+          module _ (last : last_of (own parts (unit_of parts (k + 1))) ≡ k + 1) where
+            back : (x : ℕ) × (back_cost (entry tariff trip parts price lawful (k + 1)) ≡ Some x) × (x ≤ true_cost tariff trip parts (k + 1))
+            back = back_costs tariff trip parts price lawful (k + 1) (omega arith) high way last
+
+            is_last : IsLast tariff trip (stand_of parts k (unit_of parts (k + 1))) (point_behind parts k) (end_of parts (k + 1)) back.0
+            is_last = record { near = near; part = record { entry = entry tariff trip parts price lawful (k + 1); there = contained; costs = back.1 } }
+
+            owed_here : has_more parts k (unit_of parts (k + 1)) ≡ false → is_same_city trip (begins_at trip parts (unit_of parts (k + 1))) (end_of parts (k + 1)) ≡ true → is_same_city trip (stand_of parts k (unit_of parts (k + 1))) (begin_after trip (point_behind parts k)) ≡ true
+                → (y : ℕ) × IsOwed tariff trip (stand_of parts k (unit_of parts (k + 1))) (end_of parts (k + 1)) y × (y ≤ true_cost tariff trip parts (k + 1))
+            owed_here one city there =
+                let pair = pair_at parts k high one some_before last in
+                let stands : stand_of parts k (unit_of parts (k + 1)) ≡ end_of parts pair.first = ap (λ xs. end_of parts (last_of xs)) pair.before in
+                let begins : first_of (own parts (unit_of parts (k + 1))) ≡ pair.first = ap first_of pair.both in
+                let early : first_of (own parts (unit_of parts (k + 1))) < k + 1 = first in
+                let low_first : 1 ≤ first_of (own parts (unit_of parts (k + 1))) = begun_place.0 in
+                let S : ℕ → Type 0 = λ s. is_same_city trip s (start_of trip parts (k + 1)) ≡ true in
+                let A : ℕ → Type 0 = λ a. is_same_city trip (stand_of parts k (unit_of parts (k + 1))) a ≡ true in
+                let H : ℕ → Type 0 = λ j. is_same_city trip (start_of trip parts j) (end_of parts (k + 1)) ≡ true in
+                let O : ℕ → Type 0 = λ s. (y : ℕ) × IsOwed tariff trip s (end_of parts (k + 1)) y × (y ≤ true_cost tariff trip parts (k + 1)) in
+                subst O (sym stands) (owes tariff trip parts price lawful (k + 1) (omega arith) high way pair.first pair.both
+                (starts_behind pair.first (k + 1) (omega arith) (omega arith) high) (subst S stands (subst A (begins_next k high) there)) (subst H begins city))
+
+            closes_up : is_same_city trip (begins_at trip parts (unit_of parts (k + 1))) (end_of parts (k + 1)) ≡ true → IsUpTo (true_cost tariff trip parts (k + 1)) (closing_by (has_more parts k (unit_of parts (k + 1))) begun closing (stand_of parts k (unit_of parts (k + 1))) (point_behind parts k) (end_of parts (k + 1)))
+            closes_up city = by_more (has_more parts k (unit_of parts (k + 1))) refl
+              where
+                by_more : (more : Bool) → has_more parts k (unit_of parts (k + 1)) ≡ more → IsUpTo (true_cost tariff trip parts (k + 1)) (closing_by more begun closing (stand_of parts k (unit_of parts (k + 1))) (point_behind parts k) (end_of parts (k + 1)))
+                by_more true e = up_more back.0 (true_cost tariff trip parts (k + 1)) (closing (stand_of parts k (unit_of parts (k + 1))) (point_behind parts k) (end_of parts (k + 1))) back.2 (last_closes_under are.homings (stand_of parts k (unit_of parts (k + 1))) (point_behind parts k) (end_of parts (k + 1)) back.0 stand_before is_last)
+                by_more false e =
+                    let low : stand_of parts k (unit_of parts (k + 1)) ≤ point_behind parts k = stand_before in
+                    let rise : point_behind parts k < end_of parts (k + 1) = rises in
+                    second_closes_under are.homings (stand_of parts k (unit_of parts (k + 1))) (point_behind parts k) (end_of parts (k + 1)) (true_cost tariff trip parts (k + 1)) stand_before (record { within = (omega arith, within); last = (back.0, is_last, back.2); owed = owed_here e city })
+
+            last_up : IsUpTo (true_cost tariff trip parts (k + 1)) (homing_at trip (closing_by (has_more parts k (unit_of parts (k + 1))) begun closing (stand_of parts k (unit_of parts (k + 1)))) (jaw (stand_of parts k (unit_of parts (k + 1)))) (begins_at trip parts (unit_of parts (k + 1))) (point_behind parts k) (end_of parts (k + 1)))
+            last_up =
+                elim (cases_Bool (is_same_city trip (begins_at trip parts (unit_of parts (k + 1))) (end_of parts (k + 1)))) [
+                  | inl t ↦ rw t (closes_up t)
+                  | inr f ↦ rw f (up_more back.0 (true_cost tariff trip parts (k + 1)) (jaw (stand_of parts k (unit_of parts (k + 1))) (point_behind parts k) (end_of parts (k + 1))) back.2 (last_jaw_under are.homings (stand_of parts k (unit_of parts (k + 1))) (point_behind parts k) (end_of parts (k + 1)) (entry tariff trip parts price lawful (k + 1)) back.0 stand_before (there_last f) contained back.1))
+                ]
 
         -- with other parts of its unit behind it
         module _ (less : k + 1 < last_of (own parts (unit_of parts (k + 1)))) where
           goes : goes_on parts (k + 1) (unit_of parts (k + 1)) ≡ true
           goes = goes_on_from parts (k + 1) (unit_of parts (k + 1)) first_by less
 
-          opened : Opens tariff trip closing jaw left parts (k + 1) (unit_of parts (k + 1)) (end_of parts (k + 1)) behind
-          opened = opens tariff trip closing jaw left parts (k + 1) (unit_of parts (k + 1)) (end_of parts (k + 1)) behind mine_low goes (over_down tariff trip closing jaw left parts (k + 1) (unit_of parts (k + 1)) (greatest_unit parts (places parts)) (end_of parts (k + 1)) behind mine_high (λ v low most. above_not_next v low) over)
+          opened : Opens tariff trip begun closing jaw left parts (k + 1) (unit_of parts (k + 1)) (end_of parts (k + 1)) behind
+          opened = opens tariff trip begun closing jaw left parts (k + 1) (unit_of parts (k + 1)) (end_of parts (k + 1)) behind mine_low goes (over_down tariff trip begun closing jaw left parts (k + 1) (unit_of parts (k + 1)) (greatest_unit parts (places parts)) (end_of parts (k + 1)) behind mine_high (λ v low most. above_not_next v low) over)
 
           -- its unit stands where it ends
-          home_from : IsUpTo (opened.0) (homing_at trip (closing (end_of parts (k + 1))) (jaw (end_of parts (k + 1))) (begins_at trip parts (unit_of parts (k + 1))) (end_of parts (k + 1)) (home_at parts (unit_of parts (k + 1))))
+          home_from : IsUpTo (opened.0) (homing_at trip (closing_by (has_more parts (k + 1) (unit_of parts (k + 1))) begun closing (end_of parts (k + 1))) (jaw (end_of parts (k + 1))) (begins_at trip parts (unit_of parts (k + 1))) (end_of parts (k + 1)) (home_at parts (unit_of parts (k + 1))))
           home_from =
-              let P : ℕ → Type 0 = λ c. IsUpTo (opened.0) (homing_at trip (closing c) (jaw c) (begins_at trip parts (unit_of parts (k + 1))) (end_of parts (k + 1)) (home_at parts (unit_of parts (k + 1)))) in
+              let P : ℕ → Type 0 = λ c. IsUpTo (opened.0) (homing_at trip (closing_by (has_more parts (k + 1) (unit_of parts (k + 1))) begun closing c) (jaw c) (begins_at trip parts (unit_of parts (k + 1))) (end_of parts (k + 1)) (home_at parts (unit_of parts (k + 1)))) in
               subst P (stand_here parts k) opened.3
+
+        -- with its first part its unit has one, and with a later one more
+        pub one_now : first_of (own parts (unit_of parts (k + 1))) ≡ k + 1 → has_more parts (k + 1) (unit_of parts (k + 1)) ≡ false
+        one_now first = one_here parts k (no_earlier (own_to parts k (unit_of parts (k + 1))) refl)
+          where
+            no_earlier : (xs : List ℕ) → own_to parts k (unit_of parts (k + 1)) ≡ xs → own_to parts k (unit_of parts (k + 1)) ≡ []
+            no_earlier [] e = e
+            no_earlier (x ∷ xs) e =
+                let about : own parts (unit_of parts (k + 1)) ≡ own_to parts k (unit_of parts (k + 1)) ++ (k + 1) ∷ filter (is_own parts (unit_of parts (k + 1))) (numbers (k + 1 + 1) (length parts + 1)) = own_about parts k high in
+                let begins : first_of (own parts (unit_of parts (k + 1))) ≡ x = ap first_of (about ∙ ap (λ ys. ys ++ (k + 1) ∷ filter (is_own parts (unit_of parts (k + 1))) (numbers (k + 1 + 1) (length parts + 1))) e) in
+                let P : List ℕ → Type 0 = λ ys. Member x ys in
+                let there = kept_member (is_own parts (unit_of parts (k + 1))) 1 (k + 1 - 1) x (subst P (sym e) (inl refl)) in
+                let before : x < 1 + (k + 1 - 1) = there.1 in
+                absurd (omega arith)
+
+        pub more_now : first_of (own parts (unit_of parts (k + 1))) < k + 1 → has_more parts (k + 1) (unit_of parts (k + 1)) ≡ true
+        more_now first = more_here parts k (some_before first)
 
         -- where it is the last of its unit, what is behind it is over the units before that
         pub last_behind : last_of (own parts (unit_of parts (k + 1))) ≡ k + 1 → Stands k (unit_of parts (k + 1) - 1) (end_of parts (k + 1)) behind
         last_behind last =
             let next : goes_on parts (k + 1) (unit_of parts (k + 1)) ≡ false = goes_not parts (k + 1) (unit_of parts (k + 1)) (λ a b. omega arith) in
-            under_same (end_of parts (k + 1)) behind (over_down tariff trip closing jaw left parts (k + 1) (unit_of parts (k + 1) - 1) (greatest_unit parts (places parts)) (end_of parts (k + 1)) behind under_most (λ v low most. from_mine (k + 1) next above_not_next v low) over)
+            under_same (end_of parts (k + 1)) behind (over_down tariff trip begun closing jaw left parts (k + 1) (unit_of parts (k + 1) - 1) (greatest_unit parts (places parts)) (end_of parts (k + 1)) behind under_most (λ v low most. from_mine (k + 1) next above_not_next v low) over)
 
         -- and it ends where its unit may
         pub last_may : last_of (own parts (unit_of parts (k + 1))) ≡ k + 1 → may_end_at tariff trip (begins_at trip parts (unit_of parts (k + 1))) (end_of parts (k + 1)) ≡ true
@@ -364,7 +423,7 @@ module _ (tariff : Tariff) (trip : Itinerary) (parts : List Part) (price : ℕ) 
           pub until : ℕ
           pub left_over : ℕ
           pub sum : until + left_over ≤ behind
-          pub homing : IsUpTo until (homing_at trip (closing (end_of parts (k + 1))) (jaw (end_of parts (k + 1))) (begins_at trip parts (unit_of parts (k + 1))) (end_of parts (k + 1)) (home_at parts (unit_of parts (k + 1))))
+          pub homing : IsUpTo until (homing_at trip (closing_by (has_more parts (k + 1) (unit_of parts (k + 1))) begun closing (end_of parts (k + 1))) (jaw (end_of parts (k + 1))) (begins_at trip parts (unit_of parts (k + 1))) (end_of parts (k + 1)) (home_at parts (unit_of parts (k + 1))))
           pub stands : Stands k (unit_of parts (k + 1) - 1) (home_at parts (unit_of parts (k + 1))) left_over
           pub later : end_of parts (k + 1) < home_at parts (unit_of parts (k + 1))
           pub home_within : home_at parts (unit_of parts (k + 1)) ≤ count trip
@@ -397,8 +456,9 @@ module _ (tariff : Tariff) (trip : Itinerary) (parts : List Part) (price : ℕ) 
             let h = home_later (unit_of parts (k + 1)) (goes less) in
             let low_mine : 1 ≤ unit_of parts (k + 1) = mine_low in
             let begins : begins_at trip parts (unit_of parts (k + 1)) ≡ begin_after trip (point_behind parts k) = ap (start_of trip parts) first ∙ sym (begins_next k high) in
-            let P : ℕ → Type 0 = λ a. IsUpTo c.0 (homing_at trip (closing (end_of parts (k + 1))) (jaw (end_of parts (k + 1))) a (end_of parts (k + 1)) (home_at parts (unit_of parts (k + 1)))) in
-            let homing : IsUpTo c.0 (homing_at trip (closing (end_of parts (k + 1))) (jaw (end_of parts (k + 1))) (begin_after trip (point_behind parts k)) (end_of parts (k + 1)) (home_at parts (unit_of parts (k + 1)))) = subst P begins (home_from less) in
+            let M : Bool → Type 0 = λ more. IsUpTo c.0 (homing_at trip (closing_by more begun closing (end_of parts (k + 1))) (jaw (end_of parts (k + 1))) (begins_at trip parts (unit_of parts (k + 1))) (end_of parts (k + 1)) (home_at parts (unit_of parts (k + 1)))) in
+            let P : ℕ → Type 0 = λ a. IsUpTo c.0 (homing_at trip (begun (end_of parts (k + 1))) (jaw (end_of parts (k + 1))) a (end_of parts (k + 1)) (home_at parts (unit_of parts (k + 1)))) in
+            let homing : IsUpTo c.0 (homing_at trip (begun (end_of parts (k + 1))) (jaw (end_of parts (k + 1))) (begin_after trip (point_behind parts k)) (end_of parts (k + 1)) (home_at parts (unit_of parts (k + 1)))) = subst P begins (subst M (one_now first) (home_from less)) in
             let Q : ℕ → Type 0 = λ a. may_end_at tariff trip a (home_at parts (unit_of parts (k + 1))) ≡ true in
             let some : 2 ≤ length (own parts (unit_of parts (k + 1))) = shape.0 in
             let may : may_end_at tariff trip (begin_after trip (point_behind parts k)) (home_at parts (unit_of parts (k + 1))) ≡ true = subst Q begins (half_ends_by (unit_of parts (k + 1)) mine_low mine_high (own parts (unit_of parts (k + 1))) refl (omega arith) none_ow) in
@@ -424,12 +484,12 @@ module _ (tariff : Tariff) (trip : Itinerary) (parts : List Part) (price : ℕ) 
             let rise : point_behind parts k < end_of parts (k + 1) = rises in
             let home_past : end_of parts (k + 1) < home_at parts (unit_of parts (k + 1)) = h.0 in
             let o : Stands k (unit_of parts (k + 1) - 1) (point_behind parts k) ((true_cost tariff trip parts (k + 1) + c.0) + c.1) =
-            step_over tariff trip ceiling closing jaw whole left parts are k (unit_of parts (k + 1) - 1) (point_behind parts k) (home_at parts (unit_of parts (k + 1))) (true_cost tariff trip parts (k + 1) + c.0) c.1 (omega arith) h.1 up free
+            step_over tariff trip ceiling begun closing jaw whole left parts are k (unit_of parts (k + 1) - 1) (point_behind parts k) (home_at parts (unit_of parts (k + 1))) (true_cost tariff trip parts (k + 1) + c.0) c.1 (omega arith) h.1 up free
             (λ v low most t. (home_behind tariff trip parts price lawful k v low high (omega arith) first less (other_same v (λ e. omega arith) ∙ t), stand_low tariff trip parts price lawful k v t)) (under_same (home_at parts (unit_of parts (k + 1))) c.1 c.4) in
             let here : goes_on parts k (unit_of parts (k + 1)) ≡ false = goes_not parts k (unit_of parts (k + 1)) (λ a b. omega arith) in
             let m : Stands k (greatest_unit parts (places parts)) (point_behind parts k) ((true_cost tariff trip parts (k + 1) + c.0) + c.1) =
-            over_up tariff trip closing jaw left parts k (unit_of parts (k + 1) - 1) (greatest_unit parts (places parts)) (point_behind parts k) ((true_cost tariff trip parts (k + 1) + c.0) + c.1) under_most (λ v low most. from_mine k here above_not v low) o in
-            over_more tariff trip closing jaw left parts k (greatest_unit parts (places parts)) (point_behind parts k) ((true_cost tariff trip parts (k + 1) + c.0) + c.1) (true_cost tariff trip parts (k + 1) + behind) (omega arith) m
+            over_up tariff trip begun closing jaw left parts k (unit_of parts (k + 1) - 1) (greatest_unit parts (places parts)) (point_behind parts k) ((true_cost tariff trip parts (k + 1) + c.0) + c.1) under_most (λ v low most. from_mine k here above_not v low) o in
+            over_more tariff trip begun closing jaw left parts k (greatest_unit parts (places parts)) (point_behind parts k) ((true_cost tariff trip parts (k + 1) + c.0) + c.1) (true_cost tariff trip parts (k + 1) + behind) (omega arith) m
 
         between_over : first_of (own parts (unit_of parts (k + 1))) < k + 1 → k + 1 < last_of (own parts (unit_of parts (k + 1))) → Stands k (greatest_unit parts (places parts)) (point_behind parts k) (true_cost tariff trip parts (k + 1) + behind)
         between_over first less =
@@ -439,39 +499,39 @@ module _ (tariff : Tariff) (trip : Itinerary) (parts : List Part) (price : ℕ) 
             let h = home_later (unit_of parts (k + 1)) (goes less) in
             let long : 3 ≤ length (own parts (unit_of parts (k + 1))) = three first less in
             let city : is_same_city trip (begins_at trip parts (unit_of parts (k + 1))) (home_at parts (unit_of parts (k + 1))) ≡ true = shape.1 long in
-            let closes : IsUpTo c.0 (closing (end_of parts (k + 1)) (end_of parts (k + 1)) (home_at parts (unit_of parts (k + 1)))) = at_city (end_of parts (k + 1)) (begins_at trip parts (unit_of parts (k + 1))) (end_of parts (k + 1)) (home_at parts (unit_of parts (k + 1))) c.0 city (home_from less) in
+            let M : Bool → Type 0 = λ more. IsUpTo c.0 (homing_at trip (closing_by more begun closing (end_of parts (k + 1))) (jaw (end_of parts (k + 1))) (begins_at trip parts (unit_of parts (k + 1))) (end_of parts (k + 1)) (home_at parts (unit_of parts (k + 1)))) in
+            let closes : IsUpTo c.0 (closing (end_of parts (k + 1)) (end_of parts (k + 1)) (home_at parts (unit_of parts (k + 1)))) = at_city (end_of parts (k + 1)) (begins_at trip parts (unit_of parts (k + 1))) (end_of parts (k + 1)) (home_at parts (unit_of parts (k + 1))) c.0 city (subst M (more_now first) (home_from less)) in
             let home : ℕ = home_at parts (unit_of parts (k + 1)) in
             let origin_there : point trip home ≡ point trip (begins_at trip parts (unit_of parts (k + 1))) = (bytes_eq-Decides (point trip home) (point trip (begins_at trip parts (unit_of parts (k + 1))))).0 city in
             let C : ℕ → Type 0 = λ a. below_ceiling tariff trip ceiling a home (end_of parts (k + 1)) (between_cost (heads_to tariff trip a (end_of parts (k + 1)) home)) (entry tariff trip parts price lawful (k + 1)) ≡ Some (true_cost tariff trip parts (k + 1)) in
             let cost : C (begin_after trip (point_behind parts k)) = subst C (sym (begins_next k high)) (below_every tariff trip parts price lawful (k + 1) (omega arith) high none_ow long less ceiling alike cheap home origin_there (between_cost (heads_to tariff trip (start_of trip parts (k + 1)) (end_of parts (k + 1)) home)) (entry tariff trip parts price lawful (k + 1)) refl (true_cost tariff trip parts (k + 1)) (between_costs tariff trip parts price lawful (k + 1) (omega arith) high way less home origin_there)) in
             let stand : ℕ = stand_of parts k (unit_of parts (k + 1)) in
             let elsewhere : is_same_city trip home (end_of parts (k + 1)) ≡ false = ends_apart (unit_of parts (k + 1)) (k + 1) mine_low mine_high long (own_has tariff trip parts price lawful (k + 1) (omega arith) high) less city in
-            let up : IsUpTo (true_cost tariff trip parts (k + 1) + c.0) (closing stand (point_behind parts k) home) =
-            between_under are.homings stand (point_behind parts k) (end_of parts (k + 1)) home (entry tariff trip parts price lawful (k + 1)) (true_cost tariff trip parts (k + 1)) c.0 (stand_before first) (there_between first long) contained cost h.0 h.1 elsewhere closes in
+            let up : IsUpTo (true_cost tariff trip parts (k + 1) + c.0) (closing_by (has_more parts k (unit_of parts (k + 1))) begun closing stand (point_behind parts k) home) =
+            between_under are.homings (has_more parts k (unit_of parts (k + 1))) stand (point_behind parts k) (end_of parts (k + 1)) home (entry tariff trip parts price lawful (k + 1)) (true_cost tariff trip parts (k + 1)) c.0 (stand_before first) (there_between first long) contained cost h.0 h.1 elsewhere closes in
             let here : goes_on parts k (unit_of parts (k + 1)) ≡ true = goes_on_from parts k (unit_of parts (k + 1)) (omega arith) (omega arith) in
-            let o : Stands k (unit_of parts (k + 1)) (point_behind parts k) ((true_cost tariff trip parts (k + 1) + c.0) + c.1) = from_open tariff trip closing jaw left parts k (unit_of parts (k + 1)) (point_behind parts k) (true_cost tariff trip parts (k + 1) + c.0) c.1 mine_low here (from_city stand (begins_at trip parts (unit_of parts (k + 1))) (point_behind parts k) (home_at parts (unit_of parts (k + 1))) (true_cost tariff trip parts (k + 1) + c.0) city up) (under_same (home_at parts (unit_of parts (k + 1))) c.1 c.4)
+            let o : Stands k (unit_of parts (k + 1)) (point_behind parts k) ((true_cost tariff trip parts (k + 1) + c.0) + c.1) = from_open tariff trip begun closing jaw left parts k (unit_of parts (k + 1)) (point_behind parts k) (true_cost tariff trip parts (k + 1) + c.0) c.1 mine_low here (from_city (has_more parts k (unit_of parts (k + 1))) stand (begins_at trip parts (unit_of parts (k + 1))) (point_behind parts k) (home_at parts (unit_of parts (k + 1))) (true_cost tariff trip parts (k + 1) + c.0) city up) (under_same (home_at parts (unit_of parts (k + 1))) c.1 c.4)
             (lasts_more tariff trip parts (last_of (own parts (unit_of parts (k + 1)))) (point_behind parts k) (end_of parts (k + 1)) c.0 (true_cost tariff trip parts (k + 1) + c.0) (omega arith) (omega arith) c.5) in
-            let m : Stands k (greatest_unit parts (places parts)) (point_behind parts k) ((true_cost tariff trip parts (k + 1) + c.0) + c.1) = over_up tariff trip closing jaw left parts k (unit_of parts (k + 1)) (greatest_unit parts (places parts)) (point_behind parts k) ((true_cost tariff trip parts (k + 1) + c.0) + c.1) mine_high (λ v low most. above_not v low) o in
-            over_more tariff trip closing jaw left parts k (greatest_unit parts (places parts)) (point_behind parts k) ((true_cost tariff trip parts (k + 1) + c.0) + c.1) (true_cost tariff trip parts (k + 1) + behind) (omega arith) m
+            let m : Stands k (greatest_unit parts (places parts)) (point_behind parts k) ((true_cost tariff trip parts (k + 1) + c.0) + c.1) = over_up tariff trip begun closing jaw left parts k (unit_of parts (k + 1)) (greatest_unit parts (places parts)) (point_behind parts k) ((true_cost tariff trip parts (k + 1) + c.0) + c.1) mine_high (λ v low most. above_not v low) o in
+            over_more tariff trip begun closing jaw left parts k (greatest_unit parts (places parts)) (point_behind parts k) ((true_cost tariff trip parts (k + 1) + c.0) + c.1) (true_cost tariff trip parts (k + 1) + behind) (omega arith) m
 
         last_over : first_of (own parts (unit_of parts (k + 1))) < k + 1 → last_of (own parts (unit_of parts (k + 1))) ≡ k + 1 → Stands k (greatest_unit parts (places parts)) (point_behind parts k) (true_cost tariff trip parts (k + 1) + behind)
         last_over first last =
             let low_mine : 1 ≤ unit_of parts (k + 1) = mine_low in
             let next : goes_on parts (k + 1) (unit_of parts (k + 1)) ≡ false = goes_not parts (k + 1) (unit_of parts (k + 1)) (λ a b. omega arith) in
-            let o : Stands (k + 1) (unit_of parts (k + 1) - 1) (end_of parts (k + 1)) behind = over_down tariff trip closing jaw left parts (k + 1) (unit_of parts (k + 1) - 1) (greatest_unit parts (places parts)) (end_of parts (k + 1)) behind under_most (λ v low most. from_mine (k + 1) next above_not_next v low) over in
-            let cost = back_costs tariff trip parts price lawful (k + 1) (omega arith) high way last in
+            let o : Stands (k + 1) (unit_of parts (k + 1) - 1) (end_of parts (k + 1)) behind = over_down tariff trip begun closing jaw left parts (k + 1) (unit_of parts (k + 1) - 1) (greatest_unit parts (places parts)) (end_of parts (k + 1)) behind under_most (λ v low most. from_mine (k + 1) next above_not_next v low) over in
             let stand : ℕ = stand_of parts k (unit_of parts (k + 1)) in
-            let up : IsUpTo (true_cost tariff trip parts (k + 1)) (homing_at trip (closing stand) (jaw stand) (begins_at trip parts (unit_of parts (k + 1))) (point_behind parts k) (end_of parts (k + 1))) = last_up first cost in
+            let up : IsUpTo (true_cost tariff trip parts (k + 1)) (homing_at trip (closing_by (has_more parts k (unit_of parts (k + 1))) begun closing stand) (jaw stand) (begins_at trip parts (unit_of parts (k + 1))) (point_behind parts k) (end_of parts (k + 1))) = last_up first last in
             let home : end_of parts (k + 1) ≡ home_at parts (unit_of parts (k + 1)) = ap (end_of parts) (sym last) in
             let L : ℕ → Type 0 = λ j. LastsBy tariff trip parts j (point_behind parts k) (true_cost tariff trip parts (k + 1)) in
             let begins : begin_after trip (point_behind parts k) ≡ start_of trip parts (k + 1) = begins_next k high in
             let later : point_behind parts k ≤ begin_after trip (point_behind parts k) = begins_later trip (point_behind parts k) in
             let by_last : LastsBy tariff trip parts (last_of (own parts (unit_of parts (k + 1)))) (point_behind parts k) (true_cost tariff trip parts (k + 1)) = subst L (sym last) (record { begins = omega arith; costs = omega arith }) in
-            let P : ℕ → Type 0 = λ j. IsUpTo (true_cost tariff trip parts (k + 1)) (homing_at trip (closing stand) (jaw stand) (begins_at trip parts (unit_of parts (k + 1))) (point_behind parts k) j) in
+            let P : ℕ → Type 0 = λ j. IsUpTo (true_cost tariff trip parts (k + 1)) (homing_at trip (closing_by (has_more parts k (unit_of parts (k + 1))) begun closing stand) (jaw stand) (begins_at trip parts (unit_of parts (k + 1))) (point_behind parts k) j) in
             let Q : ℕ → Type 0 = λ j. Stands k (unit_of parts (k + 1) - 1) j behind in
             let here : goes_on parts k (unit_of parts (k + 1)) ≡ true = goes_on_from parts k (unit_of parts (k + 1)) (omega arith) (omega arith) in
-            let m : Stands k (unit_of parts (k + 1)) (point_behind parts k) (true_cost tariff trip parts (k + 1) + behind) = from_open tariff trip closing jaw left parts k (unit_of parts (k + 1)) (point_behind parts k) (true_cost tariff trip parts (k + 1)) behind mine_low here (subst P home up) (subst Q home (under_same (end_of parts (k + 1)) behind o)) by_last in
-            over_up tariff trip closing jaw left parts k (unit_of parts (k + 1)) (greatest_unit parts (places parts)) (point_behind parts k) (true_cost tariff trip parts (k + 1) + behind) mine_high (λ v low most. above_not v low) m
+            let m : Stands k (unit_of parts (k + 1)) (point_behind parts k) (true_cost tariff trip parts (k + 1) + behind) = from_open tariff trip begun closing jaw left parts k (unit_of parts (k + 1)) (point_behind parts k) (true_cost tariff trip parts (k + 1)) behind mine_low here (subst P home up) (subst Q home (under_same (end_of parts (k + 1)) behind o)) by_last in
+            over_up tariff trip begun closing jaw left parts k (unit_of parts (k + 1)) (greatest_unit parts (places parts)) (point_behind parts k) (true_cost tariff trip parts (k + 1) + behind) mine_high (λ v low most. above_not v low) m
 
         half_over : from ≤ k → Stands k (greatest_unit parts (places parts)) (point_behind parts k) (true_cost tariff trip parts (k + 1) + behind)
         half_over past =
@@ -495,7 +555,7 @@ module _ (tariff : Tariff) (trip : Itinerary) (parts : List Part) (price : ℕ) 
         let last : point_behind parts (length parts) ≡ count trip = behind_all parts ∙ (all tariff trip parts price lawful).last in
         let P : ℕ → Type 0 = λ j. left (point_behind parts j) ≡ Some 0 in
         let end : left (point_behind parts k) ≡ Some 0 = subst P (sym here) (ap left last ∙ nothing_free_left are.rests) in
-        over_up tariff trip closing jaw left parts k 0 (greatest_unit parts (places parts)) (point_behind parts k) 0 (omega arith) (λ v low most. none_behind v) (0, end, omega arith)
+        over_up tariff trip begun closing jaw left parts k 0 (greatest_unit parts (places parts)) (point_behind parts k) 0 (omega arith) (λ v low most. none_behind v) (0, end, omega arith)
       where
         none_behind : (v : ℕ) → goes_on parts k v ≡ false
         none_behind v = not_so (goes_on parts k v) (λ t. let g = going_on tariff trip parts price lawful k v t in let past : k < last_of (own parts v) = g.behind in let most : last_of (own parts v) ≤ length parts = g.within in omega arith)
@@ -532,12 +592,12 @@ module _ (tariff : Tariff) (trip : Itinerary) (front rest : List Part) (price : 
       omega arith)
 
 -- what the parts behind the first parts of a lawful construction cost is over the units of these that go on
-pub behind_is_over : (tariff : Tariff) (trip : Itinerary) (ceiling : Option Ceiling) → IsCeiling tariff trip ceiling → (closing jaw : ℕ → ℕ → ℕ → Option ℕ) (whole : ℕ → ℕ → Option ℕ) (left : ℕ → Option ℕ)
-    → (front rest : List Part) → IsBehind tariff trip ceiling closing jaw whole left (front ++ rest) (length front) → (price : ℕ) → IsLawful tariff trip (front ++ rest) price → IsWithin ceiling price
-    → IsOver tariff trip closing jaw left (front ++ rest) (length front) (greatest_unit front (places front)) (end_of front (length front)) (sum_by (true_cost tariff trip (front ++ rest)) (range_with_len (length front + 1) (length rest)))
-behind_is_over tariff trip ceiling alike closing jaw whole left front rest are price lawful cheap =
+pub behind_is_over : (tariff : Tariff) (trip : Itinerary) (ceiling : Option Ceiling) → IsCeiling tariff trip ceiling → (begun closing jaw : ℕ → ℕ → ℕ → Option ℕ) (whole : ℕ → ℕ → Option ℕ) (left : ℕ → Option ℕ)
+    → (front rest : List Part) → IsBehind tariff trip ceiling begun closing jaw whole left (front ++ rest) (length front) → (price : ℕ) → IsLawful tariff trip (front ++ rest) price → IsWithin ceiling price
+    → IsOver tariff trip begun closing jaw left (front ++ rest) (length front) (greatest_unit front (places front)) (end_of front (length front)) (sum_by (true_cost tariff trip (front ++ rest)) (range_with_len (length front + 1) (length rest)))
+behind_is_over tariff trip ceiling alike begun closing jaw whole left front rest are price lawful cheap =
     let n : length (front ++ rest) ≡ length front + length rest = length-append front rest in
-    let o = all_over tariff trip (front ++ rest) price lawful ceiling alike cheap closing jaw whole left are (length rest) (length front) (omega arith) (sym n) in
-    let P : ℕ → Type 0 = λ i. IsOver tariff trip closing jaw left (front ++ rest) (length front) (greatest_unit (front ++ rest) (places (front ++ rest))) i (sum_by (true_cost tariff trip (front ++ rest)) (range_with_len (length front + 1) (length rest))) in
-    over_down tariff trip closing jaw left (front ++ rest) (length front) (greatest_unit front (places front)) (greatest_unit (front ++ rest) (places (front ++ rest))) (end_of front (length front)) (sum_by (true_cost tariff trip (front ++ rest)) (range_with_len (length front + 1) (length rest)))
+    let o = all_over tariff trip (front ++ rest) price lawful ceiling alike cheap begun closing jaw whole left are (length rest) (length front) (omega arith) (sym n) in
+    let P : ℕ → Type 0 = λ i. IsOver tariff trip begun closing jaw left (front ++ rest) (length front) (greatest_unit (front ++ rest) (places (front ++ rest))) i (sum_by (true_cost tariff trip (front ++ rest)) (range_with_len (length front + 1) (length rest))) in
+    over_down tariff trip begun closing jaw left (front ++ rest) (length front) (greatest_unit front (places front)) (greatest_unit (front ++ rest) (places (front ++ rest))) (end_of front (length front)) (sum_by (true_cost tariff trip (front ++ rest)) (range_with_len (length front + 1) (length rest)))
     (fewer tariff trip front rest price lawful) (λ v low high. none_new tariff trip front rest price lawful v low) (subst P (behind_front front rest) o)

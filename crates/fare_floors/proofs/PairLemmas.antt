@@ -126,6 +126,8 @@ module _ (tariff : Tariff) (trip : Itinerary) (parts : List Part) (price : ℕ) 
       let first_own : first_of (own parts (unit_of parts first)) ≡ first = ap (λ u. first_of (own parts u)) first_place.2 in
       let last_own : last_of (own parts (unit_of parts last)) ≡ last = ap (λ u. last_of (own parts u)) last_place.2 in
       let P : ℕ → Type 0 = λ u. first < last_of (own parts u) in
+      let back = back_costs tariff trip parts price lawful last last_place.0 last_place.1 (half last last_in) last_own in
+      let low : back.0 ≤ true_cost tariff trip parts last = back.2 in
       record {
         end = end_of parts first;
         first = entry tariff trip parts price lawful first;
@@ -136,8 +138,8 @@ module _ (tariff : Tariff) (trip : Itinerary) (parts : List Part) (price : ℕ) 
         later = later;
         last = entry tariff trip parts price lawful last;
         last_there = entry_there tariff trip parts price lawful last last_place.0 last_place.1;
-        last_amount = true_cost tariff trip parts last;
-        last_costs = back_costs tariff trip parts price lawful last last_place.0 last_place.1 (half last last_in) last_own;
+        last_amount = back.0;
+        last_costs = back.1;
         may = may barred begin end;
-        sum = sum;
+        sum = omega arith;
       }

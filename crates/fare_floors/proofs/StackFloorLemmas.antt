@@ -27,12 +27,12 @@ use Rattle.fare_floors.specs.Costs.{part_least, true_cost, units_floor}
 use Rattle.fare_homing.specs.Floor.{capped_sum}
 use Rattle.fare_homing.specs.declared.ceiling.Ceiling.{Ceiling}
 use Rattle.fare_homing.specs.Ceiling.{IsWithin}
-use Rattle.fare_homing.specs.Homing.{IsUpTo, homing_at}
+use Rattle.fare_homing.specs.Homing.{IsUpTo, closing_by, homing_at}
 use Rattle.fare_floors.specs.Ending.{needs_more}
 use Rattle.fare_floors.specs.Floors.{IsFloorAnswer}
 use Rattle.fare_floors.specs.Joining.{is_blocked, is_stuck, may_join}
 use Rattle.fare_floors.proofs.JoiningLemmas.{joined}
-use Rattle.fare_homing.specs.Rows.{cell, closing_from, jaw_from, AreHomingsOf}
+use Rattle.fare_homing.specs.Rows.{begun_from, cell, closing_from, jaw_from, AreHomingsOf}
 use Rattle.fare_floors.specs.Stack.{goes_on, stand_of, AreOver, may_come_to, IsUnderSum, IsOverOpen, AreOverOpen, IsOpenUnit}
 use Rattle.fare_floors.proofs.CostLemmas.{unit_from_one, member_place}
 use Rattle.fare_floors.proofs.CrossingLemmas.{not_crossed, begun_by, began_before}
@@ -45,7 +45,7 @@ use Rattle.fare_floors.proofs.OverLemmas.{behind_is_over}
 use Rattle.fare_homing.proofs.ReachLemmas.{up_more}
 use Rattle.fare_floors.proofs.SameLemmas.{AreFirst}
 use Rattle.fare_floors.proofs.ShutLemmas.{own_behind, own_in_two, own_are_first, shut_alone, both_true, floor_by}
-use Rattle.fare_floors.proofs.StandLemmas.{stand_front}
+use Rattle.fare_floors.proofs.StandLemmas.{more_front, stand_front}
 use Rattle.fare_floors.proofs.SumLemmas.{kept_member, sum_up, sum_up_members}
 use Rattle.fare_floors.proofs.TrueCostLemmas.{true_least, true_up}
 
@@ -268,7 +268,7 @@ module _ (table : Pricing) (homing : Homing) (front : List Part) (u : ℕ) (high
         e : own front (suc u) ≡ x ∷ xs
         e = unit_has.2
 
-        here : IsOverOpen table.trip homing (end_of front (length front)) opened.stands opened.start opened.must i over_row.0 (rest_at behind i) (rest_at row i)
+        here : IsOverOpen table.trip homing (end_of front (length front)) opened.closes opened.stands opened.start opened.must i over_row.0 (rest_at behind i) (rest_at row i)
         here = over_row.2 i low most
 
         begins : start_of table.trip (front ++ rest) (first_of (own (front ++ rest) (suc u))) ≡ opened.start
@@ -311,9 +311,11 @@ module _ (table : Pricing) (homing : Homing) (front : List Part) (u : ℕ) (high
             let may_here = subst T (sym is.closes) (subst S (sym is.start) may_own) in
             let c = over.0 (goes table.edition table.trip front rest price lawful (suc u) (omega arith) high x xs e k more some) in
             let sum : c.0 + c.1 ≤ cost = c.2 in
-            let V : ℕ → Type 0 = λ s. IsUpTo c.0 (homing_at table.trip (closing_from homing s) (jaw_from homing s) (start_of table.trip (front ++ rest) (first_of (own (front ++ rest) (suc u)))) i (end_of (front ++ rest) (last_of (own (front ++ rest) (suc u))))) in
-            let U : ℕ → Type 0 = λ a. IsUpTo c.0 (homing_at table.trip (closing_from homing opened.stands) (jaw_from homing opened.stands) a i (end_of (front ++ rest) (last_of (own (front ++ rest) (suc u))))) in
-            let until = subst U begins (subst V stands c.3) in
+            let Closing : Bool → ℕ → ℕ → ℕ → Option ℕ = λ more s. closing_by more (begun_from homing) (closing_from homing) s in
+            let W : Bool → Type 0 = λ more. IsUpTo c.0 (homing_at table.trip (Closing more (stand_of (front ++ rest) (length front) (suc u))) (jaw_from homing (stand_of (front ++ rest) (length front) (suc u))) (start_of table.trip (front ++ rest) (first_of (own (front ++ rest) (suc u)))) i (end_of (front ++ rest) (last_of (own (front ++ rest) (suc u))))) in
+            let V : ℕ → Type 0 = λ s. IsUpTo c.0 (homing_at table.trip (Closing opened.closes s) (jaw_from homing s) (start_of table.trip (front ++ rest) (first_of (own (front ++ rest) (suc u)))) i (end_of (front ++ rest) (last_of (own (front ++ rest) (suc u))))) in
+            let U : ℕ → Type 0 = λ a. IsUpTo c.0 (homing_at table.trip (Closing opened.closes opened.stands) (jaw_from homing opened.stands) a i (end_of (front ++ rest) (last_of (own (front ++ rest) (suc u))))) in
+            let until = subst U begins (subst V stands (subst W (more_front front rest (suc u) ∙ sym is.closes) c.3)) in
             let then = known rest price (end_of (front ++ rest) (last_of (own (front ++ rest) (suc u)))) c.1 lawful cheap within_home.0 within_home.1 c.4 in
             let there : rest_at over_row.0 (end_of (front ++ rest) (last_of (own (front ++ rest) (suc u)))) ≡ rest_at behind (end_of (front ++ rest) (last_of (own (front ++ rest) (suc u)))) = over_row.1 (end_of (front ++ rest) (last_of (own (front ++ rest) (suc u)))) within_home.0 within_home.1 may_here in
             let least = here.home (end_of (front ++ rest) (last_of (own (front ++ rest) (suc u)))) within_home.0 within_home.1 until.0 then.0 until.1 (there ∙ then.1) in
@@ -397,7 +399,7 @@ module _ (table : Pricing) (homing : Homing) (are : AreHomingsOf table.edition t
       let P : List Part → Type 0 = λ xs. IsLawful table.edition table.trip xs price in
       let lawful : IsLawful table.edition table.trip (front ++ c.begins.0) price = subst P c.begins.1 c.lawful in
       let least = over c.begins.0 price (end_of front (length front)) (sum_by (true_cost table.edition table.trip (front ++ c.begins.0)) (range_with_len (length front + 1) (length c.begins.0))) lawful cheap (omega arith) within
-      (behind_is_over table.edition table.trip homing.ceiling are.ceiling (closing_from homing) (jaw_from homing) (cell homing.whole) (rest_at (left_of table.edition homing front)) front c.begins.0 (left_is_behind table homing are front c.begins.0 price lawful) price lawful cheap) in
+      (behind_is_over table.edition table.trip homing.ceiling are.ceiling (begun_from homing) (closing_from homing) (jaw_from homing) (cell homing.whole) (rest_at (left_of table.edition homing front)) front c.begins.0 (left_is_behind table homing are front c.begins.0 price lawful) price lawful cheap) in
       let spent : units_floor table.edition table.trip front + sum_by (true_cost table.edition table.trip (front ++ c.begins.0)) (range_with_len (length front + 1) (length c.begins.0)) ≤ price = spent_up table.edition table.trip front c.begins.0 price lawful in
       let low : least.0 ≤ sum_by (true_cost table.edition table.trip (front ++ c.begins.0)) (range_with_len (length front + 1) (length c.begins.0)) = least.2 in
       up_more (units_floor table.edition table.trip front + least.0) price found (omega arith) (sum (units_floor table.edition table.trip front) least.0 refl least.1)

@@ -1,5 +1,5 @@
 -- What the parts behind the first parts of a lawful construction cost is no less than what the units that go on say.
-use Rattle.std.proofs.Common.{◌≡◌, ℕ, zero, suc, ◌+◌, ◌-◌, ◌<◌, ◌≤◌, true, false, List, length, sym, subst, ◌∙◌, inl, inr, arith}
+use Rattle.std.proofs.Common.{◌≡◌, ℕ, zero, suc, ◌+◌, ◌-◌, ◌<◌, ◌≤◌, Bool, true, false, List, length, sym, subst, ◌∙◌, inl, inr, arith}
 use Rattle.std.specs.Prelude.{Option}
 use Rattle.std.proofs.lemmas.Bool.{cases_Bool, cases_lt}
 use Rattle.fare_trip.specs.Itinerary.{Itinerary, count}
@@ -8,10 +8,10 @@ use Rattle.fare_rules.specs.declared.part.Part.{Part}
 use Rattle.fare_rules.specs.Construction.{start_of, end_of, own, first_of, last_of, part_at, unit_of}
 use Rattle.fare_homing.specs.declared.ceiling.Ceiling.{Ceiling}
 use Rattle.fare_homing.specs.Barred.{is_barred}
-use Rattle.fare_homing.specs.Homing.{IsUpTo, homing_at, is_same_city}
+use Rattle.fare_homing.specs.Homing.{IsUpTo, closing_by, homing_at, is_same_city}
 use Rattle.fare_homing.specs.HomingRows.{AreHomings, AreRests}
 use Rattle.fare_floors.specs.Costs.{true_cost}
-use Rattle.fare_floors.specs.Stack.{goes_on, stand_of, IsOver, LastsBy}
+use Rattle.fare_floors.specs.Stack.{goes_on, has_more, stand_of, IsOver, LastsBy}
 use Rattle.fare_homing.proofs.ReachLemmas.{up_more}
 use Rattle.fare_homing.proofs.UnderLemmas.{nested_closes_under, nested_jaw_under, onward_free_under}
 
@@ -19,12 +19,12 @@ true_false : true ≡ false → ⊥
 true_false e = cc
 
 -- what is behind the points of a trip, where some fares are barred from each unit that begins behind so many parts
-pub record IsBehind (tariff : Tariff) (trip : Itinerary) (ceiling : Option Ceiling) (closing jaw : ℕ → ℕ → ℕ → Option ℕ) (whole : ℕ → ℕ → Option ℕ) (left : ℕ → Option ℕ) (parts : List Part) (from : ℕ) : Type 0 where
+pub record IsBehind (tariff : Tariff) (trip : Itinerary) (ceiling : Option Ceiling) (begun closing jaw : ℕ → ℕ → ℕ → Option ℕ) (whole : ℕ → ℕ → Option ℕ) (left : ℕ → Option ℕ) (parts : List Part) (from : ℕ) : Type 0 where
   pub kept : ℕ → Option ℕ
-  pub homings : AreHomings tariff trip ceiling closing jaw whole kept
+  pub homings : AreHomings tariff trip ceiling begun closing jaw whole kept
   pub barred : List ℕ
   pub outer : ℕ → ℕ → Option ℕ
-  pub rests : AreRests tariff trip barred closing jaw outer left
+  pub rests : AreRests tariff trip barred begun jaw outer left
   pub clear : (j : ℕ) → 1 ≤ j → j ≤ length parts → from < first_of (own parts (unit_of parts j)) → is_barred tariff barred (part_at parts j).fare ≡ false
 
 -- where a unit begins, and where it comes home
@@ -41,9 +41,9 @@ lasts_more tariff trip parts k i j x y low h last =
     let costs : true_cost tariff trip parts k ≤ x = last.costs in
     record { begins = omega arith; costs = omega arith }
 
-module _ (tariff : Tariff) (trip : Itinerary) (closing jaw : ℕ → ℕ → ℕ → Option ℕ) (left : ℕ → Option ℕ) (parts : List Part) where
+module _ (tariff : Tariff) (trip : Itinerary) (begun closing jaw : ℕ → ℕ → ℕ → Option ℕ) (left : ℕ → Option ℕ) (parts : List Part) where
   abbrev pub Over : ℕ → ℕ → ℕ → ℕ → Type 0
-  Over k u i cost = IsOver tariff trip closing jaw left parts k u i cost
+  Over k u i cost = IsOver tariff trip begun closing jaw left parts k u i cost
 
   -- what is over is so with a greater cost
   pub over_more : (k u i x y : ℕ) → x ≤ y → Over k u i x → Over k u i y
@@ -53,16 +53,17 @@ module _ (tariff : Tariff) (trip : Itinerary) (closing jaw : ℕ → ℕ → ℕ
 
   -- until a unit that goes on comes home, from where it stands
   abbrev pub HomeFrom : ℕ → ℕ → ℕ → ℕ → Type 0
-  HomeFrom k unit i x = IsUpTo x (homing_at trip (closing (stand_of parts k unit)) (jaw (stand_of parts k unit)) (begins_at trip parts unit) i (home_at parts unit))
+  HomeFrom k unit i x = IsUpTo x (homing_at trip (closing_by (has_more parts k unit) begun closing (stand_of parts k unit)) (jaw (stand_of parts k unit)) (begins_at trip parts unit) i (home_at parts unit))
 
-  home_same : (k m unit i x : ℕ) → stand_of parts k unit ≡ stand_of parts m unit → HomeFrom k unit i x → HomeFrom m unit i x
+  home_same : (k m unit i x : ℕ) → (stand_of parts k unit ≡ stand_of parts m unit) × (has_more parts k unit ≡ has_more parts m unit) → HomeFrom k unit i x → HomeFrom m unit i x
   home_same k m unit i x e up =
-      let P : ℕ → Type 0 = λ c. IsUpTo x (homing_at trip (closing c) (jaw c) (begins_at trip parts unit) i (home_at parts unit)) in
-      subst P e up
+      let P : ℕ → Type 0 = λ c. IsUpTo x (homing_at trip (closing_by (has_more parts k unit) begun closing c) (jaw c) (begins_at trip parts unit) i (home_at parts unit)) in
+      let Q : Bool → Type 0 = λ more. IsUpTo x (homing_at trip (closing_by more begun closing (stand_of parts m unit)) (jaw (stand_of parts m unit)) (begins_at trip parts unit) i (home_at parts unit)) in
+      subst Q e.1 (subst P e.0 up)
 
-  -- two places at which the same units go on, and stand at the same points
+  -- two places at which the same units go on, stand at the same points, and have more than one part there or not
   abbrev pub AreSame : ℕ → ℕ → ℕ → Type 0
-  AreSame k m u = (v : ℕ) → 1 ≤ v → v ≤ u → (goes_on parts k v ≡ goes_on parts m v) × (goes_on parts k v ≡ true → stand_of parts k v ≡ stand_of parts m v)
+  AreSame k m u = (v : ℕ) → 1 ≤ v → v ≤ u → (goes_on parts k v ≡ goes_on parts m v) × (goes_on parts k v ≡ true → (stand_of parts k v ≡ stand_of parts m v) × (has_more parts k v ≡ has_more parts m v))
 
   -- what is over is the same behind both
   pub over_same : (k m u i x : ℕ) → AreSame k m u → Over k u i x → Over m u i x
@@ -131,26 +132,26 @@ module _ (tariff : Tariff) (trip : Itinerary) (closing jaw : ℕ → ℕ → ℕ
       let P : ℕ → Type 0 = λ w. Over k w (home_at parts (suc u)) y in
       over_open k u i x y t up (subst P e o) last
 
-module _ (tariff : Tariff) (trip : Itinerary) (ceiling : Option Ceiling) (closing jaw : ℕ → ℕ → ℕ → Option ℕ) (whole : ℕ → ℕ → Option ℕ) (left : ℕ → Option ℕ) (are : AreHomings tariff trip ceiling closing jaw whole left) where
+module _ (tariff : Tariff) (trip : Itinerary) (ceiling : Option Ceiling) (begun closing jaw : ℕ → ℕ → ℕ → Option ℕ) (whole : ℕ → ℕ → Option ℕ) (left : ℕ → Option ℕ) (are : AreHomings tariff trip ceiling begun closing jaw whole left) where
   -- a number for what is nested with one for what is behind it
-  nested : (c start i b j w x : ℕ) → c ≤ i → i < b → b < j → b ≤ count trip → IsUpTo w (whole i b) → IsUpTo x (homing_at trip (closing c) (jaw c) start b j) → IsUpTo (w + x) (homing_at trip (closing c) (jaw c) start i j)
-  nested c start i b j w x stands low less high up more =
+  nested : (more : Bool) (c start i b j w x : ℕ) → c ≤ i → i < b → b < j → b ≤ count trip → IsUpTo w (whole i b) → IsUpTo x (homing_at trip (closing_by more begun closing c) (jaw c) start b j) → IsUpTo (w + x) (homing_at trip (closing_by more begun closing c) (jaw c) start i j)
+  nested more c start i b j w x stands low less high up behind =
       elim (cases_Bool (is_same_city trip start j)) [
-        | inl t ↦ rw t (nested_closes_under are c i b j w x stands low less high up (rw t at more))
-        | inr f ↦ rw f (nested_jaw_under are c i b j w x stands low less high up (rw f at more))
+        | inl t ↦ rw t (nested_closes_under are more c i b j w x stands low less high up (rw t at behind))
+        | inr f ↦ rw f (nested_jaw_under are c i b j w x stands low less high up (rw f at behind))
       ]
 
 -- a whole unit stands before what is over the others, each of which comes home behind it and stands before it
-module _ (tariff : Tariff) (trip : Itinerary) (ceiling : Option Ceiling) (closing jaw : ℕ → ℕ → ℕ → Option ℕ) (whole : ℕ → ℕ → Option ℕ) (left : ℕ → Option ℕ) (parts : List Part) {from : ℕ} (are : IsBehind tariff trip ceiling closing jaw whole left parts from) where
+module _ (tariff : Tariff) (trip : Itinerary) (ceiling : Option Ceiling) (begun closing jaw : ℕ → ℕ → ℕ → Option ℕ) (whole : ℕ → ℕ → Option ℕ) (left : ℕ → Option ℕ) (parts : List Part) {from : ℕ} (are : IsBehind tariff trip ceiling begun closing jaw whole left parts from) where
   pub step_over : (k n i b w x : ℕ) → i < b → b ≤ count trip → IsUpTo w (whole i b) → IsUpTo w (are.outer i b)
       → ((v : ℕ) → 1 ≤ v → v ≤ n → goes_on parts k v ≡ true → (b < home_at parts v) × (stand_of parts k v ≤ i))
-      → IsOver tariff trip closing jaw left parts k n b x → IsOver tariff trip closing jaw left parts k n i (w + x)
+      → IsOver tariff trip begun closing jaw left parts k n b x → IsOver tariff trip begun closing jaw left parts k n i (w + x)
   step_over k zero i b w x low high up free homes o = onward_free_under are.rests i b w x low high free o
   step_over k (suc u) i b w x low high up free homes o = (
     λ t.
         let c = o.0 t in
         let s : c.0 + c.1 ≤ x = c.2 in
         let h = homes (suc u) (omega arith) (omega arith) t in
-        (w + c.0, c.1, omega arith, nested tariff trip ceiling closing jaw whole are.kept are.homings (stand_of parts k (suc u)) (begins_at trip parts (suc u)) i b (home_at parts (suc u)) w c.0 h.1 low h.0 high up c.3, c.4, lasts_more tariff trip parts (last_of (own parts (suc u))) i b c.0 (w + c.0) (omega arith) (omega arith) c.5),
+        (w + c.0, c.1, omega arith, nested tariff trip ceiling begun closing jaw whole are.kept are.homings (has_more parts k (suc u)) (stand_of parts k (suc u)) (begins_at trip parts (suc u)) i b (home_at parts (suc u)) w c.0 h.1 low h.0 high up c.3, c.4, lasts_more tariff trip parts (last_of (own parts (suc u))) i b c.0 (w + c.0) (omega arith) (omega arith) c.5),
     λ f. step_over k u i b w x low high up free (λ v one most. homes v one (omega arith)) (o.1 f),
   )

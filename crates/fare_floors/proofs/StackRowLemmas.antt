@@ -11,8 +11,8 @@ use Rattle.fare_rules.proofs.NumberLemmas.{numbers_next, numbers_none}
 use Rattle.fare_units.specs.Advance.{Advances}
 use Rattle.fare_bounds.specs.Covers.{lesser, rest_at}
 use Rattle.fare_homing.specs.declared.homing.Homing.{Homing}
-use Rattle.fare_homing.specs.Homing.{homing_at}
-use Rattle.fare_homing.specs.Rows.{closing_from, jaw_from}
+use Rattle.fare_homing.specs.Homing.{closing_by, homing_at}
+use Rattle.fare_homing.specs.Rows.{begun_from, closing_from, jaw_from}
 use Rattle.fare_floors.specs.Stack.{IsUnderSum, IsUntilHome, IsOverOpen}
 use Rattle.fare_homing.proofs.ReachLemmas.{up_first, up_second, row_more}
 use Rattle.fare_floors.proofs.SumLemmas.{kept_member}
@@ -68,24 +68,28 @@ row_over P row from past known here i low high =
       | inr other ↦ known i low (omega arith)
     ]
 
-module _ (trip : Itinerary) (homing : Homing) (from stand start i : ℕ) (homes : List (Option ℕ)) where
+module _ (trip : Itinerary) (homing : Homing) (from : ℕ) (closes : Bool) (stand start i : ℕ) (homes : List (Option ℕ)) where
+  -- what is behind the point until the unit comes home
+  abbrev Until : ℕ → Option ℕ
+  Until home = homing_at trip (closing_by closes (begun_from homing) (closing_from homing) stand) (jaw_from homing stand) start i home
+
   -- a number is under what is behind the point until a unit comes home before another
   abbrev pub IsUntilBefore : ℕ → Option ℕ → Type 0
-  IsUntilBefore past least = (home : ℕ) → from ≤ home → home < past → IsUnderSum (homing_at trip (closing_from homing stand) (jaw_from homing stand) start i home) (rest_at homes home) least
+  IsUntilBefore past least = (home : ℕ) → from ≤ home → home < past → IsUnderSum (Until home) (rest_at homes home) least
 
-  pub until_next : (past : ℕ) (least here : Option ℕ) → IsUntilBefore past least → IsUnderSum (homing_at trip (closing_from homing stand) (jaw_from homing stand) start i past) (rest_at homes past) here → IsUntilBefore (past + 1) (lesser least here)
+  pub until_next : (past : ℕ) (least here : Option ℕ) → IsUntilBefore past least → IsUnderSum (Until past) (rest_at homes past) here → IsUntilBefore (past + 1) (lesser least here)
   until_next past least here known under home low high =
       elim (cases_eq home past) [
         | inl same ↦
-            let P : ℕ → Type 0 = λ j. IsUnderSum (homing_at trip (closing_from homing stand) (jaw_from homing stand) start i j) (rest_at homes j) (lesser least here) in
+            let P : ℕ → Type 0 = λ j. IsUnderSum (Until j) (rest_at homes j) (lesser least here) in
             subst P (sym same) (λ x y a b. up_second least here (x + y) (under x y a b))
         | inr other ↦ λ x y a b. up_first least here (x + y) (known home low (omega arith) x y a b)
       ]
 
-  pub over_must : (must : Bool) (behind least : Option ℕ) → must ≡ true → IsUntilHome trip homing from stand start i homes least → IsOverOpen trip homing from stand start must i homes behind least
+  pub over_must : (must : Bool) (behind least : Option ℕ) → must ≡ true → IsUntilHome trip homing from closes stand start i homes least → IsOverOpen trip homing from closes stand start must i homes behind least
   over_must must behind least t until = record { home = until; whole = λ f cost up. absurd (true_false (sym t ∙ f)) }
 
-  pub over_free : (must : Bool) (behind least : Option ℕ) → IsUntilHome trip homing from stand start i homes least → IsOverOpen trip homing from stand start must i homes behind (lesser least behind)
+  pub over_free : (must : Bool) (behind least : Option ℕ) → IsUntilHome trip homing from closes stand start i homes least → IsOverOpen trip homing from closes stand start must i homes behind (lesser least behind)
   over_free must behind least until = record {
     home = λ home low high x y a b. up_first least behind (x + y) (until home low high x y a b);
     whole = λ f cost up. up_second least behind cost up;

@@ -1,8 +1,9 @@
 -- Where the units of a lawful construction stand at a part, and where the next part of each begins.
 use Rattle.std.proofs.Common.{◌≡◌, ℕ, zero, suc, ◌+◌, ◌-◌, ◌<◌, ◌≤◌, ◌⊎◌, Bool, true, false, ◌&&◌, ◌||◌, not, List, [], ◌∷◌, ◌++◌, length, refl, ap, sym, subst, ◌∙◌, inl, inr, arith}
-use Rattle.std.specs.Prelude.{filter, bytes_eq}
+use Rattle.std.specs.Prelude.{filter, bytes_eq, nat_lt}
+use Rattle.std.proofs.Math.ListN.{length-append}
 use Rattle.std.specs.List.{range_with_len}
-use Rattle.std.proofs.lemmas.Bool.{cases_Bool, cases_eq, or_cases, and_parts, eq-eqb, ne_eqb}
+use Rattle.std.proofs.lemmas.Bool.{cases_Bool, cases_eq, or_cases, and_parts, eq-eqb, lt-ltb, ne_eqb}
 use Rattle.std.proofs.lemmas.List.{append-nil}
 use Rattle.std.proofs.lemmas.List.Elements.{filter-append}
 use Rattle.fare_trip.specs.Itinerary.{Itinerary}
@@ -17,7 +18,7 @@ use Rattle.fare_rules.proofs.MemberLemmas.{Member}
 use Rattle.fare_rules.proofs.NumberLemmas.{numbers_more}
 use Rattle.fare_units.proofs.NextLemmas.{front_unit}
 use Rattle.fare_homing.specs.Homing.{is_same_city, may_go_on}
-use Rattle.fare_floors.specs.Stack.{goes_on, own_to, stand_of}
+use Rattle.fare_floors.specs.Stack.{goes_on, has_more, own_to, stand_of}
 use Rattle.fare_floors.proofs.CostLemmas.{unit_from_one}
 use Rattle.fare_floors.proofs.GoesOnLemmas.{going_on, last_member}
 use Rattle.fare_floors.proofs.JoiningLemmas.{joint, other_way}
@@ -52,6 +53,29 @@ module _ (parts : List Part) where
       let past : filter (is_own parts unit) ((k + 1) ∷ []) ≡ [] = rw none refl in
       ap (λ xs. end_of parts (last_of xs)) (to_next k unit ∙ ap (λ xs. own_to parts k unit ++ xs) past ∙ append-nil (own_to parts k unit))
 
+  -- and brings it no part
+  pub more_over : (k unit : ℕ) → (unit_of parts (k + 1) ≡ unit → ⊥) → has_more parts (k + 1) unit ≡ has_more parts k unit
+  more_over k unit other =
+      let none : is_own parts unit (k + 1) ≡ false = ne_eqb (unit_of parts (k + 1)) unit other in
+      let past : filter (is_own parts unit) ((k + 1) ∷ []) ≡ [] = rw none refl in
+      ap (λ xs. nat_lt 1 (length xs)) (to_next k unit ∙ ap (λ xs. own_to parts k unit ++ xs) past ∙ append-nil (own_to parts k unit))
+
+  -- the places of a part's own unit up to it
+  own_next : (k : ℕ) → own_to parts (k + 1) (unit_of parts (k + 1)) ≡ own_to parts k (unit_of parts (k + 1)) ++ (k + 1) ∷ []
+  own_next k =
+      let mine : is_own parts (unit_of parts (k + 1)) (k + 1) ≡ true = eq-eqb (unit_of parts (k + 1)) (unit_of parts (k + 1)) refl in
+      let here : filter (is_own parts (unit_of parts (k + 1))) ((k + 1) ∷ []) ≡ (k + 1) ∷ [] = rw mine refl in
+      to_next k (unit_of parts (k + 1)) ∙ ap (λ xs. own_to parts k (unit_of parts (k + 1)) ++ xs) here
+
+  -- with a part behind another its unit has more than one, and with its first part it has not
+  pub more_here : (k : ℕ) → 1 ≤ length (own_to parts k (unit_of parts (k + 1))) → has_more parts (k + 1) (unit_of parts (k + 1)) ≡ true
+  more_here k some =
+      let n : length (own_to parts (k + 1) (unit_of parts (k + 1))) ≡ length (own_to parts k (unit_of parts (k + 1))) + 1 = ap length (own_next k) ∙ length-append (own_to parts k (unit_of parts (k + 1))) ((k + 1) ∷ []) in
+      lt-ltb 1 (length (own_to parts (k + 1) (unit_of parts (k + 1)))) (omega arith)
+
+  pub one_here : (k : ℕ) → own_to parts k (unit_of parts (k + 1)) ≡ [] → has_more parts (k + 1) (unit_of parts (k + 1)) ≡ false
+  one_here k none = ap (λ xs. nat_lt 1 (length xs)) (own_next k ∙ ap (λ xs. xs ++ (k + 1) ∷ []) none)
+
   -- one of its own brings it to where that ends
   pub stand_here : (k : ℕ) → stand_of parts (k + 1) (unit_of parts (k + 1)) ≡ end_of parts (k + 1)
   stand_here k =
@@ -71,6 +95,12 @@ module _ (parts : List Part) where
       ap (range_with_len 1) n ∙ range_in_two 1 (k + 1 - 1) (length parts + 1 - (k + 1)) ∙ ap (λ a. numbers 1 (k + 1) ++ range_with_len a (length parts + 1 - (k + 1))) m in
       ap (filter (is_own parts unit)) two ∙ filter-append (is_own parts unit) (numbers 1 (k + 1)) (numbers (k + 1) (length parts + 1))
       ∙ ap (λ xs. own_to parts k unit ++ xs) (own_here parts unit (k + 1) (length parts + 1) (omega arith) refl)
+
+-- up to the end of some first parts a unit has those that it has of them
+pub more_front : (front rest : List Part) (unit : ℕ) → has_more (front ++ rest) (length front) unit ≡ nat_lt 1 (length (own front unit))
+unfolding own
+more_front front rest unit =
+    ap (λ xs. nat_lt 1 (length xs)) (filter_like (is_own (front ++ rest) unit) (is_own front unit) 1 (length front + 1 - 1) (λ k low high. rw (front_unit front rest k low (omega arith)) refl))
 
 -- behind some first parts a unit of these stands where its last one among them ended
 pub stand_front : (front rest : List Part) (unit x : ℕ) (xs : List ℕ) → own front unit ≡ x ∷ xs → stand_of (front ++ rest) (length front) unit ≡ end_of front (last_of (own front unit))
@@ -124,7 +154,7 @@ module _ (tariff : Tariff) (trip : Itinerary) (parts : List Part) (price : ℕ) 
       ]
 
   -- a unit that goes on has a place up to there
-  some_to : (k unit j : ℕ) → 1 ≤ j → j ≤ k → unit_of parts j ≡ unit → 1 ≤ length (own_to parts k unit)
+  pub some_to : (k unit j : ℕ) → 1 ≤ j → j ≤ k → unit_of parts j ≡ unit → 1 ≤ length (own_to parts k unit)
   some_to k unit j low le mine =
       some_in (own_to parts k unit) j (member_kept (is_own parts unit) (range_with_len 1 (k + 1 - 1)) j (range_has 1 (k + 1 - 1) j low (omega arith)) (eq-eqb (unit_of parts j) unit mine))
 

@@ -1,7 +1,7 @@
 -- What the parts of a lawful construction cost in its units, by the entries of their spans.
-use Rattle.std.proofs.Common.{◌≡◌, ℕ, ◌+◌, ◌-◌, ◌<◌, ◌≤◌, Bool, true, false, ◌&&◌, ◌||◌, not, eqb, List, [], length, refl, ap, sym, subst, ◌∙◌, inl, inr, arith}
+use Rattle.std.proofs.Common.{◌≡◌, ℕ, ◌+◌, ◌-◌, ◌<◌, ◌≤◌, Bool, true, false, ◌&&◌, ◌||◌, not, eqb, List, [], ◌∷◌, length, refl, ap, sym, subst, ◌∙◌, inl, inr, arith}
 use Rattle.std.specs.Prelude.{Option, Some, None, is_some, sum_by, bytes_eq, Contains}
-use Rattle.std.proofs.lemmas.Bool.{cases_Bool, eq-eqb, ne_eqb}
+use Rattle.std.proofs.lemmas.Bool.{cases_Bool, eq-eqb, eqb-true, ne_eqb}
 use Rattle.std.proofs.lemmas.List.Sums.{sum_by-cons}
 use Rattle.std.proofs.lemmas.Slice.Eq.{bytes_eq-Decides}
 use Rattle.fare_codes.specs.declared.city.City.{City}
@@ -27,9 +27,10 @@ use Rattle.fare_rules.proofs.MemberLemmas.{Member}
 use Rattle.fare_component.specs.declared.table.entry.Entry.{Entry}
 use Rattle.fare_component.specs.Table.{entry_of, entries_of, has_amount, single_price}
 use Rattle.fare_component.proofs.LawLemmas.{amount_is_entry}
-use Rattle.fare_floors.specs.Costs.{or_nothing, part_least}
+use Rattle.fare_floors.specs.Costs.{is_second, or_nothing, part_least}
 use Rattle.fare_homing.specs.Homing.{first_cost, between_cost, back_cost, heads_to}
 use Rattle.fare_floors.proofs.CostLemmas.{not_half, half, at_least_up, one_way_least, half_part, member_place}
+use Rattle.fare_floors.proofs.GoesOnLemmas.{own_two}
 use Rattle.fare_floors.proofs.UnitLemmas.{all, own_has, alone_in, holds_none, single_there, single_not}
 use Rattle.fare_floors.specs.Costs.{true_cost}
 use Rattle.fare_floors.proofs.SumLemmas.{sum_up_members, kept_member}
@@ -53,6 +54,26 @@ priced_either : (out back : Option Amount) (direction : Bool) (amount : Amount) 
 priced_either out back false amount o b = rw (o refl) refl
 priced_either None back true amount o b = rw (b refl) refl
 priced_either (Some x) back true amount o b = refl
+
+-- before the last of some places none is the second of two
+no_second : (xs : List ℕ) (k : ℕ) → k < last_of xs → is_second xs k ≡ false
+no_second [] k less = refl
+no_second (a ∷ []) k less = refl
+no_second (a ∷ b ∷ []) k less = ne_eqb b k (λ same. omega arith)
+no_second (a ∷ b ∷ c ∷ more) k less = refl
+
+two_sum : (f : ℕ → ℕ) (a b : ℕ) → sum_by f (a ∷ b ∷ []) ≡ f a + (f b + 0)
+two_sum f a b = sum_by-cons f a (b ∷ []) ∙ ap (λ n. f a + n) (sum_by-cons f b [])
+
+-- two places add up to what the first and the second do
+second_sum : (f : ℕ → ℕ) (xs : List ℕ) (k : ℕ) → is_second xs k ≡ true → sum_by f xs ≡ f (first_of xs) + f k
+second_sum f [] k t = absurd (true_false (sym t))
+second_sum f (a ∷ []) k t = absurd (true_false (sym t))
+second_sum f (a ∷ b ∷ []) k t =
+    let same : f b ≡ f k = ap f (eqb-true b k t) in
+    let sum : sum_by f (a ∷ b ∷ []) ≡ f a + (f b + 0) = two_sum f a b in
+    omega arith
+second_sum f (a ∷ b ∷ c ∷ more) k t = absurd (true_false (sym t))
 
 module _ (tariff : Tariff) (trip : Itinerary) (parts : List Part) (price : ℕ) (lawful : IsLawful tariff trip parts price) where
   -- the entry of a part
@@ -80,8 +101,30 @@ module _ (tariff : Tariff) (trip : Itinerary) (parts : List Part) (price : ℕ) 
   one_way_true : (k : ℕ) → is_ow tariff parts k ≡ true → true_cost tariff trip parts k ≡ unit_price tariff trip parts (unit_of parts k)
   one_way_true k way = rw way refl
 
-  half_true : (k : ℕ) → is_ow tariff parts k ≡ false → true_cost tariff trip parts k ≡ part_cost tariff trip parts (own parts (unit_of parts k)) k
-  half_true k way = rw way refl
+  half_true : (k : ℕ) → is_ow tariff parts k ≡ false → is_second (own parts (unit_of parts k)) k ≡ false → true_cost tariff trip parts k ≡ part_cost tariff trip parts (own parts (unit_of parts k)) k
+  half_true k way other = rw (way, other) refl
+
+  second_true : (k : ℕ) → is_ow tariff parts k ≡ false → is_second (own parts (unit_of parts k)) k ≡ true
+      → true_cost tariff trip parts k ≡ unit_price tariff trip parts (unit_of parts k) - part_cost tariff trip parts (own parts (unit_of parts k)) (first_of (own parts (unit_of parts k)))
+  second_true k way second = rw (way, second) refl
+
+  -- a unit costs no less than the sum of its amounts
+  sum_in_price : (unit : ℕ) → sum_by (part_cost tariff trip parts (own parts unit)) (own parts unit) ≤ unit_price tariff trip parts unit
+  unfolding unit_sheet unit_sum
+  sum_in_price unit = at_least_up (sum_by (part_cost tariff trip parts (own parts unit)) (own parts unit)) (unit_minimum tariff trip parts (own parts unit) (unit_kind tariff trip parts (own parts unit)))
+
+  -- so a half round trip is worth no less than its amount
+  pub half_low : (k : ℕ) → is_ow tariff parts k ≡ false → part_cost tariff trip parts (own parts (unit_of parts k)) k ≤ true_cost tariff trip parts k
+  half_low k way =
+      elim (cases_Bool (is_second (own parts (unit_of parts k)) k)) [
+        | inl t ↦
+            let cost : true_cost tariff trip parts k ≡ unit_price tariff trip parts (unit_of parts k) - part_cost tariff trip parts (own parts (unit_of parts k)) (first_of (own parts (unit_of parts k))) = second_true k way t in
+            let sum : sum_by (part_cost tariff trip parts (own parts (unit_of parts k))) (own parts (unit_of parts k)) ≡ part_cost tariff trip parts (own parts (unit_of parts k)) (first_of (own parts (unit_of parts k))) + part_cost tariff trip parts (own parts (unit_of parts k)) k =
+            second_sum (part_cost tariff trip parts (own parts (unit_of parts k))) (own parts (unit_of parts k)) k t in
+            let up : sum_by (part_cost tariff trip parts (own parts (unit_of parts k))) (own parts (unit_of parts k)) ≤ unit_price tariff trip parts (unit_of parts k) = sum_in_price (unit_of parts k) in
+            omega arith
+        | inr f ↦ let cost : true_cost tariff trip parts k ≡ part_cost tariff trip parts (own parts (unit_of parts k)) k = half_true k way f in omega arith
+      ]
 
   -- a one way fare costs its price alone
   pub alone_cost : (k : ℕ) → 1 ≤ k → k ≤ length parts → is_ow tariff parts k ≡ true → single_price tariff trip (start_of trip parts k) (end_of parts k) (part_at parts k).fare ≡ Some (true_cost tariff trip parts k)
@@ -98,11 +141,15 @@ module _ (tariff : Tariff) (trip : Itinerary) (parts : List Part) (price : ℕ) 
       single_not tariff trip (start_of trip parts k) (end_of parts k) (part_at parts k).fare filed.0 filed.1 (half filed.0.kind kind)
 
   -- a half round trip costs its amount
-  half_amount : (k : ℕ) → 1 ≤ k → k ≤ length parts → is_ow tariff parts k ≡ false → (amount : Amount) × Priced k amount × (true_cost tariff trip parts k ≡ amount.amount)
+  half_amount : (k : ℕ) → 1 ≤ k → k ≤ length parts → (amount : Amount) × Priced k amount × (part_cost tariff trip parts (own parts (unit_of parts k)) k ≡ amount.amount)
   unfolding part_amount
-  half_amount k low high way =
+  half_amount k low high =
       let found = amount_of_lawful tariff trip parts price k lawful low high in
-      (found.0, found.1, rw (way, found.1) refl)
+      (found.0, found.1, rw found.1 refl)
+
+  -- and before the last of its unit no more
+  pub half_is : (k : ℕ) → is_ow tariff parts k ≡ false → k < last_of (own parts (unit_of parts k)) → true_cost tariff trip parts k ≡ part_cost tariff trip parts (own parts (unit_of parts k)) k
+  half_is k way less = half_true k way (no_second (own parts (unit_of parts k)) k less)
 
   -- the first part of a unit is priced out where others follow
   first_is_out : (k : ℕ) → first_of (own parts (unit_of parts k)) ≡ k → k < last_of (own parts (unit_of parts k)) → is_back tariff trip parts k ≡ false
@@ -128,17 +175,19 @@ module _ (tariff : Tariff) (trip : Itinerary) (parts : List Part) (price : ℕ) 
 
   pub first_costs : (k : ℕ) → 1 ≤ k → k ≤ length parts → is_ow tariff parts k ≡ false → first_of (own parts (unit_of parts k)) ≡ k → k < last_of (own parts (unit_of parts k)) → first_cost (entry k) ≡ Some (true_cost tariff trip parts k)
   first_costs k low high way first less =
-      let found = half_amount k low high way in
+      let found = half_amount k low high in
       let out : component_amount tariff trip (start_of trip parts k) (end_of parts k) (part_at parts k).fare false ≡ Some found.0 = in_direction k found.0 found.1 false (first_is_out k first less) in
       let cost : first_cost (entry k) ≡ Some found.0.amount = rw (no_single k low high way, out) refl in
-      cost ∙ ap Some (sym found.2)
+      cost ∙ ap Some (sym found.2) ∙ ap Some (sym (half_is k way less))
 
-  pub back_costs : (k : ℕ) → 1 ≤ k → k ≤ length parts → is_ow tariff parts k ≡ false → last_of (own parts (unit_of parts k)) ≡ k → back_cost (entry k) ≡ Some (true_cost tariff trip parts k)
+  pub back_costs : (k : ℕ) → 1 ≤ k → k ≤ length parts → is_ow tariff parts k ≡ false → last_of (own parts (unit_of parts k)) ≡ k → (x : ℕ) × (back_cost (entry k) ≡ Some x) × (x ≤ true_cost tariff trip parts k)
   back_costs k low high way last =
-      let found = half_amount k low high way in
+      let found = half_amount k low high in
       let back : component_amount tariff trip (start_of trip parts k) (end_of parts k) (part_at parts k).fare true ≡ Some found.0 = in_direction k found.0 found.1 true (last_is_back k low high way last) in
       let cost : back_cost (entry k) ≡ Some found.0.amount = rw (no_single k low high way, back) refl in
-      cost ∙ ap Some (sym found.2)
+      let amount : part_cost tariff trip parts (own parts (unit_of parts k)) k ≡ found.0.amount = found.2 in
+      let up : part_cost tariff trip parts (own parts (unit_of parts k)) k ≤ true_cost tariff trip parts k = half_low k way in
+      (found.0.amount, cost, omega arith)
 
   -- a part between them is priced back where it comes into the country of the city where its unit closes
   between_is_back : (k : ℕ) → 1 ≤ k → k ≤ length parts → is_ow tariff parts k ≡ false → k < last_of (own parts (unit_of parts k))
@@ -153,16 +202,16 @@ module _ (tariff : Tariff) (trip : Itinerary) (parts : List Part) (price : ℕ) 
       → (home : ℕ) → point trip home ≡ start_city trip parts (first_of (own parts (unit_of parts k)))
       → between_cost (heads_to tariff trip (start_of trip parts k) (end_of parts k) home) (entry k) ≡ Some (true_cost tariff trip parts k)
   between_costs k low high way less home city =
-      let found = half_amount k low high way in
-      by_direction (heads_to tariff trip (start_of trip parts k) (end_of parts k) home) (between_is_back k low high way less home city) ∙ ap Some (sym found.2)
+      let found = half_amount k low high in
+      by_direction (heads_to tariff trip (start_of trip parts k) (end_of parts k) home) (between_is_back k low high way less home city) ∙ ap Some (sym found.2) ∙ ap Some (sym (half_is k way less))
     where
-      by_direction : (heads : Bool) → is_back tariff trip parts k ≡ heads → between_cost heads (entry k) ≡ Some (half_amount k low high way).0.amount
+      by_direction : (heads : Bool) → is_back tariff trip parts k ≡ heads → between_cost heads (entry k) ≡ Some (half_amount k low high).0.amount
       by_direction true e =
-          let found = half_amount k low high way in
+          let found = half_amount k low high in
           let back : component_amount tariff trip (start_of trip parts k) (end_of parts k) (part_at parts k).fare true ≡ Some found.0 = in_direction k found.0 found.1 true e in
           rw (no_single k low high way, back) refl
       by_direction false e =
-          let found = half_amount k low high way in
+          let found = half_amount k low high in
           let out : component_amount tariff trip (start_of trip parts k) (end_of parts k) (part_at parts k).fare false ≡ Some found.0 = in_direction k found.0 found.1 false e in
           rw (no_single k low high way, out) refl
 
@@ -177,29 +226,65 @@ module _ (tariff : Tariff) (trip : Itinerary) (parts : List Part) (price : ℕ) 
         | inr f ↦
             let none : holds_ow tariff parts (own parts (unit_of parts k)) ≡ false = holds_none tariff trip parts price lawful k low high f in
             let least : part_least tariff trip parts k ≤ part_cost tariff trip parts (own parts (unit_of parts k)) k = half_part tariff trip parts price lawful (unit_of parts k) k none (own_has tariff trip parts price lawful k low high) in
-            let cost : true_cost tariff trip parts k ≡ part_cost tariff trip parts (own parts (unit_of parts k)) k = half_true k f in
+            let cost : part_cost tariff trip parts (own parts (unit_of parts k)) k ≤ true_cost tariff trip parts k = half_low k f in
             omega arith
       ]
 
-  -- a part of a unit of half round trips costs there what it does in the unit
-  half_mine : (unit k : ℕ) → holds_ow tariff parts (own parts unit) ≡ false → Member k (own parts unit) → true_cost tariff trip parts k ≡ part_cost tariff trip parts (own parts unit) k
+  -- a part of a unit of half round trips is one
+  half_of : (unit k : ℕ) → holds_ow tariff parts (own parts unit) ≡ false → Member k (own parts unit) → is_ow tariff parts k ≡ false
   unfolding own
-  half_mine unit k none m =
+  half_of unit k none m =
       let place = member_place tariff trip parts price lawful unit k m in
       let high : k ≤ length parts = place.1 in
-      let one : is_ow tariff parts k ≡ false = any_kept_none (is_own parts unit) (is_ow tariff parts) 1 (length parts + 1) none k place.0 (omega arith) (kept_member (is_own parts unit) 1 (length parts + 1 - 1) k m).2 in
-      half_true k one ∙ ap (λ u. part_cost tariff trip parts (own parts u) k) place.2
+      any_kept_none (is_own parts unit) (is_ow tariff parts) 1 (length parts + 1) none k place.0 (omega arith) (kept_member (is_own parts unit) 1 (length parts + 1 - 1) k m).2
+
+  -- where it is not the second of two it costs there what it does in the unit
+  half_mine : (unit k : ℕ) → holds_ow tariff parts (own parts unit) ≡ false → Member k (own parts unit) → is_second (own parts unit) k ≡ false → true_cost tariff trip parts k ≡ part_cost tariff trip parts (own parts unit) k
+  half_mine unit k none m other =
+      let place = member_place tariff trip parts price lawful unit k m in
+      let S : ℕ → Type 0 = λ u. is_second (own parts u) k ≡ false in
+      half_true k (half_of unit k none m) (subst S (sym place.2) other) ∙ ap (λ u. part_cost tariff trip parts (own parts u) k) place.2
 
   half_up : (unit : ℕ) → holds_ow tariff parts (own parts unit) ≡ false → sum_by (true_cost tariff trip parts) (own parts unit) ≤ unit_price tariff trip parts unit
-  unfolding unit_sheet unit_sum
-  half_up unit none =
-      let sum : sum_by (true_cost tariff trip parts) (own parts unit) ≤ sum_by (part_cost tariff trip parts (own parts unit)) (own parts unit) =
-      sum_up_members (true_cost tariff trip parts) (part_cost tariff trip parts (own parts unit)) (own parts unit) (λ k m. up_to k (half_mine unit k none m)) in
-      let up : sum_by (part_cost tariff trip parts (own parts unit)) (own parts unit) ≤ at_least (sum_by (part_cost tariff trip parts (own parts unit)) (own parts unit)) (unit_minimum tariff trip parts (own parts unit) (unit_kind tariff trip parts (own parts unit))) = at_least_up (sum_by (part_cost tariff trip parts (own parts unit)) (own parts unit)) (unit_minimum tariff trip parts (own parts unit) (unit_kind tariff trip parts (own parts unit))) in
-      omega arith
+  half_up unit none = by_places (own parts unit) refl
     where
       up_to : (k : ℕ) → true_cost tariff trip parts k ≡ part_cost tariff trip parts (own parts unit) k → true_cost tariff trip parts k ≤ part_cost tariff trip parts (own parts unit) k
       up_to k e = omega arith
+
+      no_two : ((k : ℕ) → is_second (own parts unit) k ≡ false) → sum_by (true_cost tariff trip parts) (own parts unit) ≤ unit_price tariff trip parts unit
+      no_two other =
+          let sum : sum_by (true_cost tariff trip parts) (own parts unit) ≤ sum_by (part_cost tariff trip parts (own parts unit)) (own parts unit) =
+          sum_up_members (true_cost tariff trip parts) (part_cost tariff trip parts (own parts unit)) (own parts unit) (λ k m. up_to k (half_mine unit k none m (other k))) in
+          let up : sum_by (part_cost tariff trip parts (own parts unit)) (own parts unit) ≤ unit_price tariff trip parts unit = sum_in_price unit in
+          omega arith
+
+      two : (a b : ℕ) → own parts unit ≡ a ∷ b ∷ [] → sum_by (true_cost tariff trip parts) (own parts unit) ≤ unit_price tariff trip parts unit
+      two a b e =
+          let first : Member a (own parts unit) = subst (Member a) (sym e) (inl refl) in
+          let second : Member b (own parts unit) = subst (Member b) (sym e) (inr (inl refl)) in
+          let place = member_place tariff trip parts price lawful unit b second in
+          let n : length (own parts unit) ≡ 2 = ap length e in
+          let rise : first_of (own parts unit) < last_of (own parts unit) = own_two parts unit (omega arith) in
+          let begins : first_of (own parts unit) ≡ a = ap first_of e in
+          let ends : last_of (own parts unit) ≡ b = ap last_of e in
+          let apart : eqb b a ≡ false = ne_eqb b a (λ same. omega arith) in
+          let other : is_second (own parts unit) a ≡ false = ap (λ xs. is_second xs a) e ∙ apart in
+          let here : is_second (own parts unit) b ≡ true = ap (λ xs. is_second xs b) e ∙ eq-eqb b b refl in
+          let S : ℕ → Type 0 = λ u. is_second (own parts u) b ≡ true in
+          let W : ℕ → Type 0 = λ u. true_cost tariff trip parts b ≡ unit_price tariff trip parts u - part_cost tariff trip parts (own parts u) (first_of (own parts u)) in
+          let one : true_cost tariff trip parts a ≡ part_cost tariff trip parts (own parts unit) a = half_mine unit a none first other in
+          let worth : true_cost tariff trip parts b ≡ unit_price tariff trip parts unit - part_cost tariff trip parts (own parts unit) (first_of (own parts unit)) = subst W place.2 (second_true b (half_of unit b none second) (subst S (sym place.2) here)) in
+          let same : part_cost tariff trip parts (own parts unit) (first_of (own parts unit)) ≡ part_cost tariff trip parts (own parts unit) a = ap (part_cost tariff trip parts (own parts unit)) begins in
+          let sum : sum_by (true_cost tariff trip parts) (own parts unit) ≡ true_cost tariff trip parts a + (true_cost tariff trip parts b + 0) = ap (sum_by (true_cost tariff trip parts)) e ∙ two_sum (true_cost tariff trip parts) a b in
+          let amounts : sum_by (part_cost tariff trip parts (own parts unit)) (own parts unit) ≡ part_cost tariff trip parts (own parts unit) a + (part_cost tariff trip parts (own parts unit) b + 0) = ap (sum_by (part_cost tariff trip parts (own parts unit))) e ∙ two_sum (part_cost tariff trip parts (own parts unit)) a b in
+          let up : sum_by (part_cost tariff trip parts (own parts unit)) (own parts unit) ≤ unit_price tariff trip parts unit = sum_in_price unit in
+          omega arith
+
+      by_places : (xs : List ℕ) → own parts unit ≡ xs → sum_by (true_cost tariff trip parts) (own parts unit) ≤ unit_price tariff trip parts unit
+      by_places [] e = no_two (λ k. ap (λ ys. is_second ys k) e)
+      by_places (a ∷ []) e = no_two (λ k. ap (λ ys. is_second ys k) e)
+      by_places (a ∷ b ∷ []) e = two a b e
+      by_places (a ∷ b ∷ c ∷ more) e = no_two (λ k. ap (λ ys. is_second ys k) e)
 
   alone_up : (unit : ℕ) → 1 ≤ unit → unit ≤ greatest_unit parts (places parts) → holds_ow tariff parts (own parts unit) ≡ true → sum_by (true_cost tariff trip parts) (own parts unit) ≡ unit_price tariff trip parts unit
   alone_up unit low high way =
@@ -209,6 +294,15 @@ module _ (tariff : Tariff) (trip : Itinerary) (parts : List Part) (price : ℕ) 
       let sum : sum_by (true_cost tariff trip parts) (own parts unit) ≡ true_cost tariff trip parts one.0 + sum_by (true_cost tariff trip parts) [] = ap (sum_by (true_cost tariff trip parts)) one.1 ∙ sum_by-cons (true_cost tariff trip parts) one.0 [] in
       let whole : true_cost tariff trip parts one.0 + sum_by (true_cost tariff trip parts) [] ≡ true_cost tariff trip parts one.0 = omega arith in
       sum ∙ whole ∙ one_way_true one.0 one.2 ∙ ap (unit_price tariff trip parts) place.2
+
+  -- the second of two parts is worth no less than it costs, and what its unit costs above the first
+  pub second_worth : (a b : ℕ) → own parts (unit_of parts b) ≡ a ∷ b ∷ [] → is_ow tariff parts b ≡ false
+      → (part_cost tariff trip parts (a ∷ b ∷ []) b ≤ true_cost tariff trip parts b) × (true_cost tariff trip parts b ≡ unit_price tariff trip parts (unit_of parts b) - part_cost tariff trip parts (a ∷ b ∷ []) a)
+  second_worth a b two way =
+      let here : is_second (own parts (unit_of parts b)) b ≡ true = ap (λ xs. is_second xs b) two ∙ eq-eqb b b refl in
+      let L : List ℕ → Type 0 = λ xs. part_cost tariff trip parts xs b ≤ true_cost tariff trip parts b in
+      let W : List ℕ → Type 0 = λ xs. true_cost tariff trip parts b ≡ unit_price tariff trip parts (unit_of parts b) - part_cost tariff trip parts xs (first_of xs) in
+      (subst L two (half_low b way), subst W two (second_true b way here))
 
   -- a unit costs no less than its parts do
   pub true_up : (unit : ℕ) → 1 ≤ unit → unit ≤ greatest_unit parts (places parts) → sum_by (true_cost tariff trip parts) (own parts unit) ≤ unit_price tariff trip parts unit

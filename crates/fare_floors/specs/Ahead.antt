@@ -16,7 +16,7 @@ use Rattle.fare_floors.specs.Costs.{part_least, AreUnitFloors}
 use Rattle.fare_floors.specs.Floors.{IsMadeWith}
 use Rattle.fare_homing.specs.Ceiling.{IsWithin}
 use Rattle.fare_homing.specs.Homing.{IsUpTo, may_end_at}
-use Rattle.fare_homing.specs.Rows.{cell, closing_from, jaw_from, AreHomingsOf}
+use Rattle.fare_homing.specs.Rows.{begun_from, cell, closing_from, jaw_from, AreHomingsOf}
 use Rattle.fare_floors.specs.Stack.{AreHomes, IsOver, IsOverOpen}
 
 -- a number is behind the part that comes next after some first parts: it is there, and with what the first parts cost
@@ -47,7 +47,7 @@ AreBehindHalf table homing first unit numbers =
     (part : Part) (rest : List Part) (price cost : ℕ)
     → IsLawful table.edition table.trip (first ++ part ∷ rest) price → IsWithin homing.ceiling price → part.unit ≡ unit
     → is_ow table.edition (first ++ part ∷ rest) (length first + 1) ≡ false
-    → IsOver table.edition table.trip (closing_from homing) (jaw_from homing)
+    → IsOver table.edition table.trip (begun_from homing) (closing_from homing) (jaw_from homing)
     (rest_at (left_of table.edition homing first)) (first ++ part ∷ rest) (length first + 1)
     (greatest_unit (first ++ part ∷ rest) (places (first ++ part ∷ rest)))
     (end_of (first ++ part ∷ rest) (length first + 1)) cost → IsUpTo cost (rest_at numbers part.end)
@@ -63,7 +63,7 @@ abbrev pub IsHalfRow : Pricing → Homing → ℕ → ℕ → Bool → List (Opt
 IsHalfRow table homing from start begun below row =
     (homes : List (Option ℕ)) × AreHomes table.edition table.trip from start begun below homes
     × ((i : ℕ) → from ≤ i → i ≤ count table.trip
-    → IsOverOpen table.trip homing (i + 1) i start (must_go_from table.edition table.trip start begun i) i homes
+    → IsOverOpen table.trip homing (i + 1) begun i start (must_go_from table.edition table.trip start begun i) i homes
     (rest_at below i) (rest_at row i))
 
 -- what is known of where a search stands: what is behind the points of the trip, that the first parts are of the trip,

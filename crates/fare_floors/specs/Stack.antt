@@ -17,8 +17,8 @@ use Rattle.fare_floors.specs.Costs.{true_cost, units_floor, AreUnitFloors}
 use Rattle.fare_floors.specs.Ending.{needs_more}
 use Rattle.fare_floors.specs.Floors.{IsFloorAnswer}
 use Rattle.fare_homing.specs.Ceiling.{IsWithin}
-use Rattle.fare_homing.specs.Homing.{IsUpTo, may_end_at, is_same_city, homing_at}
-use Rattle.fare_homing.specs.Rows.{closing_from, jaw_from}
+use Rattle.fare_homing.specs.Homing.{IsUpTo, closing_by, may_end_at, is_same_city, homing_at}
+use Rattle.fare_homing.specs.Rows.{begun_from, closing_from, jaw_from}
 
 -- a unit goes on behind a place: its first part stands there or before, and its last one behind
 abbrev pub goes_on : List Part → ℕ → ℕ → Bool
@@ -32,6 +32,10 @@ own_to parts k unit = filter (is_own parts unit) (numbers 1 (k + 1))
 abbrev pub stand_of : List Part → ℕ → ℕ → ℕ
 stand_of parts k unit = end_of parts (last_of (own_to parts k unit))
 
+-- a unit has more than one part up to a place
+abbrev pub has_more : List Part → ℕ → ℕ → Bool
+has_more parts k unit = nat_lt 1 (length (own_to parts k unit))
+
 -- the last part of a unit begins at a point or behind it, and costs no more than a number
 pub record LastsBy (tariff : Tariff) (trip : Itinerary) (parts : List Part) (k i cost : ℕ) : Type 0 where
   pub begins : i ≤ start_of trip parts k
@@ -39,16 +43,17 @@ pub record LastsBy (tariff : Tariff) (trip : Itinerary) (parts : List Part) (k i
 
 -- a cost is over the units, up to a number, that go on behind a place: from a point on, each comes home where it does
 -- from where it stands, the greatest number first, and behind that there is what is behind where no unit is open
-abbrev pub IsOver : Tariff → Itinerary → (ℕ → ℕ → ℕ → Option ℕ) → (ℕ → ℕ → ℕ → Option ℕ) → (ℕ → Option ℕ) → List Part
-    → ℕ → ℕ → ℕ → ℕ → Type 0
-IsOver tariff trip closing jaw left parts k zero i cost = IsUpTo cost (left i)
-IsOver tariff trip closing jaw left parts k (suc u) i cost =
+abbrev pub IsOver : Tariff → Itinerary → (ℕ → ℕ → ℕ → Option ℕ) → (ℕ → ℕ → ℕ → Option ℕ) → (ℕ → ℕ → ℕ → Option ℕ)
+    → (ℕ → Option ℕ) → List Part → ℕ → ℕ → ℕ → ℕ → Type 0
+IsOver tariff trip begun closing jaw left parts k zero i cost = IsUpTo cost (left i)
+IsOver tariff trip begun closing jaw left parts k (suc u) i cost =
     (goes_on parts k (suc u) ≡ true → (x : ℕ) × (y : ℕ) × (x + y ≤ cost)
-    × IsUpTo x (homing_at trip (closing (stand_of parts k (suc u))) (jaw (stand_of parts k (suc u)))
-    (start_of trip parts (first_of (own parts (suc u)))) i (end_of parts (last_of (own parts (suc u)))))
-    × IsOver tariff trip closing jaw left parts k u (end_of parts (last_of (own parts (suc u)))) y
+    × IsUpTo x (homing_at trip (closing_by (has_more parts k (suc u)) begun closing (stand_of parts k (suc u)))
+    (jaw (stand_of parts k (suc u))) (start_of trip parts (first_of (own parts (suc u)))) i
+    (end_of parts (last_of (own parts (suc u)))))
+    × IsOver tariff trip begun closing jaw left parts k u (end_of parts (last_of (own parts (suc u)))) y
     × LastsBy tariff trip parts (last_of (own parts (suc u))) i x)
-    × (goes_on parts k (suc u) ≡ false → IsOver tariff trip closing jaw left parts k u i cost)
+    × (goes_on parts k (suc u) ≡ false → IsOver tariff trip begun closing jaw left parts k u i cost)
 
 -- numbers are under what is behind each point from the end of some first parts on, over the units up to a number, in
 -- every construction that begins with the parts and is under the ceiling
@@ -56,7 +61,7 @@ abbrev pub AreOver : Pricing → Homing → List Part → ℕ → List (Option �
 AreOver table homing first unit numbers =
     (rest : List Part) (price i cost : ℕ) → IsLawful table.edition table.trip (first ++ rest) price
     → IsWithin homing.ceiling price → end_of first (length first) ≤ i → i ≤ count table.trip
-    → IsOver table.edition table.trip (closing_from homing) (jaw_from homing)
+    → IsOver table.edition table.trip (begun_from homing) (closing_from homing) (jaw_from homing)
     (rest_at (left_of table.edition homing first)) (first ++ rest) (length first) unit i cost
     → IsUpTo cost (rest_at numbers i)
 
@@ -77,18 +82,18 @@ abbrev pub IsUnderSum : Option ℕ → Option ℕ → Option ℕ → Type 0
 IsUnderSum a b least = (x y : ℕ) → a ≡ Some x → b ≡ Some y → IsUpTo (x + y) least
 
 -- a number is under what is behind a point until a unit that stands at another comes home, at any point from one on,
--- with what is behind that
-abbrev pub IsUntilHome : Itinerary → Homing → ℕ → ℕ → ℕ → ℕ → List (Option ℕ) → Option ℕ → Type 0
-IsUntilHome trip homing from stand start i homes least =
+-- with what is behind that; the unit has one part, or more where it must close
+abbrev pub IsUntilHome : Itinerary → Homing → ℕ → Bool → ℕ → ℕ → ℕ → List (Option ℕ) → Option ℕ → Type 0
+IsUntilHome trip homing from closes stand start i homes least =
     (home : ℕ) → from ≤ home → home ≤ count trip
-    → IsUnderSum (homing_at trip (closing_from homing stand) (jaw_from homing stand) start i home) (rest_at homes home)
-    least
+    → IsUnderSum (homing_at trip (closing_by closes (begun_from homing) (closing_from homing) stand)
+    (jaw_from homing stand) start i home) (rest_at homes home) least
 
 -- a number is under what is behind a point over an open unit: until it comes home; or, where the unit need not go on,
 -- what was there without it
-pub record IsOverOpen (trip : Itinerary) (homing : Homing) (from stand start : ℕ) (must : Bool) (i : ℕ)
-    (homes : List (Option ℕ)) (behind least : Option ℕ) : Type 0 where
-  pub home : IsUntilHome trip homing from stand start i homes least
+pub record IsOverOpen (trip : Itinerary) (homing : Homing) (from : ℕ) (closes : Bool) (stand start : ℕ) (must : Bool)
+    (i : ℕ) (homes : List (Option ℕ)) (behind least : Option ℕ) : Type 0 where
+  pub home : IsUntilHome trip homing from closes stand start i homes least
   pub whole : must ≡ false → (cost : ℕ) → IsUpTo cost behind → IsUpTo cost least
 
 -- what is known of an open unit of some parts: where it begins, where it stands, whether it has two parts or more, and
@@ -105,7 +110,7 @@ abbrev pub AreOverOpen : Pricing → Homing → ℕ → Open → List (Option �
 AreOverOpen table homing from opened behind row =
     (homes : List (Option ℕ)) × AreHomes table.edition table.trip from opened.start opened.closes behind homes
     × ((i : ℕ) → from ≤ i → i ≤ count table.trip
-    → IsOverOpen table.trip homing from opened.stands opened.start opened.must i homes (rest_at behind i)
+    → IsOverOpen table.trip homing from opened.closes opened.stands opened.start opened.must i homes (rest_at behind i)
     (rest_at row i))
 
 -- rows are over the units of some first parts, by the number up to which they are counted

@@ -6,7 +6,7 @@ ghost use Rattle.fare_homing.specs.Onward.{no_onward};
 ghost use Rattle.fare_homing.specs.Rows.{AreHomingsOf};
 
 use fare_component::Table;
-use fare_homing::{Floor, Homing, MOST_SETS, Onward, next_set, rule_at};
+use fare_homing::{Floor, Homing, MOST_SETS, Onward, next_set};
 use fare_rules::{MOST_POINTS, Part};
 use fare_units::part_at;
 
@@ -26,8 +26,7 @@ pub(crate) fn left_of(table: &Table, homing: &Homing, parts: &[Part]) -> [Floor;
     let edition = table.edition();
     let mut set = 0;
     for k in 1..parts.len() + 1 {
-        let rule = rule_at(edition, part_at(parts, k).fare);
-        set = next_set(edition, &homing.onwards, set, rule);
+        set = next_set(edition, &homing.onwards, set, part_at(parts, k).fare);
     }
     rest_in(&homing.onwards.sets, set)
 }

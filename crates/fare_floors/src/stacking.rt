@@ -7,8 +7,8 @@ ghost use Rattle.fare_bounds.specs.Covers.{rest_at};
 ghost use Rattle.fare_rules.specs.Construction.{end_of, first_of, greatest_unit, own, places};
 ghost use Rattle.fare_units.specs.Advance.{Advances};
 ghost use Rattle.fare_floors.specs.Floors.{IsMadeWith};
-ghost use Rattle.fare_homing.specs.Homing.{homing_at};
-ghost use Rattle.fare_homing.specs.Rows.{AreHomingsOf, closing_from, jaw_from};
+ghost use Rattle.fare_homing.specs.Homing.{closing_by, homing_at};
+ghost use Rattle.fare_homing.specs.Rows.{AreHomingsOf, begun_from, closing_from, jaw_from};
 ghost use Rattle.fare_floors.specs.Stack.{AreOver, AreOverUnits, AreHomes, IsUntilHome, IsOverOpen};
 ghost use Rattle.fare_floors.specs.Stack.{IsOpenUnit, may_come_to};
 
@@ -21,7 +21,7 @@ use crate::partial::Partial;
 use crate::places::first_place;
 use fare_component::Table;
 use fare_homing::{
-    Floor, Homing, NOTHING, added, closing_from, jaw_from, lesser, lie_near, number_at,
+    Floor, Homing, NOTHING, added, begun_from, closing_from, jaw_from, lesser, lie_near, number_at,
 };
 use fare_rules::{MOST_POINTS, Part};
 use fare_trip::Trip;
@@ -65,13 +65,16 @@ pub(crate) fn may_come_to(
 fn homing_at(trip: &Trip, homing: &Homing, opened: Open, i: usize, home: usize) -> Floor
     requires start { opened.start ≤ count trip.now }
     requires home { home ≤ count trip.now }
-    ensures { result ≡ homing_at trip.now (closing_from homing.now opened.stands) (jaw_from homing.now opened.stands)
-        opened.start i home }
+    ensures { result ≡ homing_at trip.now (closing_by opened.closes (begun_from homing.now) (closing_from homing.now)
+        opened.stands) (jaw_from homing.now opened.stands) opened.start i home }
 {
-    if trip.point(home).is(trip.point(opened.start)) {
+    if !trip.point(home).is(trip.point(opened.start)) {
+        return jaw_from(homing, opened.stands, i, home);
+    }
+    if opened.closes {
         closing_from(homing, opened.stands, i, home)
     } else {
-        jaw_from(homing, opened.stands, i, home)
+        begun_from(homing, opened.stands, i, home)
     }
 }
 
@@ -106,7 +109,7 @@ fn until_home(
     homes: &[Floor; MOST_POINTS],
 ) -> Floor
     requires start { opened.start ≤ count trip.now }
-    ensures { IsUntilHome trip.now homing.now from opened.stands opened.start i homes.now result }
+    ensures { IsUntilHome trip.now homing.now from opened.closes opened.stands opened.start i homes.now result }
 {
     let mut least = NOTHING;
     for home in from..trip.count() + 1 {
@@ -129,7 +132,8 @@ pub(crate) fn over_point(
     behind: Floor,
 ) -> Floor
     requires start { opened.start ≤ count trip.now }
-    ensures { IsOverOpen trip.now homing.now from opened.stands opened.start opened.must i homes.now behind result }
+    ensures { IsOverOpen trip.now homing.now from opened.closes opened.stands opened.start opened.must i homes.now behind
+        result }
 {
     let until = until_home(trip, homing, from, opened, i, homes);
     if opened.must {
@@ -150,8 +154,8 @@ fn over_open(
 ) -> [Floor; MOST_POINTS]
     requires start { opened.start ≤ count trip.now }
     ensures { (i : ℕ) → from ≤ i → i ≤ count trip.now
-        → IsOverOpen trip.now homing.now from opened.stands opened.start opened.must i homes.now (rest_at behind.now i)
-        (rest_at result i) }
+        → IsOverOpen trip.now homing.now from opened.closes opened.stands opened.start opened.must i homes.now
+        (rest_at behind.now i) (rest_at result i) }
 {
     let mut row = [NOTHING; MOST_POINTS];
     for i in from..trip.count() + 1 {

@@ -17,7 +17,7 @@ use Rattle.fare_homing.specs.declared.ceiling.Ceiling.{Ceiling}
 use Rattle.fare_homing.specs.Barred.{unless_barred}
 use Rattle.fare_homing.specs.Ceiling.{below_ceiling}
 use Rattle.fare_homing.specs.Homing.{IsUpTo, back_cost, between_cost, first_cost, heads_to, homing_at, is_same_city}
-use Rattle.fare_homing.specs.HomingRows.{AreClosings, AreJaws, AreWholes, IsBetween, IsPart, IsUnderBoth}
+use Rattle.fare_homing.specs.HomingRows.{AreClosings, AreJaws, AreNext, AreWholes, IsBetween, IsPart, IsUnderBoth}
 use Rattle.fare_homing.specs.Floor.{added}
 use Rattle.fare_homing.specs.Least.{IsUnderEach}
 use Rattle.fare_homing.specs.Rows.{country_at, heads_in, AreCountries}
@@ -100,18 +100,18 @@ pub lies_there : (tariff : Tariff) (trip : Itinerary) (countries : List (Option 
 lies_there tariff trip countries a b are low high = rw (sym (are a low), sym (are b high)) refl
 
 -- numbers are under the same by rows that are the same behind a point
-pub wholes_same : (tariff : Tariff) (trip : Itinerary) (barred : List ℕ) (closing jaw new_closing new_jaw : ℕ → ℕ → ℕ → Option ℕ) (i : ℕ) (whole new : ℕ → Option ℕ) → ((b j : ℕ) → i < b → new_closing b b j ≡ closing b b j)
-    → ((b j : ℕ) → i < b → new_jaw b b j ≡ jaw b b j) → ((j : ℕ) → new j ≡ whole j) → AreWholes tariff trip barred closing jaw i whole → AreWholes tariff trip barred new_closing new_jaw i new
-wholes_same tariff trip barred closing jaw new_closing new_jaw i whole new closes ends same are = record {
+pub wholes_same : (tariff : Tariff) (trip : Itinerary) (barred : List ℕ) (begun jaw new_begun new_jaw : ℕ → ℕ → ℕ → Option ℕ) (i : ℕ) (whole new : ℕ → Option ℕ) → ((b j : ℕ) → i < b → new_begun b b j ≡ begun b b j)
+    → ((b j : ℕ) → i < b → new_jaw b b j ≡ jaw b b j) → ((j : ℕ) → new j ≡ whole j) → AreWholes tariff trip barred begun jaw i whole → AreWholes tariff trip barred new_begun new_jaw i new
+wholes_same tariff trip barred begun jaw new_begun new_jaw i whole new closes ends same are = record {
   alone = λ j cost part. subst (IsUpTo cost) (sym (same j)) (are.alone j cost part);
   first = λ b j x y cost may part less up sum pair.
       let after = part_after tariff trip (unless_barred tariff barred first_cost) i b x part in
       subst (IsUpTo cost) (sym (same j)) (are.first b j x y cost may part less (until b j y (begin_after trip i) after.0 up) sum pair);
 }
   where
-    until : (b j y start : ℕ) → i < b → IsUpTo y (homing_at trip (new_closing b) (new_jaw b) start b j) → IsUpTo y (homing_at trip (closing b) (jaw b) start b j)
+    until : (b j y start : ℕ) → i < b → IsUpTo y (homing_at trip (new_begun b) (new_jaw b) start b j) → IsUpTo y (homing_at trip (begun b) (jaw b) start b j)
     until b j y start low up = elim (cases_Bool (is_same_city trip start j)) [
-      | inl t ↦ let here : IsUpTo y (new_closing b b j) = rw t at up in rw t (subst (IsUpTo y) (closes b j low) here)
+      | inl t ↦ let here : IsUpTo y (new_begun b b j) = rw t at up in rw t (subst (IsUpTo y) (closes b j low) here)
       | inr f ↦ let here : IsUpTo y (new_jaw b b j) = rw f at up in rw f (subst (IsUpTo y) (ends b j low) here)
     ]
 
@@ -120,15 +120,24 @@ under_same : (whole new_whole : ℕ → Option ℕ) (stays new_stays : ℕ → �
 under_same whole new_whole stays new_stays i row new wholes same here are b j x y low less up more =
     subst (IsUpTo (x + y)) (sym (here j)) (are b j x y low less (subst (IsUpTo x) (wholes b) up) (subst (IsUpTo y) (same b j low) more))
 
-pub closings_same : (tariff : Tariff) (trip : Itinerary) (ceiling : Option Ceiling) (after new_after : ℕ → ℕ → Option ℕ) (whole new_whole : ℕ → Option ℕ) (stays new_stays : ℕ → ℕ → Option ℕ) (stand i : ℕ) (row new : ℕ → Option ℕ)
+pub closings_same : (tariff : Tariff) (trip : Itinerary) (ceiling : Option Ceiling) (worth : ℕ → ℕ → Type 0) (after new_after : ℕ → ℕ → Option ℕ) (whole new_whole : ℕ → Option ℕ) (stays new_stays : ℕ → ℕ → Option ℕ) (stand i : ℕ) (row new : ℕ → Option ℕ)
     → ((b j : ℕ) → i < b → new_after b j ≡ after b j) → ((j : ℕ) → new_whole j ≡ whole j) → ((b j : ℕ) → i < b → new_stays b j ≡ stays b j) → ((j : ℕ) → new j ≡ row j)
-    → AreClosings tariff trip ceiling after whole stays stand i row → AreClosings tariff trip ceiling new_after new_whole new_stays stand i new
-closings_same tariff trip ceiling after new_after whole new_whole stays new_stays stand i row new afters wholes same here are = record {
-  last = λ j x near part. subst (IsUpTo x) (sym (here j)) (are.last j x near part);
+    → AreClosings tariff trip ceiling worth after whole stays stand i row → AreClosings tariff trip ceiling worth new_after new_whole new_stays stand i new
+closings_same tariff trip ceiling worth after new_after whole new_whole stays new_stays stand i row new afters wholes same here are = record {
+  last = λ j x is. subst (IsUpTo x) (sym (here j)) (are.last j x is);
   between = λ b j x y city part less apart within up.
       let rises = part_after tariff trip (below_ceiling tariff trip ceiling (begin_after trip i) j b (between_cost (heads_to tariff trip (begin_after trip i) b j))) i b x part in
       subst (IsUpTo (x + y)) (sym (here j)) (are.between b j x y city part less apart within (subst (IsUpTo y) (afters b j rises.0) up));
   nested = under_same whole new_whole stays new_stays i row new wholes same here are.nested;
+}
+
+-- what comes next with what is nested before it is behind the point
+pub closings_of : (tariff : Tariff) (trip : Itinerary) (ceiling : Option Ceiling) (next worth : ℕ → ℕ → Type 0) (after : ℕ → ℕ → Option ℕ) (whole : ℕ → Option ℕ) (stays : ℕ → ℕ → Option ℕ) (stand i : ℕ) (near row : ℕ → Option ℕ)
+    → ((j x : ℕ) → worth j x → next j x) → AreNext tariff trip ceiling next after stand i near → ((j most : ℕ) → IsUpTo most (near j) → IsUpTo most (row j)) → IsUnderBoth whole stays i row → AreClosings tariff trip ceiling worth after whole stays stand i row
+closings_of tariff trip ceiling next worth after whole stays stand i near row by are kept under = record {
+  last = λ j x is. kept j x (are.last j x (by j x is));
+  between = λ b j x y city part less apart within up. kept j (x + y) (are.between b j x y city part less apart within up);
+  nested = under;
 }
 
 pub jaws_same : (tariff : Tariff) (trip : Itinerary) (whole new_whole : ℕ → Option ℕ) (stays new_stays : ℕ → ℕ → Option ℕ) (stand i : ℕ) (row new : ℕ → Option ℕ)

@@ -8,3 +8,4 @@ pub mod OnwardLemmas
 pub mod RestLemmas
 pub mod BarringLemmas
 pub mod LinkLemmas
+pub mod OwedLemmas

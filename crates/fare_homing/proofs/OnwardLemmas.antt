@@ -11,11 +11,10 @@ use Rattle.fare_component.specs.declared.table.entry.Entry.{Entry}
 use Rattle.fare_bounds.specs.Covers.{rest_at}
 use Rattle.fare_homing.specs.declared.onward.Onward.{Onward}
 use Rattle.fare_homing.specs.declared.onward.Onwards.{Onwards}
-use Rattle.fare_homing.specs.Barred.{is_barred, unless_barred}
+use Rattle.fare_homing.specs.Barred.{is_among, is_barred, is_of_rule, unless_barred}
 use Rattle.fare_homing.specs.Homing.{first_cost, single_cost}
 use Rattle.fare_homing.specs.HomingRows.{AreRests}
-use Rattle.fare_homing.specs.Lonely.{has_rule, is_rule_of}
-use Rattle.fare_homing.specs.Onward.{AreOnwards, HasRests, next_set, no_onward, onward_at}
+use Rattle.fare_homing.specs.Onward.{AreOnwards, HasRests, next_by, no_onward, onward_at}
 use Rattle.fare_homing.specs.Pairs.{HasPair, are_mates, days_between}
 
 true_false : true ≡ false → ⊥
@@ -29,8 +28,8 @@ freed tariff barred cost_of entry cost e = elim (cases_Bool (is_barred tariff ba
 ]
 
 -- where nothing is barred all that is known holds by any that are
-pub weaker : (tariff : Tariff) (trip : Itinerary) (barred : List ℕ) (closing jaw : ℕ → ℕ → ℕ → Option ℕ) (whole : ℕ → ℕ → Option ℕ) (left : ℕ → Option ℕ) → AreRests tariff trip [] closing jaw whole left → AreRests tariff trip barred closing jaw whole left
-weaker tariff trip barred closing jaw whole left are = record {
+pub weaker : (tariff : Tariff) (trip : Itinerary) (barred : List ℕ) (begun jaw : ℕ → ℕ → ℕ → Option ℕ) (whole : ℕ → ℕ → Option ℕ) (left : ℕ → Option ℕ) → AreRests tariff trip [] begun jaw whole left → AreRests tariff trip barred begun jaw whole left
+weaker tariff trip barred begun jaw whole left are = record {
   wholes = λ i high. record {
     alone = λ j cost part. (are.wholes i high).alone j cost (record { entry = part.entry; there = part.there; costs = freed tariff barred single_cost part.entry cost part.costs });
     first = λ b j x y cost may part less up sum pair. (are.wholes i high).first b j x y cost may (record { entry = part.entry; there = part.there; costs = freed tariff barred first_cost part.entry x part.costs }) less up sum (any_pair i j cost pair);
@@ -60,37 +59,37 @@ weaker tariff trip barred closing jaw whole left are = record {
     }
 
 -- numbers where nothing is barred alone lead nowhere else
-module _ (tariff : Tariff) (trip : Itinerary) (closing jaw : ℕ → ℕ → ℕ → Option ℕ) (whole : ℕ → ℕ → Option ℕ) (rest : List (Option ℕ)) (are : AreRests tariff trip [] closing jaw whole (rest_at rest)) where
+module _ (tariff : Tariff) (trip : Itinerary) (begun jaw : ℕ → ℕ → ℕ → Option ℕ) (whole : ℕ → ℕ → Option ℕ) (rest : List (Option ℕ)) (are : AreRests tariff trip [] begun jaw whole (rest_at rest)) where
   abbrev all : Onward
   all = record { barred = replicate 16 0; rest = rest; next = replicate 16 0 }
 
   abbrev Only : Onwards
-  Only = record { rules = replicate 16 0; sets = replicate 32 all }
+  Only = record { rules = replicate 16 0; sets = replicate 64 all }
 
   is_all : (n set : ℕ) → set < n → slice_index_or (replicate n all) set no_onward ≡ all
   is_all zero set less = absurd (omega arith)
   is_all (suc n) zero less = refl
   is_all (suc n) (suc set) less = is_all n set (omega arith)
 
-  at_all : (set : ℕ) → set < 32 → onward_at Only set ≡ all
-  at_all set less = is_all 32 set less
+  at_all : (set : ℕ) → set < 64 → onward_at Only set ≡ all
+  at_all set less = is_all 64 set less
 
   -- no rule is that of no fare
-  none_has : (id : RuleId) → position (has_rule tariff id) (replicate 16 0) ≡ None
-  none_has id = refl
+  none_has : (rule : Option RuleId) → position (is_of_rule tariff rule) (replicate 16 0) ≡ None
+  none_has rule = refl
 
-  none_barred : (id : RuleId) → is_rule_of tariff (replicate 16 0) (Some id) ≡ false
-  none_barred id = refl
+  none_barred : (rule : Option RuleId) → is_among tariff (replicate 16 0) rule ≡ false
+  none_barred rule = refl
 
-  stays : (set : ℕ) (id : RuleId) → next_set tariff Only set (Some id) ≡ set
-  stays set id = refl
+  stays : (set : ℕ) (rule : Option RuleId) → next_by tariff Only set rule ≡ set
+  stays set rule = refl
 
-  pub no_onwards : AreOnwards tariff trip closing jaw Only
+  pub no_onwards : AreOnwards tariff trip begun jaw Only
   no_onwards = record {
     rests = λ set less.
-        let P : Onward → Type 0 = λ o. HasRests tariff trip closing jaw o in
-        subst P (sym (at_all set less)) (whole, weaker tariff trip (replicate 16 0) closing jaw whole (rest_at rest) are);
-    first = λ id h. true_false (sym h ∙ none_barred id);
-    within = λ set id less. less;
-    steps = λ set id less other h. inl h;
+        let P : Onward → Type 0 = λ o. HasRests tariff trip begun jaw o in
+        subst P (sym (at_all set less)) (whole, weaker tariff trip (replicate 16 0) begun jaw whole (rest_at rest) are);
+    first = λ rule h. true_false (sym h ∙ none_barred rule);
+    within = λ set rule less. less;
+    steps = λ set rule less other h. inl h;
   }

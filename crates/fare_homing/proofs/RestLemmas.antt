@@ -9,14 +9,14 @@ use Rattle.fare_bounds.specs.Covers.{rest_at}
 use Rattle.fare_homing.specs.Homing.{IsUpTo}
 use Rattle.fare_homing.specs.HomingRows.{AreRests, AreWholes, IsOnward}
 
-module _ (tariff : Tariff) (trip : Itinerary) (barred : List ℕ) (closing jaw : ℕ → ℕ → ℕ → Option ℕ) where
+module _ (tariff : Tariff) (trip : Itinerary) (barred : List ℕ) (begun jaw : ℕ → ℕ → ℕ → Option ℕ) where
   -- the numbers are known from a point on
   pub record AreRestsFrom (p : ℕ) (whole : ℕ → ℕ → Option ℕ) (rest : List (Option ℕ)) : Type 0 where
-    pub wholes : (i : ℕ) → p ≤ i → i < count trip → AreWholes tariff trip barred closing jaw i (whole i)
+    pub wholes : (i : ℕ) → p ≤ i → i < count trip → AreWholes tariff trip barred begun jaw i (whole i)
     pub onward : (i : ℕ) → p ≤ i → i < count trip → IsOnward trip (whole i) (rest_at rest) i (rest_at rest i)
     pub nothing : rest_at rest (count trip) ≡ Some 0
 
-  pub all_rests : (whole : ℕ → ℕ → Option ℕ) (rest : List (Option ℕ)) → AreRestsFrom 0 whole rest → AreRests tariff trip barred closing jaw whole (rest_at rest)
+  pub all_rests : (whole : ℕ → ℕ → Option ℕ) (rest : List (Option ℕ)) → AreRestsFrom 0 whole rest → AreRests tariff trip barred begun jaw whole (rest_at rest)
   all_rests whole rest known = record {
     wholes = λ i high. known.wholes i (omega arith) high;
     onward = λ i high. known.onward i (omega arith) high;
@@ -32,7 +32,7 @@ module _ (tariff : Tariff) (trip : Itinerary) (barred : List ℕ) (closing jaw :
 
   -- one point more
   module _ (p : ℕ) (before : p < count trip) (whole : ℕ → ℕ → Option ℕ) (rest row : List (Option ℕ)) (number : Option ℕ) (long : p < length rest) (known : AreRestsFrom (p + 1) whole rest)
-      (wholes_here : AreWholes tariff trip barred closing jaw p (rest_at row)) (onward_here : IsOnward trip (rest_at row) (rest_at rest) p number) where
+      (wholes_here : AreWholes tariff trip barred begun jaw p (rest_at row)) (onward_here : IsOnward trip (rest_at row) (rest_at rest) p number) where
     abbrev with_row : ℕ → ℕ → Option ℕ
     with_row i = if i == p then rest_at row else whole i
 
@@ -51,11 +51,11 @@ module _ (tariff : Tariff) (trip : Itinerary) (barred : List ℕ) (closing jaw :
       record {
         wholes = λ i low high. elim (cases_eq i p) [
           | inl same ↦
-              let P : ℕ → Type 0 = λ k. AreWholes tariff trip barred closing jaw k (with_row k) in
-              let W : (ℕ → Option ℕ) → Type 0 = λ here. AreWholes tariff trip barred closing jaw p here in
+              let P : ℕ → Type 0 = λ k. AreWholes tariff trip barred begun jaw k (with_row k) in
+              let W : (ℕ → Option ℕ) → Type 0 = λ here. AreWholes tariff trip barred begun jaw p here in
               subst P (sym same) (subst W (sym this_row) wholes_here)
           | inr other ↦
-              let W : (ℕ → Option ℕ) → Type 0 = λ here. AreWholes tariff trip barred closing jaw i here in
+              let W : (ℕ → Option ℕ) → Type 0 = λ here. AreWholes tariff trip barred begun jaw i here in
               subst W (sym (other_row i other)) (known.wholes i (omega arith) high)
         ];
         onward = λ i low high b x y past within up more.

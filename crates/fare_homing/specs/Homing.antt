@@ -59,6 +59,10 @@ is_same_city trip start home = bytes_eq (point trip home) (point trip start)
 abbrev pub may_go_on : Tariff → Itinerary → ℕ → ℕ → Bool
 may_go_on tariff trip stand a = are_near tariff (point trip stand) (point trip a)
 
+-- what is behind a point until a unit closes, by whether it has more than one part so far
+abbrev pub closing_by : Bool → (ℕ → ℕ → ℕ → Option ℕ) → (ℕ → ℕ → ℕ → Option ℕ) → ℕ → ℕ → ℕ → Option ℕ
+closing_by more begun closing c i home = if more then closing c i home else begun c i home
+
 -- what is behind a point until a unit comes home, by the city where it began: in that city it closes, after any parts;
 -- elsewhere it is an open jaw, of which the next part is the last
 abbrev pub homing_at : Itinerary → (ℕ → ℕ → Option ℕ) → (ℕ → ℕ → Option ℕ) → ℕ → ℕ → ℕ → Option ℕ

@@ -7,6 +7,7 @@ pub mod Floor
 pub mod Homing
 pub mod Least
 pub mod Pairs
+pub mod Owed
 pub mod HomingRows
 pub mod Legs
 pub mod Lonely

@@ -19,13 +19,17 @@ cell rows i j = slice_index_or (slice_index_or rows i []) j None
 
 -- no numbers
 abbrev pub no_standing : Standing
-no_standing = record { closing = []; jaw = [] }
+no_standing = record { begun = []; closing = []; jaw = [] }
 
--- what is behind a point until a unit that stands in the city of another closes at a third
+-- what is behind a point until a unit that stands in the city of another closes at a third, where it has one part
+abbrev pub begun_from : Homing → ℕ → ℕ → ℕ → Option ℕ
+begun_from homing c i j = cell (slice_index_or homing.standing c no_standing).begun i j
+
+-- the same where it has more
 abbrev pub closing_from : Homing → ℕ → ℕ → ℕ → Option ℕ
 closing_from homing c i j = cell (slice_index_or homing.standing c no_standing).closing i j
 
--- the same until it ends there as an open jaw
+-- the same until it ends there as an open jaw, where it has one part
 abbrev pub jaw_from : Homing → ℕ → ℕ → ℕ → Option ℕ
 jaw_from homing c i j = cell (slice_index_or homing.standing c no_standing).jaw i j
 
@@ -38,11 +42,11 @@ AreCountries tariff trip countries =
 -- of its points, its lonely fares have rules that combine with no fare of their own, and so are its numbers by what is
 -- barred
 pub record AreHomingsOf (tariff : Tariff) (trip : Itinerary) (homing : Homing) : Type 0 where
-  pub known : AreHomings tariff trip homing.ceiling (closing_from homing) (jaw_from homing) (cell homing.whole)
-      (rest_at homing.rest)
+  pub known : AreHomings tariff trip homing.ceiling (begun_from homing) (closing_from homing) (jaw_from homing)
+      (cell homing.whole) (rest_at homing.rest)
   pub countries : AreCountries tariff trip homing.countries
   pub lonely : AreLonely tariff homing.lonely
-  pub onwards : AreOnwards tariff trip (closing_from homing) (jaw_from homing) homing.onwards
+  pub onwards : AreOnwards tariff trip (begun_from homing) (jaw_from homing) homing.onwards
   pub ceiling : IsCeiling tariff trip homing.ceiling
 
 -- the country of a point among those of a trip's points

@@ -5,10 +5,9 @@ ghost use Rattle.fare_trip.specs.Itinerary.{Itinerary};
 ghost use Rattle.fare_homing.specs.Barred.{IsStep};
 ghost use Rattle.fare_homing.specs.Barring.{AreUnlinked};
 ghost use Rattle.fare_homing.specs.Onward.{AreOnwards, HasRests, onward_at};
-ghost use Rattle.fare_homing.specs.Rows.{closing_from, jaw_from, AreHomingsOf};
+ghost use Rattle.fare_homing.specs.Rows.{begun_from, jaw_from, AreHomingsOf};
 
 use crate::homing::Homing;
-use crate::lonely::rule_at;
 use crate::onward::{MOST_RULES, MOST_SETS, Onward, Onwards};
 use crate::rests::rests_without;
 use crate::rule_sets::{RuleSets, rule_sets};
@@ -20,7 +19,7 @@ use fare_tariff::Edition;
 /// What is behind each point where the rules of some fares are barred, which leads to the first place as yet.
 fn onward_without(table: &Table, homing: &Homing, barred: [u32; MOST_RULES]) -> Onward
     requires { AreHomingsOf table.now.edition table.now.trip homing.now }
-    ensures rests { HasRests table.now.edition table.now.trip (closing_from homing.now) (jaw_from homing.now) result }
+    ensures rests { HasRests table.now.edition table.now.trip (begun_from homing.now) (jaw_from homing.now) result }
     ensures next { result.next ≡ replicate MOST_RULES 0 }
 {
     Onward {
@@ -33,7 +32,7 @@ fn onward_without(table: &Table, homing: &Homing, barred: [u32; MOST_RULES]) -> 
 /// The same by each set of barred rules.
 fn unlinked(table: &Table, homing: &Homing, sets: &RuleSets) -> [Onward; MOST_SETS]
     requires { AreHomingsOf table.now.edition table.now.trip homing.now }
-    ensures { AreUnlinked table.now.edition table.now.trip (closing_from homing.now) (jaw_from homing.now) result }
+    ensures { AreUnlinked table.now.edition table.now.trip (begun_from homing.now) (jaw_from homing.now) result }
 {
     let all = Onward {
         barred: [0; MOST_RULES],
@@ -58,15 +57,21 @@ fn barred_at(onwards: &Onwards, set: usize) -> &[u32]
 }
 
 /// Whether no more is barred at one place than at another but what doesn't combine end on end with a rule.
-fn leads(edition: &Edition, onwards: &Onwards, set: usize, id: RuleId, behind: usize) -> bool
+fn leads(
+    edition: &Edition,
+    onwards: &Onwards,
+    set: usize,
+    rule: Option<RuleId>,
+    behind: usize,
+) -> bool
     requires set { set < MOST_SETS }
     requires behind { behind < MOST_SETS }
     ensures { result ≡ true
-        → IsStep edition.now (onward_at onwards.now set).barred id (onward_at onwards.now behind).barred }
+        → IsStep edition.now (onward_at onwards.now set).barred rule (onward_at onwards.now behind).barred }
 {
     let before = barred_at(onwards, set);
     let after = barred_at(onwards, behind);
-    is_step(edition, before, id, after)
+    is_step(edition, before, rule, after)
 }
 
 /// Lets the numbers of a place lead to those of another behind a part of a rule, if no more is barred there but what
@@ -75,13 +80,13 @@ fn link(edition: &Edition, onwards: &mut Onwards, set: usize, place: usize, behi
     requires set { set < MOST_SETS }
     requires place { place < MOST_RULES }
     requires behind { behind < MOST_SETS }
-    ensures { (trip : Itinerary) (closing jaw : ℕ → ℕ → ℕ → Option ℕ)
-        → AreOnwards edition.now trip closing jaw onwards.old → AreOnwards edition.now trip closing jaw onwards.new }
+    ensures { (trip : Itinerary) (begun jaw : ℕ → ℕ → ℕ → Option ℕ)
+        → AreOnwards edition.now trip begun jaw onwards.old → AreOnwards edition.now trip begun jaw onwards.new }
 {
-    let Some(id) = rule_at(edition, onwards.rules[place]) else {
+    let Some(fare) = edition.fare_at(onwards.rules[place]) else {
         return;
     };
-    if leads(edition, onwards, set, id, behind) {
+    if leads(edition, onwards, set, fare.rule, behind) {
         onwards.sets[set].next[place] = behind as u8;
     }
 }
@@ -89,8 +94,8 @@ fn link(edition: &Edition, onwards: &mut Onwards, set: usize, place: usize, behi
 /// The same behind a part of each rule.
 fn link_each(edition: &Edition, onwards: &mut Onwards, sets: &RuleSets, set: usize)
     requires { set < MOST_SETS }
-    ensures { (trip : Itinerary) (closing jaw : ℕ → ℕ → ℕ → Option ℕ)
-        → AreOnwards edition.now trip closing jaw onwards.old → AreOnwards edition.now trip closing jaw onwards.new }
+    ensures { (trip : Itinerary) (begun jaw : ℕ → ℕ → ℕ → Option ℕ)
+        → AreOnwards edition.now trip begun jaw onwards.old → AreOnwards edition.now trip begun jaw onwards.new }
 {
     for place in 0..MOST_RULES {
         link(edition, onwards, set, place, sets.behind(set, place));
@@ -99,8 +104,8 @@ fn link_each(edition: &Edition, onwards: &mut Onwards, sets: &RuleSets, set: usi
 
 /// The same for all numbers.
 fn link_all(edition: &Edition, onwards: &mut Onwards, sets: &RuleSets)
-    ensures { (trip : Itinerary) (closing jaw : ℕ → ℕ → ℕ → Option ℕ)
-        → AreOnwards edition.now trip closing jaw onwards.old → AreOnwards edition.now trip closing jaw onwards.new }
+    ensures { (trip : Itinerary) (begun jaw : ℕ → ℕ → ℕ → Option ℕ)
+        → AreOnwards edition.now trip begun jaw onwards.old → AreOnwards edition.now trip begun jaw onwards.new }
 {
     for set in 0..MOST_SETS {
         if set < sets.count() {
@@ -112,7 +117,7 @@ fn link_all(edition: &Edition, onwards: &mut Onwards, sets: &RuleSets)
 /// What is behind each point of a trip at least by what is barred there; nothing where no part bars another.
 fn onwards_of(table: &Table, homing: &Homing) -> Option<Onwards>
     requires { AreHomingsOf table.now.edition table.now.trip homing.now }
-    ensures { IfSome result (AreOnwards table.now.edition table.now.trip (closing_from homing.now)
+    ensures { IfSome result (AreOnwards table.now.edition table.now.trip (begun_from homing.now)
         (jaw_from homing.now)) }
 {
     let sets = rule_sets(table);

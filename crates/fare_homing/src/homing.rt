@@ -4,7 +4,7 @@ ghost use Rattle.std.specs.Prelude.{◌≡◌, ◌<◌, ◌≤◌, IfSome, Some,
 ghost use Rattle.fare_trip.specs.Itinerary.{count, point};
 ghost use Rattle.fare_bounds.specs.Covers.{rest_at};
 ghost use Rattle.fare_homing.specs.Homing.{are_near};
-ghost use Rattle.fare_homing.specs.Rows.{cell, closing_from, jaw_from, no_standing, AreHomingsOf};
+ghost use Rattle.fare_homing.specs.Rows.{cell, begun_from, closing_from, jaw_from, no_standing, AreHomingsOf};
 
 use crate::between::{lie_together, start_at};
 use crate::ceiling::{Ceiling, ceiling_of};
@@ -23,8 +23,10 @@ use fare_rules::MOST_POINTS;
 /// What is behind each point of a trip at least until a unit comes home that stands in the city of one point.
 #[derive(Clone, Copy)]
 pub struct Standing {
-    /// Until it closes, in the city where it began: by the point behind which its next part comes, and that where it
-    /// ends.
+    /// Until it closes, in the city where it began, where it has one part so far: by the point behind which its next
+    /// part comes, and that where it ends.
+    pub begun: [[Floor; MOST_POINTS]; MOST_POINTS],
+    /// The same where it has more.
     pub closing: [[Floor; MOST_POINTS]; MOST_POINTS],
     /// Until it ends as an open jaw, where it has one part so far.
     pub jaw: [[Floor; MOST_POINTS]; MOST_POINTS],
@@ -61,7 +63,18 @@ pub fn cell(rows: &[[Floor; MOST_POINTS]; MOST_POINTS], i: usize, j: usize) -> F
     }
 }
 
-/// A number of one of some standings until a unit closes.
+/// A number of one of some standings until a unit closes that has one part so far.
+fn begun_in(standings: &[Standing; MOST_POINTS], stand: usize, i: usize, home: usize) -> Floor
+    ensures { result ≡ cell (slice_index_or standings.now stand no_standing).begun i home }
+{
+    if stand < MOST_POINTS {
+        cell(&standings[stand].begun, i, home)
+    } else {
+        NOTHING
+    }
+}
+
+/// The same of a unit that has more.
 fn closing_in(standings: &[Standing; MOST_POINTS], stand: usize, i: usize, home: usize) -> Floor
     ensures { result ≡ cell (slice_index_or standings.now stand no_standing).closing i home }
 {
@@ -72,7 +85,7 @@ fn closing_in(standings: &[Standing; MOST_POINTS], stand: usize, i: usize, home:
     }
 }
 
-/// The same until it ends as an open jaw.
+/// The same of one that has one part so far, until it ends as an open jaw.
 fn jaw_in(standings: &[Standing; MOST_POINTS], stand: usize, i: usize, home: usize) -> Floor
     ensures { result ≡ cell (slice_index_or standings.now stand no_standing).jaw i home }
 {
@@ -83,14 +96,22 @@ fn jaw_in(standings: &[Standing; MOST_POINTS], stand: usize, i: usize, home: usi
     }
 }
 
-/// What is behind a point until a unit that stands in the city of another closes at a third.
+/// What is behind a point until a unit that stands in the city of another closes at a third, where it has one part so
+/// far.
+pub fn begun_from(homing: &Homing, stand: usize, i: usize, home: usize) -> Floor
+    ensures { result ≡ begun_from homing.now stand i home }
+{
+    begun_in(&homing.standing, stand, i, home)
+}
+
+/// The same where it has more.
 pub fn closing_from(homing: &Homing, stand: usize, i: usize, home: usize) -> Floor
     ensures { result ≡ closing_from homing.now stand i home }
 {
     closing_in(&homing.standing, stand, i, home)
 }
 
-/// The same until it ends there as an open jaw.
+/// The same until it ends there as an open jaw, where it has one part so far.
 pub fn jaw_from(homing: &Homing, stand: usize, i: usize, home: usize) -> Floor
     ensures { result ≡ jaw_from homing.now stand i home }
 {
@@ -127,6 +148,7 @@ fn unknown(
 {
     let rows = [[NOTHING; MOST_POINTS]; MOST_POINTS];
     let none = Standing {
+        begun: rows,
         closing: rows,
         jaw: rows,
     };

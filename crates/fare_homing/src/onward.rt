@@ -6,20 +6,21 @@ ghost use Rattle.fare_trip.specs.Itinerary.{Itinerary};
 ghost use Rattle.fare_tariff.specs.Tariff.{Tariff};
 ghost use Rattle.fare_bounds.specs.Covers.{rest_at};
 ghost use Rattle.fare_homing.specs.HomingRows.{AreRests};
-ghost use Rattle.fare_homing.specs.Lonely.{has_rule};
-ghost use Rattle.fare_homing.specs.Onward.{AreOnwards, next_set, no_onward};
+ghost use Rattle.fare_homing.specs.Barred.{is_of_rule};
+ghost use Rattle.fare_homing.specs.Onward.{AreOnwards, next_by, next_set, no_onward};
 
+use crate::barred::is_of_rule;
 use crate::floor::Floor;
-use crate::lonely::{is_rule, rule_at};
 use fare_codes::RuleId;
 use fare_rules::MOST_POINTS;
 use fare_tariff::Edition;
 
-/// How many rules are told apart; a fare of a further one bars nothing, and is never barred.
+/// How many rules are told apart, of which the free one is one; a fare of a further one bars nothing, and is never
+/// barred.
 pub const MOST_RULES: usize = 16;
 
 /// How many sets of barred rules are told apart.
-pub const MOST_SETS: usize = 32;
+pub const MOST_SETS: usize = 64;
 
 /// What is behind each point of a trip at least where no unit is open, and some fares are barred.
 #[derive(Clone, Copy)]
@@ -42,12 +43,12 @@ pub struct Onwards {
 }
 
 /// The place of a rule among those of some fares.
-fn place_of(edition: &Edition, fares: &[u32], id: RuleId) -> Option<usize>
-    ensures { result ≡ position (has_rule edition.now id) fares.now }
+fn place_of(edition: &Edition, fares: &[u32], rule: Option<RuleId>) -> Option<usize>
+    ensures { result ≡ position (is_of_rule edition.now rule) fares.now }
 {
     fares
         .iter()
-        .position(|number| is_rule(rule_at(edition, *number), id))
+        .position(|number| is_of_rule(edition, rule, *number))
 }
 
 /// The place to which one leads by the place of a rule; the same where the rule has none.
@@ -70,23 +71,31 @@ fn next_in(sets: &[Onward; MOST_SETS], set: usize, place: usize) -> usize
 }
 
 /// The place of the numbers behind a part of a rule, by that of the numbers before it.
-pub fn next_set(edition: &Edition, onwards: &Onwards, set: usize, rule: Option<RuleId>) -> usize
+fn next_by(edition: &Edition, onwards: &Onwards, set: usize, rule: Option<RuleId>) -> usize
     requires { set < MOST_SETS }
-    ensures { result ≡ next_set edition.now onwards.now set rule }
+    ensures { result ≡ next_by edition.now onwards.now set rule }
 {
-    let Some(id) = rule else {
-        return set;
-    };
-    match place_of(edition, onwards.rules.as_slice(), id) {
+    match place_of(edition, onwards.rules.as_slice(), rule) {
         None => set,
         Some(place) => next_in(&onwards.sets, set, place),
     }
 }
 
+/// The same behind a part of the fare of a record number.
+pub fn next_set(edition: &Edition, onwards: &Onwards, set: usize, number: u32) -> usize
+    requires { set < MOST_SETS }
+    ensures { result ≡ next_set edition.now onwards.now set number }
+{
+    let Some(fare) = edition.fare_at(number) else {
+        return set;
+    };
+    next_by(edition, onwards, set, fare.rule)
+}
+
 /// The numbers of a trip by those where nothing is barred alone.
 pub(crate) fn without_barred(rest: &[Floor; MOST_POINTS]) -> Onwards
-    ensures { (tariff : Tariff) (trip : Itinerary) (closing jaw : ℕ → ℕ → ℕ → Option ℕ) (whole : ℕ → ℕ → Option ℕ)
-        → AreRests tariff trip [] closing jaw whole (rest_at rest.now) → AreOnwards tariff trip closing jaw result }
+    ensures { (tariff : Tariff) (trip : Itinerary) (begun jaw : ℕ → ℕ → ℕ → Option ℕ) (whole : ℕ → ℕ → Option ℕ)
+        → AreRests tariff trip [] begun jaw whole (rest_at rest.now) → AreOnwards tariff trip begun jaw result }
 {
     let all = Onward {
         barred: [0; MOST_RULES],

@@ -3,7 +3,7 @@
 ghost use Rattle.std.specs.Prelude.{◌≡◌, ℕ, Option};
 ghost use Rattle.fare_bounds.specs.Covers.{rest_at};
 ghost use Rattle.fare_homing.specs.HomingRows.{AreRests};
-ghost use Rattle.fare_homing.specs.Rows.{closing_from, jaw_from, AreHomingsOf};
+ghost use Rattle.fare_homing.specs.Rows.{begun_from, jaw_from, AreHomingsOf};
 
 use crate::between::start_at;
 use crate::floor::{Floor, NOTHING};
@@ -19,7 +19,7 @@ use fare_rules::MOST_POINTS;
 pub(crate) fn rests_without(table: &Table, homing: &Homing, barred: &[u32]) -> [Floor; MOST_POINTS]
     requires { AreHomingsOf table.now.edition table.now.trip homing.now }
     ensures { (whole : ℕ → ℕ → Option ℕ) × AreRests table.now.edition table.now.trip barred.now
-        (closing_from homing.now) (jaw_from homing.now) whole (rest_at result) }
+        (begun_from homing.now) (jaw_from homing.now) whole (rest_at result) }
 {
     let count = table.trip().count();
     let legs = legs_behind(table, barred);

@@ -2,9 +2,8 @@
 
 ghost use Rattle.std.specs.Prelude.{◌<◌};
 
-use crate::lonely::{is_rule_of, rule_at};
+use crate::barred::is_among;
 use crate::onward::{MOST_RULES, MOST_SETS};
-use fare_codes::RuleId;
 use fare_component::Table;
 use fare_tariff::Edition;
 
@@ -20,10 +19,12 @@ pub(crate) struct RuleSets {
     count: usize,
 }
 
-/// Puts a fare to some at the first free place, where there is one: if it has a rule, and none of them that.
+/// Puts a fare to some at the first free place, where there is one: if none of them has its rule.
 fn put_fare(edition: &Edition, fares: &mut [u32; MOST_RULES], number: u32) {
-    let rule = rule_at(edition, number);
-    if rule.is_none() || is_rule_of(edition, fares.as_slice(), rule) {
+    let Some(fare) = edition.fare_at(number) else {
+        return;
+    };
+    if is_among(edition, fares.as_slice(), fare.rule) {
         return;
     }
     if let Some(place) = fares.iter().position(|fare| *fare == 0) {
@@ -68,12 +69,19 @@ fn holds(set: u16, place: usize) -> bool
     set & only(place) != 0
 }
 
-/// Those of some rules that don't combine end on end with one.
-fn clashes_with(edition: &Edition, rules: &[u32; MOST_RULES], id: RuleId) -> u16 {
+/// Whether the rules of two fares, where they are there, don't combine end on end.
+fn clash(edition: &Edition, one: u32, other: u32) -> bool {
+    match (edition.fare_at(one), edition.fare_at(other)) {
+        (Some(one), Some(other)) => !edition.ends_ok(one.rule, other.rule),
+        _ => false,
+    }
+}
+
+/// Those of some rules that don't combine end on end with that of a fare.
+fn clashes_with(edition: &Edition, rules: &[u32; MOST_RULES], number: u32) -> u16 {
     let mut set = 0;
     for place in 0..MOST_RULES {
-        let rule = rule_at(edition, rules[place]);
-        if rule.is_some() && !edition.ends_ok(Some(id), rule) {
+        if clash(edition, number, rules[place]) {
             set |= only(place);
         }
     }
@@ -84,9 +92,7 @@ fn clashes_with(edition: &Edition, rules: &[u32; MOST_RULES], id: RuleId) -> u16
 fn clashes_of(edition: &Edition, rules: &[u32; MOST_RULES]) -> [u16; MOST_RULES] {
     let mut clashes = [0; MOST_RULES];
     for place in 0..MOST_RULES {
-        if let Some(id) = rule_at(edition, rules[place]) {
-            clashes[place] = clashes_with(edition, rules, id);
-        }
+        clashes[place] = clashes_with(edition, rules, rules[place]);
     }
     clashes
 }

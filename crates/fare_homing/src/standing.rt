@@ -6,14 +6,16 @@ ghost use Rattle.fare_trip.specs.Itinerary.{count};
 ghost use Rattle.fare_rules.specs.Construction.{begin_after};
 ghost use Rattle.fare_bounds.specs.Covers.{rest_at};
 ghost use Rattle.fare_homing.specs.Homing.{IsUpTo, is_same_city, may_go_on};
-ghost use Rattle.fare_homing.specs.HomingRows.{AreClosings, AreJaws};
+ghost use Rattle.fare_homing.specs.HomingRows.{AreClosings, AreJaws, AreNext, IsLast, IsSecond};
 ghost use Rattle.fare_homing.specs.Legs.{AreLegsBehind, AreLegsOf};
+ghost use Rattle.fare_homing.specs.Owed.{AreOwed};
 ghost use Rattle.fare_homing.specs.Rows.{cell, closing_from, AreCountries};
 
 use crate::between::{Start, lie_together, start_at, with_between};
 use crate::floor::{Floor, NOTHING};
 use crate::homing::{Homing, Standing};
 use crate::legs::LegRows;
+use crate::owed::{owed_from, raised};
 use crate::reaching::lowered_by;
 use fare_codes::Country;
 use fare_component::Table;
@@ -57,35 +59,72 @@ fn last_row(may: bool, start: &Start) -> [Floor; MOST_POINTS]
     }
 }
 
-/// What is behind a point until a unit closes, by where that is.
-fn closings_at(
+/// What comes next of a unit that stands in the city of a point, by where it closes, by what its last part costs at least.
+fn next_at(
     table: &Table,
     homing: &Homing,
     start: &Start,
-    stays: &[[Floor; MOST_POINTS]; MOST_POINTS],
-    unit: GoingOn,
+    stand: usize,
+    last: &[Floor; MOST_POINTS],
 ) -> [Floor; MOST_POINTS]
-    requires point { start.now.point ≡ begin_after table.now.trip unit.i }
+    requires point { start.now.point ≡ begin_after table.now.trip start.now.behind }
     requires inside { start.now.point ≤ count table.now.trip }
-    requires stand { unit.stand ≤ unit.i }
-    requires rises { unit.i < count table.now.trip }
+    requires stand { stand ≤ start.now.behind }
+    requires rises { start.now.behind < count table.now.trip }
     requires countries { AreCountries table.now.edition table.now.trip start.now.countries.now }
     requires legs { AreLegsOf table.now.edition table.now.trip [] start.now.point start.now.legs.now }
-    ensures { AreClosings table.now.edition table.now.trip homing.now.ceiling (λ b. closing_from homing.now b b)
-        (cell homing.now.whole unit.i) (cell stays.now) unit.stand unit.i (rest_at result) }
+    ensures { AreNext table.now.edition table.now.trip homing.now.ceiling (λ j x. IsUpTo x (rest_at last.now j))
+        (λ b. closing_from homing.now b b) stand start.now.behind (rest_at result) }
 {
     let trip = table.trip();
     let count = trip.count();
     prove!(start.point <= count);
-    let last = last_row(
-        may_go_on(table, start.countries, unit.stand, start.point),
-        start,
-    );
-    if trip.point(start.point).is(trip.point(unit.stand)) {
-        let within = with_between(table, homing, start, unit.i, &last);
-        return lowered_by(&within, &homing.whole[unit.i], stays, unit.i);
+    if trip.point(start.point).is(trip.point(stand)) {
+        with_between(table, homing, start, start.behind, last)
+    } else {
+        *last
     }
-    lowered_by(&last, &homing.whole[unit.i], stays, unit.i)
+}
+
+/// What the last part of a unit that stands in the city of a point costs at least, by where it ends.
+fn lasts_at(table: &Table, start: &Start, stand: usize) -> [Floor; MOST_POINTS]
+    requires point { start.now.point ≡ begin_after table.now.trip start.now.behind }
+    requires inside { start.now.point ≤ count table.now.trip }
+    requires stand { stand ≤ count table.now.trip }
+    requires countries { AreCountries table.now.edition table.now.trip start.now.countries.now }
+    requires legs { AreLegsOf table.now.edition table.now.trip [] start.now.point start.now.legs.now }
+    ensures { (j x : ℕ) → IsLast table.now.edition table.now.trip stand start.now.behind j x
+        → IsUpTo x (rest_at result j) }
+{
+    last_row(may_go_on(table, start.countries, stand, start.point), start)
+}
+
+/// The same for the second of two parts, by what its unit owes behind the first.
+fn seconds_at(
+    table: &Table,
+    start: &Start,
+    stand: usize,
+    last: &[Floor; MOST_POINTS],
+    owed: &[Floor; MOST_POINTS],
+) -> [Floor; MOST_POINTS]
+    requires point { start.now.point ≡ begin_after table.now.trip start.now.behind }
+    requires inside { start.now.point ≤ count table.now.trip }
+    requires stand { stand ≤ count table.now.trip }
+    requires last { (j x : ℕ) → IsLast table.now.edition table.now.trip stand start.now.behind j x
+        → IsUpTo x (rest_at last.now j) }
+    requires owed { AreOwed table.now.edition table.now.trip stand (rest_at owed.now) }
+    ensures { (j x : ℕ) → IsSecond table.now.edition table.now.trip stand start.now.behind j x
+        → IsUpTo x (rest_at result j) }
+{
+    let trip = table.trip();
+    let count = trip.count();
+    prove!(start.point <= count);
+    prove!(stand <= count);
+    if trip.point(start.point).is(trip.point(stand)) {
+        raised(last, owed)
+    } else {
+        *last
+    }
 }
 
 /// What is behind a point until a unit ends as an open jaw, by where that is.
@@ -122,8 +161,13 @@ pub(crate) fn standing_at(
     requires within { stand < count table.now.trip }
     requires countries { AreCountries table.now.edition table.now.trip countries.now }
     requires legs { AreLegsBehind table.now.edition table.now.trip [] legs.now }
+    ensures begins { (i : ℕ) → stand ≤ i → i < count table.now.trip
+        → AreClosings table.now.edition table.now.trip homing.now.ceiling
+        (IsSecond table.now.edition table.now.trip stand i) (λ b. closing_from homing.now b b)
+        (cell homing.now.whole i) (cell result.begun) stand i (cell result.begun i) }
     ensures closes { (i : ℕ) → stand ≤ i → i < count table.now.trip
-        → AreClosings table.now.edition table.now.trip homing.now.ceiling (λ b. closing_from homing.now b b)
+        → AreClosings table.now.edition table.now.trip homing.now.ceiling
+        (IsLast table.now.edition table.now.trip stand i) (λ b. closing_from homing.now b b)
         (cell homing.now.whole i) (cell result.closing) stand i (cell result.closing i) }
     ensures ends { (i : ℕ) → stand ≤ i → i < count table.now.trip → AreJaws table.now.edition table.now.trip
         (cell homing.now.whole i) (cell result.jaw) stand i (cell result.jaw i) }
@@ -131,15 +175,22 @@ pub(crate) fn standing_at(
     let trip = table.trip();
     let rows = [[NOTHING; MOST_POINTS]; MOST_POINTS];
     let mut standing = Standing {
+        begun: rows,
         closing: rows,
         jaw: rows,
     };
+    let owed = owed_from(table, stand);
     let none: [u32; 0] = [];
     for i in (stand..trip.count()).rev() {
         let start = start_at(table, legs, countries, none.as_slice(), i);
-        let unit = GoingOn { stand, i };
-        let closing = closings_at(table, homing, &start, &standing.closing, unit);
-        let jaw = jaws_at(table, homing, &start, &standing.jaw, unit);
+        let last = lasts_at(table, &start, stand);
+        let second = seconds_at(table, &start, stand, &last, &owed);
+        let one = next_at(table, homing, &start, stand, &second);
+        let more = next_at(table, homing, &start, stand, &last);
+        let begun = lowered_by(&one, &homing.whole[i], &standing.begun, i);
+        let closing = lowered_by(&more, &homing.whole[i], &standing.closing, i);
+        let jaw = jaws_at(table, homing, &start, &standing.jaw, GoingOn { stand, i });
+        standing.begun[i] = begun;
         standing.closing[i] = closing;
         standing.jaw[i] = jaw;
     }

@@ -9,11 +9,11 @@ ghost use Rattle.fare_homing.specs.Homing.{IsUpTo, first_cost, homing_at, may_en
 ghost use Rattle.fare_homing.specs.HomingRows.{AreWholes, IsPart};
 ghost use Rattle.fare_homing.specs.Legs.{AreLegsOf};
 ghost use Rattle.fare_homing.specs.Pairs.{HasPair};
-ghost use Rattle.fare_homing.specs.Rows.{closing_from, jaw_from, AreCountries};
+ghost use Rattle.fare_homing.specs.Rows.{begun_from, jaw_from, AreCountries};
 
 use crate::between::{Start, lie_together};
 use crate::floor::{Floor, NOTHING, added, lesser, number_at};
-use crate::homing::{Homing, closing_from, jaw_from};
+use crate::homing::{Homing, begun_from, jaw_from};
 use crate::pairs::{Pairing, least_pair};
 use fare_component::Table;
 use fare_rules::MOST_POINTS;
@@ -45,10 +45,10 @@ fn with_half(table: &Table, start: &Start, home: usize, half: Floor, alone: Floo
 
 /// What is behind a first part that ends at a point until its unit ends at another: it closes there, or is an open jaw.
 fn behind_first(homing: &Homing, closes: bool, b: usize, home: usize) -> Floor
-    ensures { result ≡ (if closes then closing_from homing.now b b home else jaw_from homing.now b b home) }
+    ensures { result ≡ (if closes then begun_from homing.now b b home else jaw_from homing.now b b home) }
 {
     if closes {
-        closing_from(homing, b, b, home)
+        begun_from(homing, b, b, home)
     } else {
         jaw_from(homing, b, b, home)
     }
@@ -65,7 +65,7 @@ fn reach_first(
     requires rises { i < home }
     requires within { home < MOST_POINTS }
     ensures { (b x y : ℕ) → i < b → b < home → IsUpTo x (rest_at first.now b) → IsUpTo y (if closes
-        then closing_from homing.now b b home else jaw_from homing.now b b home) → IsUpTo (x + y) result }
+        then begun_from homing.now b b home else jaw_from homing.now b b home) → IsUpTo (x + y) result }
 {
     let mut least = NOTHING;
     for b in i + 1..home {
@@ -92,7 +92,7 @@ fn whole_to(table: &Table, homing: &Homing, start: &Start, home: usize) -> Floor
         → may_end_at table.now.edition table.now.trip start.now.point home ≡ true
         → IsPart table.now.edition table.now.trip (unless_barred table.now.edition start.now.barred.now first_cost)
         start.now.point b x → b < home
-        → IsUpTo y (homing_at table.now.trip (closing_from homing.now b) (jaw_from homing.now b)
+        → IsUpTo y (homing_at table.now.trip (begun_from homing.now b) (jaw_from homing.now b)
         start.now.point b home) → x + y ≤ cost
         → HasPair table.now.edition table.now.trip start.now.barred.now start.now.point home cost
         → IsUpTo cost result }
@@ -118,7 +118,7 @@ pub(crate) fn wholes_at(table: &Table, homing: &Homing, start: &Start) -> [Floor
     requires countries { AreCountries table.now.edition table.now.trip start.now.countries.now }
     requires legs { AreLegsOf table.now.edition table.now.trip start.now.barred.now start.now.point
         start.now.legs.now }
-    ensures { AreWholes table.now.edition table.now.trip start.now.barred.now (closing_from homing.now)
+    ensures { AreWholes table.now.edition table.now.trip start.now.barred.now (begun_from homing.now)
         (jaw_from homing.now) start.now.behind (rest_at result) }
 {
     let count = table.trip().count();

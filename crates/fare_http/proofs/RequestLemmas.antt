@@ -7,13 +7,13 @@ use Rattle.httparse.specs.declared.spans.RequestSpans.{RequestSpans}
 use Rattle.httparse.specs.Grammar.{RequestHead}
 use Rattle.httparse.specs.Spans.{IsRequestAt, IsRequestWithin, header_bytes, name_and_value}
 use Rattle.httparse.proofs.GrammarLemmas.{ReadsRequest-append}
-use Rattle.fare_http.specs.Heads.{most_head, most_fields}
+use Rattle.fare_http.specs.declared.head.TheConstants.{MOST_FIELDS, MOST_HEAD}
 use Rattle.fare_http.specs.Requests.{HasHead}
 
 -- the bytes that came behind a head leave it as it is
 pub head-then : (taken piece : List ℕ) (fields : List HeaderSpan) (spans : RequestSpans) (head : RequestHead)
     → IsRequestAt taken fields spans head → IsRequestWithin taken fields spans
-    → length taken ≤ most_head → length fields ≡ most_fields
+    → length taken ≤ MOST_HEAD → length fields ≡ MOST_FIELDS
     → HasHead (taken ++ piece) head (drop spans.len taken ++ piece)
 head-then taken piece fields spans head at within short few =
     let same = ap length at.fields in

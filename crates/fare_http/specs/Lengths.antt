@@ -6,14 +6,11 @@ use Rattle.std.specs.Char.{is_ascii_digit}
 use Rattle.std.specs.Str.{str_eq_ignore_ascii_case}
 use Rattle.std.specs.Str.Parse.{digits_value}
 use Rattle.httparse.specs.Spans.{IsWithin, span_bytes}
+use Rattle.fare_outside.specs.declared.limits.TheConstants.{MOST_TEXT}
 use Rattle.fare_http.specs.declared.lengths.BodyFault.{BodyFault}
 use Rattle.fare_http.specs.declared.lengths.BodyFault.TheVariants.{Coded, BadLength, TooLong}
 use Rattle.fare_http.specs.declared.lengths.Named.{Named}
 use Rattle.fare_http.specs.declared.lengths.Named.TheVariants.{Absent, One, Several}
-
--- the most bytes of a body
-abbrev pub most_body : ℕ
-most_body = 16777216
 
 -- a field has this name, without regard to case
 abbrev pub has_name : List ℕ → List ℕ × List ℕ → Bool
@@ -38,7 +35,7 @@ abbrev pub length_of : List (List ℕ) → Result ℕ BodyFault
 length_of [] = Ok 0
 length_of (value ∷ []) =
     if nat_lt 0 (length value) && list_all is_ascii_digit value
-    then length_read (number_up_to most_body value) else Err BadLength
+    then length_read (number_up_to MOST_TEXT value) else Err BadLength
 length_of (value ∷ second ∷ more) = Err BadLength
 
 -- the length, unless there is a Transfer-Encoding field, of which these are the values

@@ -4,9 +4,9 @@ use Rattle.std.specs.List.{before_first}
 use Rattle.std.specs.Io.KnownBytes.{IsAtEnd}
 use Rattle.httparse.specs.Grammar.{RequestHead, ReadsRequest, print_request}
 use Rattle.httparse.specs.Spans.{name_and_value}
+use Rattle.fare_http.specs.declared.head.TheConstants.{MOST_FIELDS, MOST_HEAD}
 use Rattle.fare_http.specs.declared.lengths.BodyFault.{BodyFault}
 use Rattle.fare_http.specs.declared.request.Request.{Request}
-use Rattle.fare_http.specs.Heads.{most_head, most_fields}
 use Rattle.fare_http.specs.Lengths.{body_length}
 
 -- the path is the target up to its first `?`
@@ -20,8 +20,8 @@ announced head = body_length (map name_and_value head.fields)
 -- the bytes begin with this head, which is within its limits, and the rest stands behind it
 pub record HasHead (taken : List ℕ) (head : RequestHead) (rest : List ℕ) : Type 0 where
   pub reads : ReadsRequest taken head rest
-  pub short : length (print_request head) ≤ most_head
-  pub few : length head.fields ≤ most_fields
+  pub short : length (print_request head) ≤ MOST_HEAD
+  pub few : length head.fields ≤ MOST_FIELDS
 
 -- the bytes begin with a head that announces this length, or is wrong about it in this way
 abbrev pub Announces : Result ℕ BodyFault → List ℕ → Type 0

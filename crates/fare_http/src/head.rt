@@ -34,7 +34,7 @@ pub enum NoHead {
     Memory,
     /// No head can begin with the bytes that came.
     Bad,
-    /// There is no whole head in 16,384 bytes, or it has more than 64 fields.
+    /// There is no whole head in `MOST_HEAD` bytes, or it has more than `MOST_FIELDS` fields.
     Limit,
     /// The connection ended before the head was whole.
     Ended,

@@ -5,10 +5,8 @@ ghost use Rattle.httparse.specs.Spans.{IsHeaderWithin, header_bytes};
 ghost use Rattle.fare_http.specs.Lengths.{body_length, length_of, number_up_to, has_name, values_named};
 ghost use Rattle.fare_http.specs.Lengths.{AreNamed, IsOneWithin};
 
+use fare_outside::MOST_TEXT;
 use httparse::spans::{HeaderSpan, Span};
-
-/// The most bytes of a body.
-pub const MOST_BODY: usize = 16_777_216;
 
 /// Why a head says nothing that can be taken about its body's length.
 #[derive(Clone, Copy, Debug, PartialEq, Eq)]
@@ -17,7 +15,7 @@ pub enum BodyFault {
     Coded,
     /// There are two Content-Length fields, or one whose value isn't one or more digits.
     BadLength,
-    /// The length is above 16,777,216.
+    /// The length is above `MOST_TEXT`.
     TooLong,
 }
 
@@ -95,7 +93,7 @@ fn read_length(value: &[u8]) -> Result<usize, BodyFault>
     if value.is_empty() || !all_digits(value) {
         return Err(BodyFault::BadLength);
     }
-    number_up_to(value, MOST_BODY).ok_or(BodyFault::TooLong)
+    number_up_to(value, MOST_TEXT as usize).ok_or(BodyFault::TooLong)
 }
 
 fn all_digits(value: &[u8]) -> bool
@@ -107,7 +105,7 @@ fn all_digits(value: &[u8]) -> bool
 // The number that the digits write, if it is at most `most`.
 fn number_up_to(digits: &[u8], most: usize) -> Option<usize>
     requires digits { list_all is_ascii_digit digits.now ≡ true }
-    requires room { most ≤ MOST_BODY }
+    requires room { most ≤ MOST_TEXT }
     ensures { result ≡ number_up_to most digits.now }
 {
     let mut number = 0;

@@ -33,7 +33,7 @@ pub use exchanging::exchange;
 pub use handler::{Front, Handler};
 pub use head::{Head, MOST_FIELDS, MOST_HEAD, NoHead, read_head};
 pub use laws::{fault_is_told, head_is_found, short_request_is_cut_off, whole_request_is_read};
-pub use lengths::{BodyFault, MOST_BODY, body_length};
+pub use lengths::{BodyFault, body_length};
 pub use path_text::PathText;
 pub use piece::NoPiece;
 pub use reply::{Allow, Form, Reply, Status};

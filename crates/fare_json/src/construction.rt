@@ -18,7 +18,7 @@ use crate::part::push_part;
 use crate::unit::push_unit;
 use crate::writing::{push_money, push_named, push_string};
 use fare_calc::{NumberedUnit, PartSheet, Sheets, line_by, print_line};
-use fare_codes::rate_text;
+use fare_codes::{MOST_DECIMALS, rate_text};
 use fare_outside::NoMemory;
 use fare_tariff::CurRec;
 use fare_text::{push_decimal, push_whole};
@@ -114,7 +114,7 @@ fn push_amount(
 
 /// The text of an amount with so many decimals; without decimals it has no point.
 fn local_text(alloc: Global, decimals: u8, amount: u128) -> Result<Vec<u8>, NoMemory>
-    requires { decimals ≤ 2 }
+    requires { decimals ≤ MOST_DECIMALS }
     ensures { IfOk result (λ text. text.items ≡ local_text decimals amount) }
 {
     let mut text = Vec::new(alloc);

@@ -3,6 +3,7 @@ use Rattle.std.specs.Prelude.{ℕ, ◌+◌, ◌-◌, ◌^◌, Bool, true, false,
 use Rattle.std.specs.Prelude.{◌==◌, ◌&&◌, ◌||◌, nat_lt, nat_le}
 use Rattle.std.specs.List.{list_all}
 use Rattle.fare_codes.specs.declared.city.City.{City}
+use Rattle.fare_codes.specs.declared.limits.TheConstants.{MOST_SECTORS}
 use Rattle.fare_codes.specs.declared.rule_id.RuleId.{RuleId}
 use Rattle.fare_codes.specs.Codes.{is_city, is_carrier, is_rule_id}
 use Rattle.fare_line.specs.declared.line.part.Letter.{Letter}
@@ -28,9 +29,9 @@ is_amount hundredths = nat_lt hundredths (10 ^ 11)
 abbrev pub is_rate : ℕ → Bool
 is_rate millionths = nat_lt millionths (10 ^ 13)
 
--- a unit is a number 1 to 16
+-- a unit is a number 1 to MOST_SECTORS
 abbrev pub is_unit : ℕ → Bool
-is_unit unit = nat_le 1 unit && nat_le unit 16
+is_unit unit = nat_le 1 unit && nat_le unit MOST_SECTORS
 
 -- a surcharge is 0, 5, 10, 15, 20 or 25 hundredths
 abbrev pub is_surcharge : ℕ → Bool
@@ -85,7 +86,7 @@ flown_count begun part = part.end - (begun + gap_count part.gap)
 unfoldable pub are_parts : ℕ → ℕ → List LinePart → Bool
 are_parts begun flown [] = flown == 0
 are_parts begun flown (part ∷ parts) =
-    is_priced part && nat_lt (begun + gap_count part.gap) part.end && nat_le part.end 16
+    is_priced part && nat_lt (begun + gap_count part.gap) part.end && nat_le part.end MOST_SECTORS
     && nat_le (flown_count begun part) flown && are_parts part.end (flown - flown_count begun part) parts
 
 -- there is a first part, and no gap before it
@@ -93,10 +94,10 @@ abbrev pub is_led : List LinePart → Bool
 is_led [] = false
 is_led (first ∷ others) = is_none first.gap
 
--- a line has a part and no gap before the first, its parts share its flown sectors, it has at most 16 sectors, gaps
--- counted, and at most 16 plus-ups, and each code, amount and number is in its form
+-- a line has a part and no gap before the first, its parts share its flown sectors, it has at most MOST_SECTORS
+-- sectors, gaps counted, and as many plus-ups, and each code, amount and number is in its form
 unfoldable pub is_line : CalculationLine → Bool
 is_line line =
     is_city line.from && list_all is_flown line.sectors && is_led line.parts
-    && are_parts 0 (length line.sectors) line.parts && list_all is_plus line.plus && nat_le (length line.plus) 16
-    && is_amount line.total && is_rate line.roe
+    && are_parts 0 (length line.sectors) line.parts && list_all is_plus line.plus
+    && nat_le (length line.plus) MOST_SECTORS && is_amount line.total && is_rate line.roe

@@ -11,21 +11,21 @@ use crate::line::part::LinePart;
 use crate::line::plus_up::PlusUp;
 use crate::line::sector::LineSector;
 use arrayvec::ArrayVec;
-use fare_codes::City;
+use fare_codes::{City, MOST_SECTORS};
 use std::marker::Model;
 
 /// A calculation line. By its type it is one that some text spells: it has a part, each part has a flown sector, it has
-/// at most 16 sectors, gaps counted, and each code, amount and number is in its form.
+/// at most `MOST_SECTORS` sectors, gaps counted, and each code, amount and number is in its form.
 #[derive(Drop)]
 pub struct Line {
     /// The city where it begins.
     pub from: City,
     /// Its flown sectors.
-    pub sectors: ArrayVec<LineSector, 16>,
+    pub sectors: ArrayVec<LineSector, MOST_SECTORS>,
     /// Its parts.
-    pub parts: ArrayVec<LinePart, 16>,
+    pub parts: ArrayVec<LinePart, MOST_SECTORS>,
     /// Its plus-ups.
-    pub plus: ArrayVec<PlusUp, 16>,
+    pub plus: ArrayVec<PlusUp, MOST_SECTORS>,
     /// Its total in hundredths of a NUC.
     pub total: u64,
     /// The rate of exchange, in millionths.

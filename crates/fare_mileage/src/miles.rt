@@ -8,8 +8,8 @@ ghost use Rattle.fare_rules.specs.Mileage.{sum_of_miles, allowance_of};
 ghost use Rattle.fare_mileage.specs.Miles.{AreInRange, AreMiles, miles_at};
 
 use arrayvec::ArrayVec;
-use fare_codes::{City, Indicator};
-use fare_rules::{MOST_POINTS, MOST_SECTORS};
+use fare_codes::{City, Indicator, MOST_SECTORS};
+use fare_rules::MOST_POINTS;
 use fare_tariff::{Edition, MOST_MILES};
 use fare_trip::Trip;
 

@@ -5,8 +5,8 @@ ghost use Rattle.fare_mileage.specs.Miles.{AreInRange, AreMiles};
 
 use crate::miles::{allowance_of, first_without_tpm, miles_between, sum_of_miles};
 use crate::steps::compared;
-use fare_codes::Indicator;
-use fare_rules::{MOST_POINTS, MOST_SURCHARGE, Mileage};
+use fare_codes::{Indicator, MOST_SURCHARGE};
+use fare_rules::{MOST_POINTS, Mileage};
 use fare_tariff::Edition;
 use fare_trip::Trip;
 

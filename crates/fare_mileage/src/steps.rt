@@ -3,7 +3,8 @@
 ghost use Rattle.std.specs.Prelude.{◌≡◌, ◌≤◌, IfSome};
 ghost use Rattle.fare_rules.specs.Mileage.{is_covered_by, surcharge, surcharge_of, compared_miles, miles_from};
 
-use fare_rules::{MOST_SURCHARGE, Mileage, Miles};
+use fare_codes::MOST_SURCHARGE;
+use fare_rules::{Mileage, Miles};
 
 /// Whether a step of the surcharge covers some miles above the permitted ones.
 fn is_covered_by(net: u32, mpm: u32, step: u32) -> bool

@@ -5,6 +5,7 @@
 //! - `source`, `sink`, `keeper`, `door`, `gate`: the traits, with the words of their clauses in `specs/`;
 //! - `reading`, `writing`: a whole source, and a whole text, over any source and sink;
 //! - `bytes`, `bodies`: lists that grow, or refuse and stay as they were;
+//! - `limits`: how long a text may be that is taken whole;
 //! - `plain_*`: objects in memory that never fail; `mem_*`: the same with a list of failing calls;
 //! - `first_name`: the name by which a store was opened first;
 //! - `calls`, `failures`, `fail_at`, `count`, `room`: which calls of those fail, how failures are
@@ -24,6 +25,7 @@ mod failures;
 mod first_name;
 mod gate;
 mod keeper;
+mod limits;
 mod mem_door;
 mod mem_keeper;
 mod mem_sink;
@@ -48,6 +50,7 @@ pub use failed::Failed;
 pub use first_name::FirstName;
 pub use gate::{Gate, OpenGate};
 pub use keeper::{KeepFault, Keeper};
+pub use limits::MOST_TEXT;
 pub use mem_door::MemDoor;
 pub use mem_keeper::MemKeeper;
 pub use mem_sink::MemSink;

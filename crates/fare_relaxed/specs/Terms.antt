@@ -1,5 +1,7 @@
 -- The kinds of condition that a rule can ask.
 use Rattle.std.specs.Prelude.{ℕ, List, [], ◌∷◌, codes}
+use Rattle.fare_rules.specs.declared.rule.Rule.TheVariants as rule
+use Rattle.fare_rules.specs.Rule.{number_of}
 use Rattle.fare_relaxed.specs.declared.term.Term.{Term}
 use Rattle.fare_relaxed.specs.declared.term.Term.TheVariants.{Advance, Stay, Stopovers, Transfers, Surcharge, Units}
 use Rattle.fare_relaxed.specs.declared.term.Term.TheVariants.{Ends}
@@ -20,10 +22,10 @@ term_name Ends = codes "ENDS"
 
 -- the number of the rule that conditions of a kind bar constructions by
 abbrev pub rule_number : Term → ℕ
-rule_number Advance = 15
-rule_number Stay = 18
-rule_number Stopovers = 13
-rule_number Transfers = 14
-rule_number Surcharge = 17
-rule_number Units = 19
-rule_number Ends = 20
+rule_number Advance = number_of rule.Advance
+rule_number Stay = number_of rule.Stay
+rule_number Stopovers = number_of rule.Stops
+rule_number Transfers = number_of rule.Transfers
+rule_number Surcharge = number_of rule.Excess
+rule_number Units = number_of rule.Combine
+rule_number Ends = number_of rule.End

@@ -1,6 +1,8 @@
 ghost use Rattle.std.specs.Prelude.{◌≡◌};
 ghost use Rattle.fare_relaxed.specs.Terms.{term_name, rule_number};
 
+use fare_rules::Rule;
+
 /// A kind of condition that a rule can ask.
 #[derive(Clone, Copy, Debug, PartialEq, Eq)]
 pub enum Term {
@@ -43,14 +45,15 @@ impl Term {
     pub fn rule(self) -> u8
         ensures { result ≡ rule_number self }
     {
-        match self {
-            Term::Advance => 15,
-            Term::Stay => 18,
-            Term::Stopovers => 13,
-            Term::Transfers => 14,
-            Term::Surcharge => 17,
-            Term::Units => 19,
-            Term::Ends => 20,
-        }
+        let rule = match self {
+            Term::Advance => Rule::Advance,
+            Term::Stay => Rule::Stay,
+            Term::Stopovers => Rule::Stops,
+            Term::Transfers => Rule::Transfers,
+            Term::Surcharge => Rule::Excess,
+            Term::Units => Rule::Combine,
+            Term::Ends => Rule::End,
+        };
+        rule.number()
     }
 }

@@ -2,6 +2,7 @@ ghost use Rattle.std.specs.Prelude.{◌≡◌, ◌<◌, ◌+◌, [], ◌∷◌};
 ghost use Rattle.fare_rounds.specs.Finishing.{cut_count, served_count};
 
 use fare_http::Exchange;
+use fare_outside::MOST_HELD;
 
 /// How many exchanges of a round ended in which way.
 #[derive(Clone, Copy, Debug, PartialEq, Eq)]
@@ -15,8 +16,8 @@ pub struct Counts {
 impl Counts {
     /// Counts one exchange more.
     pub(crate) fn add(&mut self, ending: Exchange)
-        requires served { self.old.served < 8 }
-        requires cut { self.old.cut < 8 }
+        requires served { self.old.served < MOST_HELD }
+        requires cut { self.old.cut < MOST_HELD }
         ensures served { self.new.served ≡ self.old.served + served_count (ending ∷ []) }
         ensures cut { self.new.cut ≡ self.old.cut + cut_count (ending ∷ []) }
     {

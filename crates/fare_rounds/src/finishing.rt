@@ -3,7 +3,7 @@ ghost use Rattle.fare_rounds.specs.Finishing.{Answered, Answers, InTurn, cut_cou
 
 use crate::{Counts, Entry, Round};
 use fare_http::{Handler, send};
-use fare_outside::Door;
+use fare_outside::{Door, MOST_HELD};
 use std::alloc::Global;
 use std::thread::Threads;
 
@@ -53,7 +53,7 @@ fn publish_each<R: Threads + Sync, H: Handler>(
 /// Answers each entry on the connection of its place, and counts the exchanges with those that were cut off before.
 fn send_each<D: Door>(door: &mut D, entries: &[Entry], cut: u32) -> Counts
     requires held { length (D.held door.old) ≡ length entries.now }
-    requires few { length entries.now + cut ≤ 8 }
+    requires few { length entries.now + cut ≤ MOST_HELD }
     ensures answered { (answered : List Answered)
         × (map (λ answer. answer.reply) answered ≡ map (λ entry. entry.reply) entries.now)
         × Answers (D.held door.old) (D.sent door.old) (D.sent door.new) (D.cuts door.old) (D.cuts door.new) answered

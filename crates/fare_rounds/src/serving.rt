@@ -7,7 +7,7 @@ ghost use Rattle.fare_rounds.specs.Taking.{RoseBy, TakesEach, with_lists};
 
 use crate::{Counts, DoorEnd, Round, take_round};
 use fare_http::Handler;
-use fare_outside::Door;
+use fare_outside::{Door, MOST_HELD};
 use std::alloc::Global;
 use std::thread::Threads;
 
@@ -43,7 +43,7 @@ pub fn serve_round<R: Threads + Sync, D: Door, H: RoundHandler>(
     most: u32,
 ) -> (DoorEnd, Counts)
     requires some { 1 ≤ most }
-    requires few { most ≤ 8 }
+    requires few { most ≤ MOST_HELD }
     requires none_held { D.held door.old ≡ [] }
     ensures round { (round : List Exchanged)
         × IsRound H.step handler.old handler.old round handler.new

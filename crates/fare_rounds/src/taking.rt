@@ -7,7 +7,7 @@ ghost use Rattle.fare_rounds.specs.Taking.{Arrival, Gathers, TakesNone, TakesOne
 
 use crate::{DoorEnd, Entry, Round};
 use fare_http::read_request;
-use fare_outside::{Door, Failed};
+use fare_outside::{Door, Failed, MOST_HELD};
 use std::alloc::Global;
 
 /// Takes the connections of a round, at most `most` of them: the first one, and each further one that is known to wait.
@@ -17,7 +17,7 @@ use std::alloc::Global;
 /// none will come, and `Failed` only where its count of faults rose.
 pub fn take_round<D: Door>(alloc: Global, door: &mut D, most: u32) -> (Round, DoorEnd)
     requires some { 1 ≤ most }
-    requires few { most ≤ 8 }
+    requires few { most ≤ MOST_HELD }
     requires none_held { D.held door.old ≡ [] }
     ensures taken { (arrivals : List Arrival)
         × Gathers (none_taken (D.waiting door.old) (D.sent door.old) (D.cuts door.old))
@@ -51,8 +51,8 @@ fn take_next<D: Door>(
     round: &mut Round,
     is_first: bool,
 ) -> Result<(), DoorEnd>
-    requires room { connection_count round.old < 8 }
-    requires held { length (D.held door.old) < 8 }
+    requires room { connection_count round.old < MOST_HELD }
+    requires held { length (D.held door.old) < MOST_HELD }
     ensures taken { OnOk result ((arrival : Arrival)
         × Gathers
         (gathering (D.waiting door.old) (D.sent door.old) (D.held door.old) (D.cuts door.old) round.old)
@@ -88,8 +88,8 @@ impl Round {
     /// Reads the request of the current connection and holds it, or closes it where it is cut off.
     fn gather<D: Door>(&mut self, alloc: Global, door: &mut D)
         requires current { IsSome (D.current door.old) }
-        requires room { connection_count self.old < 8 }
-        requires held { length (D.held door.old) < 8 }
+        requires room { connection_count self.old < MOST_HELD }
+        requires held { length (D.held door.old) < MOST_HELD }
         ensures taken { TakesOne (D.left door.old) (D.current door.old) (D.held door.old) (D.held door.new)
             (D.cuts door.old) (D.cuts door.new) self.old self.new }
         ensures none_current { D.current door.new ≡ None }

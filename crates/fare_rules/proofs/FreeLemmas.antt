@@ -6,6 +6,7 @@ use Rattle.std.proofs.lemmas.Bool.{and_parts, and_from, le-leb, leb-true}
 use Rattle.std.proofs.lemmas.List.Sums.{length-filter, count_by-le-length}
 use Rattle.std.proofs.lemmas.List.FromFn.{length-range_with_len}
 use Rattle.jiff_core.specs.Calendar.{days_in_month}
+use Rattle.fare_codes.specs.declared.limits.TheConstants.{MOST_SECTORS}
 use Rattle.fare_codes.specs.declared.rule_id.RuleId.{RuleId}
 use Rattle.fare_codes.specs.Day.{is_month_day, month_day_of, place_in_year, two_digits}
 use Rattle.fare_codes.specs.Season.{season_holds, whole_year}
@@ -20,8 +21,8 @@ use Rattle.fare_rules.specs.ComponentAmount.{in_season, span_surcharge, is_allow
 use Rattle.fare_rules.specs.UnitRules.{allows_stay_of}
 use Rattle.fare_rules.specs.Free.{is_applicable_freely}
 
--- the interior points of a span within 16 sectors that pass a test are at most 16
-few_inside : (test : ℕ → Bool) (a b : ℕ) → b ≤ 16 → length (filter test (interior a b)) ≤ 16
+-- the interior points of a span within a trip's sectors that pass a test are no more than those
+few_inside : (test : ℕ → Bool) (a b : ℕ) → b ≤ MOST_SECTORS → length (filter test (interior a b)) ≤ MOST_SECTORS
 few_inside test a b short =
     let count : length (filter test (interior a b)) ≡ count_by test (interior a b) = length-filter test (interior a b) in
     let most : count_by test (interior a b) ≤ length (interior a b) = count_by-le-length test (interior a b) in
@@ -36,14 +37,14 @@ holds_free : (tariff : Tariff) (test : Terms → Bool) (rule : Option RuleId) �
     → term_holds test (terms tariff rule) ≡ true
 holds_free tariff test rule e h = rw e h
 
-module _ (tariff : Tariff) (trip : Itinerary) (a b : ℕ) (fare : FareRecord) (free : fare.rule ≡ None) (short : b ≤ 16) where
+module _ (tariff : Tariff) (trip : Itinerary) (a b : ℕ) (fare : FareRecord) (free : fare.rule ≡ None) (short : b ≤ MOST_SECTORS) where
   free_stops : stops_hold tariff trip a b fare ≡ true
   unfolding stops_hold
-  free_stops = holds_free tariff (allows_stops (length (filter (is_stopover trip) (interior a b)))) fare.rule free (le-leb (length (filter (is_stopover trip) (interior a b))) 16 (few_inside (is_stopover trip) a b short))
+  free_stops = holds_free tariff (allows_stops (length (filter (is_stopover trip) (interior a b)))) fare.rule free (le-leb (length (filter (is_stopover trip) (interior a b))) MOST_SECTORS (few_inside (is_stopover trip) a b short))
 
   free_transfers : transfers_hold tariff trip a b fare ≡ true
   unfolding transfers_hold
-  free_transfers = holds_free tariff (allows_transfers (length (filter (is_transfer trip) (interior a b)))) fare.rule free (le-leb (length (filter (is_transfer trip) (interior a b))) 16 (few_inside (is_transfer trip) a b short))
+  free_transfers = holds_free tariff (allows_transfers (length (filter (is_transfer trip) (interior a b)))) fare.rule free (le-leb (length (filter (is_transfer trip) (interior a b))) MOST_SECTORS (few_inside (is_transfer trip) a b short))
 
   free_advance : advance_holds tariff trip fare ≡ true
   unfolding advance_holds
@@ -103,7 +104,7 @@ unfolding in_season
 whole_year_in_season trip a fare e day = rw e (whole_year_holds (month_day_of (first_day trip a)) day)
 
 pub applicable_freely : (tariff : Tariff) (trip : Itinerary) (a b : ℕ) (back : Bool) (fare : FareRecord)
-    → fare.rule ≡ None → fare.season ≡ whole_year → b ≤ 16 → is_month_day (month_day_of (first_day trip a)) ≡ true
+    → fare.rule ≡ None → fare.season ≡ whole_year → b ≤ MOST_SECTORS → is_month_day (month_day_of (first_day trip a)) ≡ true
     → is_applicable tariff trip a b back fare ≡ is_applicable_freely tariff trip a b back fare
 applicable_freely tariff trip a b back fare free year short day = free_applicable tariff trip a b fare free short back (whole_year_in_season trip a fare year day)
 

@@ -6,9 +6,11 @@ use Rattle.std.proofs.lemmas.Bool.{cases_Bool, cases_order, eq-eqb, ne_eqb, lt-l
 use Rattle.std.proofs.Math.Nat.{zero-mul}
 use Rattle.std.proofs.lemmas.List.FromFn.{length-range_with_len}
 use Rattle.std.proofs.lemmas.List.Sums.{sum_by-cons}
+use Rattle.fare_codes.specs.declared.limits.TheConstants.{MOST_SECTORS}
 use Rattle.fare_trip.specs.Itinerary.{Itinerary, count, point}
 use Rattle.fare_tariff.specs.Record.{FareRecord}
 use Rattle.fare_tariff.specs.Tariff.{Tariff}
+use Rattle.fare_rules.specs.declared.limits.TheConstants.{PRICE_LIMIT}
 use Rattle.fare_rules.specs.declared.part.Part.{Part}
 use Rattle.fare_rules.specs.declared.unit_sheet.UnitKind.{UnitKind}
 use Rattle.fare_rules.specs.declared.unit_sheet.UnitKind.TheVariants.{OW, RT, CT, OJ}
@@ -196,7 +198,7 @@ module _ (tariff : Tariff) (trip : Itinerary) (form : HasFaresInForm tariff) (pa
 
 -- a lawful price
 pub lawful_price_up_to : (tariff : Tariff) (trip : Itinerary) (parts : List Part) (cost : ℕ) → HasFaresInForm tariff
-    → count trip ≤ 16 → IsLawful tariff trip parts cost → cost < 40_000_000_000
+    → count trip ≤ MOST_SECTORS → IsLawful tariff trip parts cost → cost < PRICE_LIMIT
 lawful_price_up_to tariff trip parts cost form short lawful =
     let same : price tariff trip parts ≡ cost = price_of_lawful tariff trip parts cost lawful in
     let bound : price tariff trip parts ≤ 2_000_000_000 * length parts = price_up_to tariff trip form parts in

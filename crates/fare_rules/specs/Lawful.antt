@@ -6,6 +6,7 @@ use Rattle.fare_tariff.specs.Record.{FareRecord}
 use Rattle.fare_tariff.specs.Tariff.{Tariff}
 use Rattle.fare_rules.specs.declared.broken.Broken.{Broken}
 use Rattle.fare_rules.specs.declared.part.Part.{Part}
+use Rattle.fare_rules.specs.declared.rule.Rule.TheVariants as rule
 use Rattle.fare_rules.specs.Numbers.{first_given}
 use Rattle.fare_rules.specs.Span.{holds_surface}
 use Rattle.fare_rules.specs.Terms.{stops_hold, transfers_hold, advance_holds}
@@ -16,6 +17,7 @@ use Rattle.fare_rules.specs.Shape.{crossed, mixed, unchained, unclosed}
 use Rattle.fare_rules.specs.Direction.{is_back}
 use Rattle.fare_rules.specs.UnitRules.{mistimed, misfitted, clashed}
 use Rattle.fare_rules.specs.UnitPrice.{price}
+use Rattle.fare_rules.specs.Rule.{number_of}
 
 -- a fare is there and fails a test
 abbrev pub fails : (FareRecord → Bool) → Option FareRecord → Bool
@@ -98,28 +100,28 @@ at_part parts rule test = at_rule rule (find test (places parts))
 -- the rules by their numbers, each with where it is broken
 unfoldable pub breaks : Tariff → Itinerary → List Part → List (Option Broken)
 breaks tariff trip parts =
-    at_rule 1 (uncovered trip parts)
-    ∷ at_rule 2 (misnumbered parts)
-    ∷ at_rule 3 (unfiled tariff parts)
-    ∷ at_rule 4 (crossed parts)
-    ∷ at_rule 5 (mixed tariff parts)
-    ∷ at_rule 6 (unchained tariff trip parts)
-    ∷ at_rule 7 (unclosed tariff trip parts)
-    ∷ at_part parts 8 (is_twisted trip parts)
-    ∷ at_part parts 9 (is_mispaired tariff trip parts)
-    ∷ at_part parts 10 (is_misrouted tariff trip parts)
-    ∷ at_part parts 11 (is_underclassed tariff trip parts)
-    ∷ at_part parts 12 (is_miscarried tariff trip parts)
-    ∷ at_part parts 13 (stops_too_often tariff trip parts)
-    ∷ at_part parts 14 (transfers_too_often tariff trip parts)
-    ∷ at_part parts 15 (is_late tariff trip parts)
-    ∷ at_part parts 16 (is_unmeasured tariff trip parts)
-    ∷ at_part parts 17 (is_excessive tariff trip parts)
-    ∷ at_rule 18 (mistimed tariff trip parts)
-    ∷ at_rule 19 (misfitted tariff parts)
-    ∷ at_rule 20 (clashed tariff parts)
-    ∷ at_part parts 21 (holds_gap trip parts)
-    ∷ at_part parts 22 (is_out_of_season tariff trip parts)
+    at_rule (number_of rule.Cover) (uncovered trip parts)
+    ∷ at_rule (number_of rule.Numbering) (misnumbered parts)
+    ∷ at_rule (number_of rule.Record) (unfiled tariff parts)
+    ∷ at_rule (number_of rule.Crossing) (crossed parts)
+    ∷ at_rule (number_of rule.Alone) (mixed tariff parts)
+    ∷ at_rule (number_of rule.Chain) (unchained tariff trip parts)
+    ∷ at_rule (number_of rule.Close) (unclosed tariff trip parts)
+    ∷ at_part parts (number_of rule.Distinct) (is_twisted trip parts)
+    ∷ at_part parts (number_of rule.Pair) (is_mispaired tariff trip parts)
+    ∷ at_part parts (number_of rule.Indicator) (is_misrouted tariff trip parts)
+    ∷ at_part parts (number_of rule.Cabin) (is_underclassed tariff trip parts)
+    ∷ at_part parts (number_of rule.Carrier) (is_miscarried tariff trip parts)
+    ∷ at_part parts (number_of rule.Stops) (stops_too_often tariff trip parts)
+    ∷ at_part parts (number_of rule.Transfers) (transfers_too_often tariff trip parts)
+    ∷ at_part parts (number_of rule.Advance) (is_late tariff trip parts)
+    ∷ at_part parts (number_of rule.Mileage) (is_unmeasured tariff trip parts)
+    ∷ at_part parts (number_of rule.Excess) (is_excessive tariff trip parts)
+    ∷ at_rule (number_of rule.Stay) (mistimed tariff trip parts)
+    ∷ at_rule (number_of rule.Combine) (misfitted tariff parts)
+    ∷ at_rule (number_of rule.End) (clashed tariff parts)
+    ∷ at_part parts (number_of rule.Surface) (holds_gap trip parts)
+    ∷ at_part parts (number_of rule.Season) (is_out_of_season tariff trip parts)
     ∷ []
 
 -- the first broken rule: the least number, at the least place

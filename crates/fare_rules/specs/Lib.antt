@@ -21,6 +21,7 @@ pub mod Direction
 pub mod UnitRules
 pub mod Circle
 pub mod UnitPrice
+pub mod Rule
 pub mod Lawful
 pub mod Order
 pub mod Best

@@ -3,7 +3,7 @@
 //!
 //! - `part`, `amount`, `miles`, `unit_sheet`: a part of a construction, what it costs, its miles, and what a unit
 //!   costs;
-//! - `broken`: the first rule that a construction breaks;
+//! - `rule`: the 22 rules of a lawful construction, each with its number; `broken`: the first one that is broken;
 //! - `limits`: how great the numbers of the rules can be;
 //! - `laws`: what follows from the rules, each as the contract of a function that computes nothing.
 #![tactic(auto)]
@@ -14,6 +14,7 @@ mod laws;
 mod limits;
 mod miles;
 mod part;
+mod rule;
 mod unit_sheet;
 
 pub use amount::Amount;
@@ -24,7 +25,8 @@ pub use laws::{
     one_way_unit_costs_its_fare, order_is_total, parts_have_amounts, price_is_bounded,
     whole_year_holds_each_day,
 };
-pub use limits::{MOST_AMOUNT, MOST_POINTS, MOST_SECTORS, MOST_SURCHARGE, PRICE_LIMIT};
+pub use limits::{MOST_AMOUNT, MOST_POINTS, PRICE_LIMIT};
 pub use miles::{Mileage, Miles};
 pub use part::Part;
+pub use rule::Rule;
 pub use unit_sheet::{UnitKind, UnitSheet};

@@ -8,7 +8,8 @@ use Rattle.fare_words.specs.declared.command.Command.TheVariants as command
 use Rattle.fare_commands.specs.declared.exit.Exit.{Exit}
 use Rattle.fare_commands.specs.declared.exit.Exit.TheVariants as ended
 use Rattle.fare_commands.specs.Answer.{Answer, ExitAndText}
-use Rattle.fare_commands.specs.Limits.{compare_limit, publish_limit, quote_limit}
+use Rattle.fare_outside.specs.declared.limits.TheConstants.{MOST_TEXT}
+use Rattle.fare_commands.specs.declared.limits.TheConstants.{MOST_ITINERARY}
 use Rattle.fare_commands.specs.Publication.{MayPublish, PublishesNothing}
 use Rattle.fare_commands.specs.Readable.{HoldsBatch, HoldsItinerary, HoldsTariff}
 use Rattle.fare_commands.specs.StoreOutcome.{Bodies, MayMigrate}
@@ -56,9 +57,9 @@ LeavesBodiesAt asked exit = PublishesNothing exit × IsUncut asked exit
 -- the source of a command that also uses a store is within its limit and without a fault: a failure of the store comes
 -- behind these
 abbrev pub ReadsWell : Option Command → List ℕ → Type 0
-ReadsWell (Some (command.Publish store)) source = HoldsTariff publish_limit source
-ReadsWell (Some (command.Quote store workers asked json)) source = HoldsItinerary quote_limit source
-ReadsWell (Some (command.Compare store from to workers)) source = HoldsBatch compare_limit source
+ReadsWell (Some (command.Publish store)) source = HoldsTariff MOST_TEXT source
+ReadsWell (Some (command.Quote store workers asked json)) source = HoldsItinerary MOST_ITINERARY source
+ReadsWell (Some (command.Compare store from to workers)) source = HoldsBatch MOST_TEXT source
 ReadsWell other source = ⊤
 
 -- what a command does to the bodies: `publish` may add the text of the edition of its source, where that is told, what

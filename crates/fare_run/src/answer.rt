@@ -1,9 +1,9 @@
 //! What a command is answered.
 
 ghost use Rattle.std.specs.Prelude.{◌≡◌, ◌≤◌, [], IfErr, IfOk, IfSome, IsErrOf, OnOk};
+ghost use Rattle.fare_codes.specs.declared.limits.TheConstants.{MOST_WORKERS};
 ghost use Rattle.fare_outside.specs.Cause.{Rose};
 ghost use Rattle.fare_outside.specs.Keeper.{BodiesStay, WhereTold};
-ghost use Rattle.fare_split.specs.declared.pieces.TheConstants.{MOST_WORKERS};
 ghost use Rattle.fare_serve.specs.Desk.{world_of};
 ghost use Rattle.fare_serve.specs.Service.{door_state};
 ghost use Rattle.fare_commands.specs.Opened.{Names};

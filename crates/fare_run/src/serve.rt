@@ -2,7 +2,6 @@
 
 ghost use Rattle.std.specs.Prelude.{◌≡◌, ◌≤◌, [], IfErr, IsErrOf};
 ghost use Rattle.fare_outside.specs.Cause.{Rose};
-ghost use Rattle.fare_split.specs.declared.pieces.TheConstants.{MOST_WORKERS};
 ghost use Rattle.fare_serve.specs.Desk.{world_of};
 ghost use Rattle.fare_serve.specs.Service.{door_state};
 ghost use Rattle.fare_commands.specs.Answer.{IsDoneOr};
@@ -12,8 +11,9 @@ ghost use Rattle.fare_run.specs.Ends.{IsRefusalOfServe};
 ghost use Rattle.fare_run.specs.Run.{ServesNobodyAt};
 ghost use Rattle.fare_run.specs.Serve.{ServesStore};
 
+use fare_codes::MOST_WORKERS;
 use fare_commands::{Context, Exit, Outcome, book_of};
-use fare_outside::{Door, Keeper};
+use fare_outside::{Door, Keeper, MOST_HELD};
 use fare_serve::{ServeFault, Service, serve as serve_book};
 use std::thread::Threads;
 
@@ -27,7 +27,7 @@ pub fn serve<R: Threads + Sync, P: Keeper, D: Door>(
     service: &Service<'_>,
 ) -> Result<Outcome, Exit>
     requires some { 1 ≤ service.now.round }
-    requires few { service.now.round ≤ 8 }
+    requires few { service.now.round ≤ MOST_HELD }
     requires some_workers { 1 ≤ service.now.workers }
     requires few_workers { service.now.workers ≤ MOST_WORKERS }
     requires none_held { D.held door.old ≡ [] }

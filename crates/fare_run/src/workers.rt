@@ -1,8 +1,8 @@
 ghost use Rattle.std.specs.Prelude.{◌≡◌, ◌≤◌};
-ghost use Rattle.fare_words.specs.Limits.{most_workers};
 ghost use Rattle.fare_run.specs.Sharing.{workers_of};
 ghost use Rattle.fare_run.specs.Uses.{IsWithin};
 
+use fare_codes::MOST_WORKERS;
 use fare_words::Command;
 
 /// How many workers share a search of a command: one where it searches nothing.
@@ -11,7 +11,7 @@ pub fn workers_of(asked: &Option<Command<'_>>) -> u32
     requires { IsWithin asked.now }
     ensures workers { result ≡ workers_of asked.now }
     ensures some { 1 ≤ result }
-    ensures few { result ≤ most_workers }
+    ensures few { result ≤ MOST_WORKERS }
 {
     match asked {
         Some(

@@ -7,7 +7,7 @@ ghost use Rattle.fare_rounds.specs.Rounds.{Exchanged};
 ghost use Rattle.fare_serve.specs.Service.{AreRounds, IsNextRound, door_state, standing};
 
 use crate::Service;
-use fare_outside::Door;
+use fare_outside::{Door, MOST_HELD};
 use fare_rounds::{Counts, DoorEnd, RoundHandler, serve_round};
 use std::alloc::Global;
 use std::cmp::min;
@@ -23,7 +23,7 @@ pub fn serve_rounds<R: Threads + Sync, D: Door, H: RoundHandler>(
     service: &Service<'_>,
 ) -> (DoorEnd, Counts)
     requires some { 1 ≤ service.now.round }
-    requires few { service.now.round ≤ 8 }
+    requires few { service.now.round ≤ MOST_HELD }
     requires none_held { D.held door.old ≡ [] }
     ensures rounds { (rounds : List (List Exchanged))
         × AreRounds H.step service.now.count service.now.round
@@ -64,7 +64,7 @@ fn serve_next<R: Threads + Sync, D: Door, H: RoundHandler>(
     service: &Service<'_>,
 ) -> DoorEnd
     requires some { 1 ≤ service.now.round }
-    requires few { service.now.round ≤ 8 }
+    requires few { service.now.round ≤ MOST_HELD }
     requires none_held { D.held door.old ≡ [] }
     requires wanted { counts.old.served + counts.old.cut < service.now.count }
     ensures round { (round : List Exchanged)

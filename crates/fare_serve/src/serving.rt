@@ -2,17 +2,16 @@
 
 ghost use Rattle.std.specs.Prelude.{◌≡◌, ◌≤◌, [], Err, vec_capacity, IsTrue, OnErr};
 ghost use Rattle.fare_outside.specs.Cause.{Rose};
-ghost use Rattle.fare_split.specs.declared.pieces.TheConstants.{MOST_WORKERS};
 ghost use Rattle.fare_serve.specs.Desk.{ServesBook, world_of};
 ghost use Rattle.fare_serve.specs.Service.{ServesPort, door_state, summary};
 
 use crate::rounds::serve_rounds;
 use crate::{ServeFault, ServedDesk, Service};
 use fare_book::Book;
-use fare_codes::number_text;
+use fare_codes::{MOST_WORKERS, number_text};
 use fare_counter::CounterRoutes;
 use fare_desk::Routes;
-use fare_outside::{Door, Failed, Keeper};
+use fare_outside::{Door, Failed, Keeper, MOST_HELD};
 use fare_rounds::{Counts, DoorEnd, RoundHandler};
 use fare_split::SplitQuoter;
 use std::alloc::Global;
@@ -33,7 +32,7 @@ pub fn serve<R: Threads + Sync, P: Keeper, D: Door>(
     service: &Service<'_>,
 ) -> Result<Vec<u8>, ServeFault>
     requires some { 1 ≤ service.now.round }
-    requires few { service.now.round ≤ 8 }
+    requires few { service.now.round ≤ MOST_HELD }
     requires some_workers { 1 ≤ service.now.workers }
     requires few_workers { service.now.workers ≤ MOST_WORKERS }
     requires none_held { D.held door.old ≡ [] }
@@ -76,7 +75,7 @@ fn serve_desk<R: Threads + Sync, P: Keeper, D: Door>(
     room: Vec<u8>,
 ) -> Result<Vec<u8>, ServeFault>
     requires some { 1 ≤ service.now.round }
-    requires few { service.now.round ≤ 8 }
+    requires few { service.now.round ≤ MOST_HELD }
     requires none_held { D.held door.old ≡ [] }
     requires empty { room.items ≡ [] }
     requires room { MOST_SUMMARY ≤ vec_capacity room }
@@ -112,7 +111,7 @@ fn serve_port<R: Threads + Sync, D: Door, H: RoundHandler>(
     room: Vec<u8>,
 ) -> Result<Vec<u8>, Failed>
     requires some { 1 ≤ service.now.round }
-    requires few { service.now.round ≤ 8 }
+    requires few { service.now.round ≤ MOST_HELD }
     requires none_held { D.held door.old ≡ [] }
     requires empty { room.items ≡ [] }
     requires room { MOST_SUMMARY ≤ vec_capacity room }

@@ -6,7 +6,7 @@ use Rattle.fare_component.specs.Table.{Pricing}
 use Rattle.fare_bounds.specs.Covers.{AreRests}
 use Rattle.fare_branch.specs.declared.bound.TheConstants.{NO_PRICE}
 use Rattle.fare_branch.specs.declared.pieces.Piece.{Piece}
-use Rattle.fare_split.specs.declared.pieces.TheConstants.{MOST_WORKERS}
+use Rattle.fare_codes.specs.declared.limits.TheConstants.{MOST_WORKERS}
 use Rattle.fare_split.specs.declared.word.View.{View}
 use Rattle.fare_split.specs.declared.worker.Worker.{Worker}
 use Rattle.fare_split.specs.PriceWord.{floor_of}

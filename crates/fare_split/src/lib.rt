@@ -34,7 +34,6 @@ mod turnstile;
 mod word;
 mod worker;
 
-pub use pieces::MOST_WORKERS;
 pub use prepared::Prepared;
 pub use quoter::SplitQuoter;
 pub use sharing::LEAST_SHARED_WORK;

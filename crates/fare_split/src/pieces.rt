@@ -5,12 +5,10 @@ ghost use Rattle.fare_split.specs.Rows.{ArePieces, choice_count};
 
 use crate::shares::{choices_within, whole_work};
 use fare_branch::{Piece, choices};
+use fare_codes::MOST_WORKERS;
 use fare_component::Table;
 use fare_outside::NoMemory;
 use std::alloc::Global;
-
-/// How many workers there can be.
-pub const MOST_WORKERS: u32 = 16;
 
 /// As many pieces as workers, which share out the first-part choices of a table: each lies in exactly one.
 #[tactic(auto, using(crate::proofs::RangeLemmas::none_shared, crate::proofs::RangeLemmas::one_more))]

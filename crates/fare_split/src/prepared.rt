@@ -4,13 +4,14 @@ ghost use Rattle.fare_split.specs.Rows.{ArePieces, IsEarliest, IsFresh, IsRun, c
 
 use crate::earliest::earliest;
 use crate::opening::opened;
-use crate::pieces::{MOST_WORKERS, shared_out};
+use crate::pieces::shared_out;
 use crate::seating::seated;
 use crate::threads::run_all;
 use crate::word::Word;
 use crate::worker::Worker;
 use fare_bounds::Rest;
 use fare_branch::Piece;
+use fare_codes::MOST_WORKERS;
 use fare_component::Table;
 use fare_outside::{Gate, NoMemory};
 use fare_rules::edition_is_valid;

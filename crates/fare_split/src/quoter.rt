@@ -1,15 +1,15 @@
 //! The quoter that shares its search out among workers.
 
 ghost use Rattle.std.specs.Prelude.{◌≡◌, ◌≤◌, IfOk};
+ghost use Rattle.fare_codes.specs.declared.limits.TheConstants.{MOST_WORKERS};
 ghost use Rattle.fare_rules.specs.Best.{IsBestAnswer};
-ghost use Rattle.fare_split.specs.declared.pieces.TheConstants.{MOST_WORKERS};
 
-use crate::pieces::MOST_WORKERS;
 use crate::prepared::Prepared;
 use crate::shares::whole_work;
 use crate::sharing::workers_for;
 use crate::turnstile::Turnstile;
 use fare_branch::BranchQuoter;
+use fare_codes::MOST_WORKERS;
 use fare_component::Table;
 use fare_outside::{Gate, NoMemory, OpenGate};
 use fare_tariff::Edition;

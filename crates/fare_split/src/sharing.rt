@@ -3,7 +3,7 @@
 ghost use Rattle.std.specs.Prelude.{◌≡◌, ◌≤◌};
 ghost use Rattle.fare_split.specs.Sharing.{workers_for};
 
-use crate::pieces::MOST_WORKERS;
+use fare_codes::MOST_WORKERS;
 
 /// How much work a search is at least that is shared out. Less is mostly done before a thread has started.
 pub const LEAST_SHARED_WORK: u64 = 32;

@@ -5,11 +5,11 @@ ghost use Rattle.fare_bounds.specs.Covers.{AreRests};
 ghost use Rattle.fare_split.specs.PriceWord.{floor_of};
 ghost use Rattle.fare_split.specs.Workers.{HasRun, HaveRun, IsSeated};
 
-use crate::pieces::MOST_WORKERS;
 use crate::running::run;
 use crate::word::Word;
 use crate::worker::Worker;
 use fare_bounds::Rest;
+use fare_codes::MOST_WORKERS;
 use fare_component::Table;
 use fare_outside::Gate;
 use std::thread;

@@ -6,7 +6,7 @@ use Rattle.fare_index.specs.declared.key.Key.{Key}
 use Rattle.fare_index.specs.Key.{same_key}
 use Rattle.fare_index.specs.SameKeys.{same_key-true}
 use Rattle.fare_tariff.specs.declared.records.record.Record.{Record}
-use Rattle.fare_tariff.specs.Keyed.{own_key, has_own_key}
+use Rattle.fare_tariff.specs.Keyed.{own_key, has_own_key, HasKeyAt}
 
 -- a place by a test of keys is a place by a test of records
 position_from-keys : (test : Key → Bool) (k : ℕ) (xs : List Record) → position_from test k (map own_key xs) ≡ position_from (λ one. test (own_key one)) k xs
@@ -213,3 +213,15 @@ module _ {B : Type 0} (F : ℕ → List Record → B) (e : B) (key : Key) where
       let keyed : IsKeyed key all place = subst (λ o. IfSome o (IsKeyed key all)) is at_keyed in
       let some = some_there all place keyed.within in
       (some.0, ap (has_own_key key) some.1 ∙ keyed.keyed some.0, walk_here all at place some.0 is at_keyed some.1)
+
+-- a record that is at a place and has a key, in a list that is seen as another
+pub has_key_at : (records now : List Record) (place : ℕ) (one : Record) (key : Key) → records ≡ now → place < length records → ((d : Record) → one ≡ get_or records place d) → same_key (own_key one) key ≡ true → HasKeyAt now place key
+has_key_at records now place one key seen within at same = record {
+  within = omega (arith, within, ap length seen);
+  own = λ d. ap own_key (sym (at d ∙ ap (λ l. get_or l place d) seen)) ∙ same_key-true (own_key one) key same;
+}
+
+-- the first place of the key of such a place is that of the key
+pub first_of_guess : (now : List Record) (place : ℕ) (key : Key) (found : Option ℕ) → HasKeyAt now place key → ((d : Record) → found ≡ position_from (has_own_key (own_key (get_or now place d))) 0 now) → found ≡ position_from (has_own_key key) 0 now
+first_of_guess [] place key found at h = absurd (omega (arith, at.within))
+first_of_guess (x ∷ xs) place key found at h = h x ∙ ap (λ k. position_from (has_own_key k) 0 (x ∷ xs)) (at.own x)

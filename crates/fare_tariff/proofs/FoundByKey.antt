@@ -15,7 +15,7 @@ use Rattle.fare_index.specs.Pairs.{permitted_key, ticketed_key, extra_key}
 use Rattle.fare_index.proofs.SamePairs.{unordered}
 use Rattle.fare_tariff.specs.declared.records.record.Record.{Record}
 use Rattle.fare_tariff.specs.declared.records.record.Record.TheVariants as filed
-use Rattle.fare_tariff.specs.Lookup.{first_some, same_pair, same_via, city_in, currency_in, rule_in, mpm_in, tpm_in, is_fare_between}
+use Rattle.fare_tariff.specs.Lookup.{first_some, same_pair, same_via, city_in, currency_in, rule_in, rule_of, mpm_in, tpm_in, is_fare_between}
 use Rattle.fare_tariff.specs.Check.{is_allowance_of}
 use Rattle.fare_tariff.specs.Keyed.{own_key, has_own_key, IsAmong}
 
@@ -122,8 +122,24 @@ city_found city all = first_some-find (city_in city) (has_own_key (kind.City cit
 pub currency_found : (country : Country) (all : List Record) → first_some (currency_in country) all ≡ option_and_then (currency_in country) (find (has_own_key (kind.Currency country)) all)
 currency_found country all = first_some-find (currency_in country) (has_own_key (kind.Currency country)) (currency_tells country) all
 
-pub rule_found : (id : RuleId) (all : List Record) → first_some (rule_in id) all ≡ option_and_then (rule_in id) (find (has_own_key (kind.Rule id)) all)
-rule_found id all = first_some-find (rule_in id) (has_own_key (kind.Rule id)) (rule_tells id) all
+-- two answers that are one of each record with a key are one of the first
+answers_alike : {A : Type 0} (f g : Record → Option A) (test : Record → Bool) → ((one : Record) → test one ≡ true → f one ≡ g one) → (all : List Record) → option_and_then f (find test all) ≡ option_and_then g (find test all)
+answers_alike f g test same [] = refl
+answers_alike f g test same (x ∷ xs) = go (test x) refl (answers_alike f g test same xs)
+  where
+    go : (t : Bool) → test x ≡ t → option_and_then f (find test xs) ≡ option_and_then g (find test xs) → option_and_then f (cond t (Some x) (find test xs)) ≡ option_and_then g (cond t (Some x) (find test xs))
+    go true h later = same x h
+    go false h later = later
+
+-- a record with a rule's key files that rule
+rule_of_key : (id : RuleId) (one : Record) → has_own_key (kind.Rule id) one ≡ true → rule_in id one ≡ rule_of one
+rule_of_key id (filed.Rule r) h = ap (λ t. cond t (Some r) None) (sym (turned (kind.Rule id) (filed.Rule r)) ∙ h)
+rule_of_key id _ h = cc
+
+pub rule_found : (id : RuleId) (all : List Record) → first_some (rule_in id) all ≡ option_and_then rule_of (find (has_own_key (kind.Rule id)) all)
+rule_found id all =
+    first_some-find (rule_in id) (has_own_key (kind.Rule id)) (rule_tells id) all
+    ∙ answers_alike (rule_in id) rule_of (has_own_key (kind.Rule id)) (rule_of_key id) all
 
 pub mpm_found : (a b : City) (ind : Indicator) (all : List Record) → first_some (mpm_in a b ind) all ≡ option_and_then (mpm_in a b ind) (find (has_own_key (permitted_key a b ind)) all)
 mpm_found a b ind all = first_some-find (mpm_in a b ind) (has_own_key (permitted_key a b ind)) (mpm_tells a b ind) all

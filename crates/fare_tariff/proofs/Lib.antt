@@ -18,3 +18,4 @@ pub mod OneFare
 pub mod FoundOptions
 pub mod Zipped
 pub mod NextFares
+pub mod SeenFares

@@ -20,7 +20,7 @@ use Rattle.fare_tariff.proofs.Chain.{LooksAt}
 use Rattle.fare_tariff.proofs.FoundByKey.{fare_tells, ema_tells}
 
 -- a record that is no fare between a key's cities for its indicator isn't sought
-sought_apart : (key : FareKey) (sought : Sought) (one : Record) → is_fare_between key.from key.to key.ind one ≡ false → is_sought key sought one ≡ false
+pub sought_apart : (key : FareKey) (sought : Sought) (one : Record) → is_fare_between key.from key.to key.ind one ≡ false → is_sought key sought one ≡ false
 sought_apart key (On day) (filed.Fare r) h = rw h refl
 sought_apart key (Of season) (filed.Fare r) h = rw h refl
 sought_apart key (Over season) (filed.Fare r) h = rw h refl

@@ -44,7 +44,7 @@ same_rule-true (Some a) (Some b) h = ap Some (bytes_eq-true a b h)
 same_rule-true _ _ h = cc
 
 -- a fare has a key only if that is the fare's own key
-own_key : (key : FareKey) (fare : FareRecord) → has_key key fare ≡ true → key_of fare ≡ key
+pub own_key : (key : FareKey) (fare : FareRecord) → has_key key fare ≡ true → key_of fare ≡ key
 own_key key fare h =
     let a = and_true (bytes_eq fare.from key.from && bytes_eq fare.to key.to && same_indicator fare.ind key.ind && bytes_eq fare.carrier key.carrier && same_cabin fare.class key.class && same_kind fare.kind key.kind) (same_rule fare.rule key.rule) h in
     let b = and_true (bytes_eq fare.from key.from && bytes_eq fare.to key.to && same_indicator fare.ind key.ind && bytes_eq fare.carrier key.carrier && same_cabin fare.class key.class) (same_kind fare.kind key.kind) a.0 in

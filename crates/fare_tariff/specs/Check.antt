@@ -9,11 +9,12 @@ use Rattle.fare_codes.specs.declared.rule_id.RuleId.{RuleId}
 use Rattle.fare_codes.specs.declared.indicator.Indicator.{Indicator}
 use Rattle.fare_codes.specs.declared.day.Day.{Day}
 use Rattle.fare_codes.specs.declared.season.Season.{Season}
+use Rattle.fare_codes.specs.declared.limits.TheConstants.{LAST_EDITION}
 use Rattle.fare_codes.specs.declared.nuc.TheConstants.{FARE_LIMIT}
 use Rattle.fare_codes.specs.Day.{is_month_day}
 use Rattle.fare_codes.specs.Same.{same_indicator, same_season}
 use Rattle.fare_codes.specs.Season.{season_holds}
-use Rattle.fare_tariff.specs.declared.limits.TheConstants.{LAST_EDITION, MOST_FARES_BETWEEN, MOST_RECORDS}
+use Rattle.fare_tariff.specs.declared.limits.TheConstants.{MOST_FARES_BETWEEN, MOST_RECORDS}
 use Rattle.fare_tariff.specs.declared.records.record.Record.{Record}
 use Rattle.fare_tariff.specs.declared.records.record.Record.TheVariants as filed
 use Rattle.fare_tariff.specs.declared.records.fare_key.FareKey.{FareKey}

@@ -1,5 +1,6 @@
 -- The keys by which the records of a list are found.
-use Rattle.std.specs.Prelude.{◌≡◌, ℕ, Bool, true, List, Option, Some, None, map, nat_lt, slice_get, if◌then◌else◌}
+use Rattle.std.specs.Prelude.{◌≡◌, ◌<◌, ℕ, Bool, true, List, Option, Some, None, map, length, nat_lt, slice_get}
+use Rattle.std.specs.Prelude.{slice_index_or, if◌then◌else◌}
 use Rattle.std.specs.List.{list_all}
 use Rattle.fare_index.specs.declared.key.Key.{Key}
 use Rattle.fare_index.specs.declared.key.Key.TheVariants as kind
@@ -41,3 +42,8 @@ pub record IsIndexed (records : List Record) (index : List Key) : Type 0 where
 -- a record stands at a place of a list
 abbrev pub IsAmong : List Record → Record → Type 0
 IsAmong records one = (place : ℕ) × (slice_get records place ≡ Some one)
+
+-- the record at a place of a list is there and has a key
+pub record HasKeyAt (records : List Record) (place : ℕ) (key : Key) : Type 0 where
+  pub within : place < length records
+  pub own : (d : Record) → own_key (slice_index_or records place d) ≡ key

@@ -10,3 +10,5 @@ pub mod Filed
 pub mod Keyed
 pub mod Sought
 pub mod Faulty
+pub mod Seen
+pub mod Spelling

@@ -119,6 +119,11 @@ abbrev pub rule_in : RuleId → Record → Option RuleRecord
 rule_in id (filed.Rule r) = if bytes_eq r.id id then Some r else None
 rule_in id _ = None
 
+-- the rule that a record files, if any
+abbrev pub rule_of : Record → Option RuleRecord
+rule_of (filed.Rule r) = Some r
+rule_of _ = None
+
 -- the record of a rule
 abbrev pub rule_record : Tariff → RuleId → Option RuleRecord
 rule_record tariff id = first_some (rule_in id) tariff.records

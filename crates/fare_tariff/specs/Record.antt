@@ -12,8 +12,8 @@ use Rattle.fare_codes.specs.declared.mode.Mode.{Mode}
 use Rattle.fare_codes.specs.declared.nuc.Nuc.{Nuc}
 use Rattle.fare_codes.specs.declared.season.Season.{Season}
 use Rattle.fare_codes.specs.declared.decimals.TheConstants.{RATE_LIMIT}
-use Rattle.fare_tariff.specs.declared.limits.TheConstants.{MOST_DAYS, MOST_DECIMALS, MOST_NAMES, MOST_STOPS}
-use Rattle.fare_tariff.specs.declared.limits.TheConstants.{MOST_TRANSFERS, MOST_UNIT}
+use Rattle.fare_codes.specs.declared.limits.TheConstants.{MOST_DECIMALS, MOST_UNIT}
+use Rattle.fare_tariff.specs.declared.limits.TheConstants.{MOST_DAYS, MOST_NAMES, MOST_STOPS, MOST_TRANSFERS}
 use Rattle.fare_tariff.specs.declared.records.names.Names.{Names}
 use Rattle.fare_tariff.specs.declared.records.names.Names.TheVariants.{All, Of}
 

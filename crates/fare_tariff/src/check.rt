@@ -9,6 +9,7 @@ mod keys;
 mod kind;
 mod names;
 mod numbers;
+mod seen;
 
 pub use check_fault::CheckFault;
 pub use check_kind::CheckKind;

@@ -7,9 +7,9 @@ ghost use Rattle.fare_tariff.specs.Record.{FareRecord};
 
 use crate::check::{CheckFault, first_fault};
 use crate::filed::Filed;
-use crate::limits::{LAST_EDITION, MOST_RECORDS};
+use crate::limits::MOST_RECORDS;
 use crate::records::Record;
-use fare_codes::Day;
+use fare_codes::{Day, LAST_EDITION};
 use std::alloc::Global;
 use std::marker::Model;
 use std::thread::Threads;

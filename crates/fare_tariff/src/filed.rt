@@ -6,11 +6,10 @@ ghost use Rattle.std.specs.Option.{option_copied};
 ghost use Rattle.fare_tariff.specs.declared.records.record.Record.{Record};
 ghost use Rattle.fare_tariff.specs.Check.{has_amount_in_range};
 ghost use Rattle.fare_codes.specs.declared.nuc.TheConstants.{FARE_LIMIT};
-ghost use Rattle.fare_tariff.specs.Keyed.{own_key, has_own_key, IsAmong};
+ghost use Rattle.fare_tariff.specs.Keyed.{own_key, has_own_key, IsAmong, HasKeyAt};
 
+use crate::guesses::Guesses;
 use crate::records::{FareRec, Record};
-use crate::towns::Towns;
-use fare_codes::City;
 use fare_index::{FEWEST_APART, Index, Key};
 use fare_outside::NoMemory;
 use rayon::prelude::*;
@@ -23,7 +22,7 @@ use std::thread::Threads;
 pub struct Filed {
     records: Vec<Record>,
     index: Index,
-    towns: Towns,
+    guesses: Guesses,
 }
 
 impl Model for Filed {
@@ -48,12 +47,12 @@ impl Filed {
         ensures { IfOk result (λ filed. filed ≡ records.items) }
     {
         let keys = own_keys(rt, alloc, records.as_slice())?;
-        let towns = Towns::of(alloc, keys.as_slice())?;
+        let guesses = Guesses::of(alloc, keys.as_slice())?;
         let index = Index::of_many(rt, alloc, keys)?;
         Ok(Filed {
             records,
             index,
-            towns,
+            guesses,
         })
     }
 
@@ -65,18 +64,43 @@ impl Filed {
         self.records.as_slice()
     }
 
-    /// The record at the place where a city's may stand; it may be any other.
-    pub(crate) fn guess(&self, city: City) -> Option<&Record>
+    /// The record at the place where that of a key may stand; it may be any other.
+    pub(crate) fn guess(&self, key: &Key) -> Option<&Record>
         ensures { IfSome result (λ one. IsAmong self.now one.now) }
     {
-        self.records.get(self.towns.place(city))
+        self.records.get(self.guesses.place(key))
     }
 
-    /// The place of the first record with a key.
+    /// Whether the record at a place is there and has a key.
+    fn stands_at(&self, place: usize, key: &Key) -> bool
+        ensures { result ≡ true → HasKeyAt self.now place key.now }
+    {
+        match self.records.get(place) {
+            None => false,
+            Some(one) => own_key(one) == *key,
+        }
+    }
+
+    /// The place of the first record with a key, found at once where it stands where it may.
+    fn first_guessed(&self, key: &Key) -> Option<usize>
+        ensures { result ≡ position_from (has_own_key key.now) 0 self.now }
+    {
+        let guess = self.guesses.place(key);
+        if self.stands_at(guess, key) {
+            return self.first_at(guess);
+        }
+        self.index.first(key)
+    }
+
+    /// The place of the first record with a key. A rule's id takes longer to hash than to guess by, a pair of cities
+    /// doesn't.
     pub(crate) fn first(&self, key: &Key) -> Option<usize>
         ensures { result ≡ position_from (has_own_key key.now) 0 self.now }
     {
-        self.index.first(key)
+        match key {
+            Key::Rule(_) => self.first_guessed(key),
+            _ => self.index.first(key),
+        }
     }
 
     /// The first place of a record with the key of the record at a place.

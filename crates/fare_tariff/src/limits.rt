@@ -1,8 +1,5 @@
 //! How many records an edition has, and how great the numbers of records are.
 
-/// The greatest number of an edition; the least is 1.
-pub const LAST_EDITION: u32 = 99_999;
-
 /// An edition has at most this many records between its HEAD and its END.
 pub const MOST_RECORDS: usize = 400_000;
 
@@ -14,12 +11,6 @@ pub const MOST_FARES_BETWEEN: usize = 64;
 
 /// A record states at most this many miles.
 pub const MOST_MILES: u32 = 99_999;
-
-/// A currency's amounts have at most this many decimals.
-pub const MOST_DECIMALS: u8 = 2;
-
-/// The greatest unit to which a currency's amounts are rounded; the least is 1.
-pub const MOST_UNIT: u32 = 10_000;
 
 /// A rule allows at most this many interior stopovers in a fare component.
 pub const MOST_STOPS: u32 = 16;

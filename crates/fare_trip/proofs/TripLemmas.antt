@@ -8,6 +8,7 @@ use Rattle.fare_codes.specs.declared.city.City.{City}
 use Rattle.fare_codes.specs.declared.day.Day.{Day}
 use Rattle.fare_codes.specs.declared.cabin.Cabin.TheVariants.{Y}
 use Rattle.fare_codes.specs.declared.over.Over.TheVariants.{Unmarked}
+use Rattle.fare_codes.specs.declared.limits.TheConstants.{MOST_SECTORS}
 use Rattle.fare_codes.specs.Day.{day_number}
 use Rattle.fare_trip.specs.declared.sector.Sector.{Sector}
 use Rattle.fare_trip.specs.declared.fault.TripFault.{TripFault}
@@ -18,7 +19,7 @@ use Rattle.fare_trip.specs.Trip.{make_trip, sectors_fault, sector_fault, is_misp
 -- what is asked of the sectors of a trip
 pub record MadeOf (sectors : List Sector) (from : City) (sale : Day) : Type 0 where
   pub some : 1 ≤ length sectors
-  pub at_most : length sectors ≤ 16
+  pub at_most : length sectors ≤ MOST_SECTORS
   pub faultless : sectors_fault (length sectors) 1 from sale false sectors ≡ None
 
 -- a choice of faults that answers a trip found none
@@ -31,7 +32,7 @@ no_fault false false first second None made trip h = (refl, refl, refl)
 pub made_of : (sale : Day) (from : City) (sectors : List Sector) (trip : Itinerary) → make_trip sale from sectors ≡ Ok trip → MadeOf sectors from sale
 unfolding make_trip
 made_of sale from sectors trip made =
-    let found = no_fault (length sectors == 0) (nat_lt 16 (length sectors)) fault.NoSectors (fault.TooMany (carried (length sectors))) (sectors_fault (length sectors) 1 from sale false sectors) (record { sale = sale; from = from; sectors = sectors }) trip made in
+    let found = no_fault (length sectors == 0) (nat_lt MOST_SECTORS (length sectors)) fault.NoSectors (fault.TooMany (carried (length sectors))) (sectors_fault (length sectors) 1 from sale false sectors) (record { sale = sale; from = from; sectors = sectors }) trip made in
     record {
       some = grind (arith, nat_tests);
       at_most = grind (arith, nat_tests);

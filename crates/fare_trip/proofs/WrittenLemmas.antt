@@ -12,6 +12,7 @@ use Rattle.serde_json.specs.Written.{has_float, items_have_float, compact_text}
 use Rattle.fare_codes.specs.declared.city.City.{City}
 use Rattle.fare_codes.specs.declared.day.Day.{Day}
 use Rattle.fare_codes.specs.Codes.{read_city, read_carrier}
+use Rattle.fare_codes.specs.declared.limits.TheConstants.{MOST_SECTORS}
 use Rattle.fare_codes.specs.Day.{read_day}
 use Rattle.fare_codes.specs.Over.{over_text, read_over}
 use Rattle.fare_codes.specs.Words.{cabin_text, read_cabin}
@@ -58,7 +59,7 @@ counted_reads_back t each makes =
     let made = made_of t.sale t.from t.sectors t makes in
     let len = items_len-sectors t.sectors in
     let some : (items_len (items_of (map sector_data t.sectors)) == 0) ≡ false = grind (arith, nat_tests, len, made.some) in
-    let few : nat_lt 16 (items_len (items_of (map sector_data t.sectors))) ≡ false = grind (arith, nat_tests, len, made.at_most) in
+    let few : nat_lt MOST_SECTORS (items_len (items_of (map sector_data t.sectors))) ≡ false = grind (arith, nat_tests, len, made.at_most) in
     rw (some, few) (placed_reads_back t each makes)
 
 pub trip_reads_back : (t : Itinerary) → read_city t.from ≡ Some t.from → read_day t.sale ≡ Some t.sale → All ReadsBack t.sectors → make_trip t.sale t.from t.sectors ≡ Ok t → trip_of (trip_data t) ≡ Ok t

@@ -11,6 +11,7 @@ use Rattle.fare_codes.specs.declared.carrier.Carrier.{Carrier}
 use Rattle.fare_codes.specs.declared.city.City.{City}
 use Rattle.fare_codes.specs.declared.day.Day.{Day}
 use Rattle.fare_codes.specs.declared.over.Over.{Over}
+use Rattle.fare_codes.specs.declared.limits.TheConstants.{MOST_SECTORS}
 use Rattle.fare_codes.specs.declared.over.Over.TheVariants.{Unmarked}
 use Rattle.fare_codes.specs.Codes.{read_city, read_carrier}
 use Rattle.fare_codes.specs.Day.{read_day}
@@ -88,7 +89,7 @@ sectors_of total number city day behind_surface (item value items) = do
   rest ← sectors_of total (number + 1) flown.to flown.day flown.surface items
   Ok (flown ∷ rest)
 
--- the trip of 1 to 16 items
+-- the trip of 1 to MOST_SECTORS items
 unfoldable pub placed_trip : Day → City → Items → Result Itinerary TripFault
 placed_trip sale from items = do
   sectors ← sectors_of (items_len items) 1 from sale false items
@@ -98,7 +99,7 @@ placed_trip sale from items = do
 unfoldable pub counted_trip : Day → City → Items → Result Itinerary TripFault
 counted_trip sale from items =
     if items_len items == 0 then Err fault.NoSectors
-    else (if nat_lt 16 (items_len items) then Err (fault.TooMany (carried (items_len items)))
+    else (if nat_lt MOST_SECTORS (items_len items) then Err (fault.TooMany (carried (items_len items)))
     else placed_trip sale from items)
 
 -- the members at the top, in the order in which their faults come

@@ -4,6 +4,7 @@ use Rattle.std.specs.Prelude.{None, Result, Ok, Err, ◌==◌, ◌&&◌, ◌||�
 use Rattle.std.specs.Option.{option_or}
 use Rattle.fare_codes.specs.declared.city.City.{City}
 use Rattle.fare_codes.specs.declared.day.Day.{Day}
+use Rattle.fare_codes.specs.declared.limits.TheConstants.{MOST_SECTORS}
 use Rattle.fare_codes.specs.Day.{day_number}
 use Rattle.fare_trip.specs.declared.sector.Sector.{Sector}
 use Rattle.fare_trip.specs.declared.fault.TripFault.{TripFault}
@@ -44,7 +45,7 @@ unless_fault None trip = Ok trip
 unfoldable pub make_trip : Day → City → List Sector → Result Itinerary TripFault
 make_trip sale from sectors =
     if length sectors == 0 then Err fault.NoSectors
-    else (if nat_lt 16 (length sectors) then Err (fault.TooMany (carried (length sectors)))
+    else (if nat_lt MOST_SECTORS (length sectors) then Err (fault.TooMany (carried (length sectors)))
     else unless_fault (sectors_fault (length sectors) 1 from sale false sectors)
     (record { sale = sale; from = from; sectors = sectors }))
 
@@ -55,7 +56,7 @@ day_before trip number = if number == 1 then trip.sale else (sector trip (number
 -- what holds of every trip that was made
 pub record IsTrip (trip : Itinerary) : Type 0 where
   pub some : 1 ≤ count trip
-  pub at_most : count trip ≤ 16
+  pub at_most : count trip ≤ MOST_SECTORS
   pub points_differ : (number : ℕ) → 1 ≤ number → number ≤ count trip → point trip (number - 1) ≢ point trip number
   pub days_never_fall : (number : ℕ) → 1 ≤ number → number ≤ count trip
       → day_number (day_before trip number) ≤ day_number (sector trip number).day

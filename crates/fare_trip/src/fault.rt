@@ -40,7 +40,7 @@ pub enum TripFault {
     Bad(Member, u32),
     /// There is no sector.
     NoSectors,
-    /// There are this many sectors, which is more than 16.
+    /// There are this many sectors, which is more than `MOST_SECTORS`.
     TooMany(u32),
     /// The sector ends in the city where it begins.
     SameCity(u32),

@@ -13,7 +13,7 @@ use crate::place::Place;
 use crate::sector::Sector;
 use crate::trip::{Trip, carried};
 use arrayvec::ArrayVec;
-use fare_codes::{City, Day};
+use fare_codes::{City, Day, MOST_SECTORS};
 use fare_outside::NoMemory;
 use serde_json::Value;
 use std::alloc::Global;
@@ -60,8 +60,12 @@ fn sector_at(place: &Place, total: u32, value: &Value) -> Result<Sector, TripFau
 }
 
 /// The sectors of the values, in turn.
-fn sectors_in(sale: Day, from: City, values: &[Value]) -> Result<ArrayVec<Sector, 16>, TripFault>
-    requires { length values.now ≤ 16 }
+fn sectors_in(
+    sale: Day,
+    from: City,
+    values: &[Value],
+) -> Result<ArrayVec<Sector, MOST_SECTORS>, TripFault>
+    requires { length values.now ≤ MOST_SECTORS }
     ensures { seen (λ sectors. sectors.items) result
         ≡ sectors_of (length values.now) 1 from sale false (items_view values.now) }
 {
@@ -80,10 +84,10 @@ fn sectors_in(sale: Day, from: City, values: &[Value]) -> Result<ArrayVec<Sector
     Ok(sectors)
 }
 
-/// The trip of 1 to 16 values.
+/// The trip of 1 to `MOST_SECTORS` values.
 #[tactic(auto, using(crate::proofs::JsonLemmas::counted), unfolding(crate::specs::ItineraryText::placed_trip))]
 fn placed_trip(sale: Day, from: City, values: &[Value]) -> Result<Trip, TripFault>
-    requires { length values.now ≤ 16 }
+    requires { length values.now ≤ MOST_SECTORS }
     ensures { result ≡ placed_trip sale from (items_view values.now) }
 {
     match sectors_in(sale, from, values) {
@@ -100,7 +104,7 @@ fn counted_trip(sale: Day, from: City, values: &[Value]) -> Result<Trip, TripFau
     if values.is_empty() {
         return Err(TripFault::NoSectors);
     }
-    if values.len() > 16 {
+    if values.len() > MOST_SECTORS {
         return Err(TripFault::TooMany(carried(values.len())));
     }
     placed_trip(sale, from, values)

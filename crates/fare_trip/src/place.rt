@@ -5,7 +5,7 @@ ghost use Rattle.fare_trip.specs.Trip.{sector_fault, sectors_fault};
 
 use crate::fault::TripFault;
 use crate::sector::Sector;
-use fare_codes::{City, Day};
+use fare_codes::{City, Day, MOST_SECTORS};
 
 /// What stands before a sector: its number, the city and day that the way has reached, and whether by a surface sector.
 #[derive(Clone, Copy)]
@@ -31,7 +31,7 @@ impl Place {
 
     /// The place behind a sector.
     pub(crate) fn after(&self, sector: &Sector) -> Place
-        requires { self.now.number ≤ 16 }
+        requires { self.now.number ≤ MOST_SECTORS }
         ensures { result ≡ record {
           number = self.now.number + 1;
           city = sector.now.to;
@@ -74,7 +74,7 @@ impl Place {
 
 /// The first fault of the sectors of a trip, in turn.
 pub(crate) fn first_fault(sale: Day, from: City, sectors: &[Sector]) -> Option<TripFault>
-    requires { length sectors.now ≤ 16 }
+    requires { length sectors.now ≤ MOST_SECTORS }
     ensures { result ≡ sectors_fault (length sectors.now) 1 from sale false sectors.now }
 {
     let total = sectors.len() as u32;

@@ -6,16 +6,16 @@ use crate::fault::TripFault;
 use crate::place::first_fault;
 use crate::sector::Sector;
 use arrayvec::ArrayVec;
-use fare_codes::{City, Day};
+use fare_codes::{City, Day, MOST_SECTORS};
 use std::marker::Model;
 
-/// An itinerary: a sale day, a first city and 1 to 16 sectors. Neighbouring points differ, days don't fall from the
-/// sale day on, and neither the first nor the last sector is a surface sector, nor are two neighbouring ones.
+/// An itinerary: a sale day, a first city and 1 to `MOST_SECTORS` sectors. Neighbouring points differ, days don't fall
+/// from the sale day on, and neither the first nor the last sector is a surface sector, nor are two neighbouring ones.
 #[derive(Drop)]
 pub struct Trip {
     sale: Day,
     from: City,
-    sectors: ArrayVec<Sector, 16>,
+    sectors: ArrayVec<Sector, MOST_SECTORS>,
 }
 
 impl Model for Trip {
@@ -33,8 +33,8 @@ impl Model for Trip {
 }
 
 impl Trip {
-    /// The trip of a sale day, a first city and sectors, or its first fault: no sector, more than 16, or sector by
-    /// sector one that ends where it begins, a day that falls, and a surface sector out of place.
+    /// The trip of a sale day, a first city and sectors, or its first fault: no sector, more than `MOST_SECTORS`,
+    /// or sector by sector one that ends where it begins, a day that falls, and a surface sector out of place.
     #[tactic(auto, unfolding(crate::specs::Trip::make_trip))]
     pub fn new(sale: Day, from: City, sectors: &[Sector]) -> Result<Trip, TripFault>
         ensures { result ≡ make_trip sale from sectors.now }
@@ -42,7 +42,7 @@ impl Trip {
         if sectors.is_empty() {
             return Err(TripFault::NoSectors);
         }
-        if sectors.len() > 16 {
+        if sectors.len() > MOST_SECTORS {
             return Err(TripFault::TooMany(carried(sectors.len())));
         }
         if let Some(fault) = first_fault(sale, from, sectors) {
@@ -57,8 +57,8 @@ impl Trip {
         })
     }
 
-    /// What holds of every trip: it has 1 to 16 sectors, neighbouring points differ, days don't fall from the sale day
-    /// on, and neither the first nor the last sector is a surface sector, nor are two neighbouring ones.
+    /// What holds of every trip: it has 1 to `MOST_SECTORS` sectors, neighbouring points differ, days don't fall from
+    /// the sale day on, and neither the first nor the last sector is a surface sector, nor are two neighbouring ones.
     pub fn law(&self)
         ensures ordered { IsTrip self.now }
         ensures makes { make_trip self.now.sale self.now.from self.now.sectors ≡ Ok self.now }
@@ -80,11 +80,11 @@ impl Trip {
         self.from
     }
 
-    /// How many sectors it has: 1 to 16.
+    /// How many sectors it has: 1 to `MOST_SECTORS`.
     pub fn count(&self) -> usize
         ensures value { result ≡ count self.now }
         ensures some { 1 ≤ result }
-        ensures at_most { result ≤ 16 }
+        ensures at_most { result ≤ MOST_SECTORS }
     {
         self.sectors.len()
     }

@@ -14,6 +14,8 @@ use Rattle.fare_rules.specs.Lawful.{breaks, fails, holds_gap, is_twisted, is_mis
 use Rattle.fare_rules.proofs.NumberLemmas.{find_none}
 use Rattle.fare_rules.proofs.AmountLemmas.{MayBeUsed}
 use Rattle.fare_rules.proofs.RuleLemmas.{usable_from_amount, find_nothing}
+use Rattle.fare_rules.specs.declared.rule.Rule.TheVariants as rule
+use Rattle.fare_rules.specs.Rule.{number_of}
 use Rattle.fare_units.specs.Breaks.{breaks_from, is_unpriced}
 use Rattle.fare_units.specs.Tests.{fare_passes, part_breaks}
 use Rattle.fare_units.specs.declared.rules.part_rules.FareRule.{FareRule}
@@ -53,7 +55,7 @@ module _ (tariff : Tariff) (trip : Itinerary) (parts : List Part) (filed : unfil
   nowhere test h = find_nothing test 1 (length parts + 1) (λ k low high. h k low (omega arith))
 
   -- the first rule that is broken from Distinct on is the first from Stay on
-  pub stay_is_next : first_given (breaks_from 18 tariff trip parts) ≡ first_given (breaks_from 8 tariff trip parts)
+  pub stay_is_next : first_given (breaks_from (number_of rule.Stay) tariff trip parts) ≡ first_given (breaks_from (number_of rule.Distinct) tariff trip parts)
   unfolding breaks
   stay_is_next =
       let distinct : find (is_twisted trip parts) (places parts) ≡ None = nowhere (is_twisted trip parts) (λ k low high. (usable k low high).distinct) in

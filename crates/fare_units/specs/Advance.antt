@@ -4,6 +4,8 @@ use Rattle.std.specs.Result.{ForErr}
 use Rattle.fare_trip.specs.Itinerary.{Itinerary, count}
 use Rattle.fare_tariff.specs.Tariff.{Tariff}
 use Rattle.fare_rules.specs.declared.part.Part.{Part}
+use Rattle.fare_rules.specs.declared.rule.Rule.TheVariants.{Record}
+use Rattle.fare_rules.specs.Rule.{number_of}
 use Rattle.fare_rules.specs.Construction.{start_of, end_of}
 use Rattle.fare_rules.specs.Lawful.{lawful_price}
 
@@ -19,4 +21,4 @@ pub record Advances (trip : Itinerary) (parts : List Part) : Type 0 where
 -- a list of parts meets the first three rules, Cover, Numbering and Record: the first rule that it breaks, if any, is a
 -- later one
 abbrev pub MeetsFirstThree : Tariff → Itinerary → List Part → Type 0
-MeetsFirstThree tariff trip parts = ForErr (lawful_price tariff trip parts) (λ broken. 3 < broken.rule)
+MeetsFirstThree tariff trip parts = ForErr (lawful_price tariff trip parts) (λ broken. number_of Record < broken.rule)

@@ -1,10 +1,11 @@
 ghost use Rattle.std.specs.Prelude.{◌≡◌, ◌≤◌, ◌<◌, ◌++◌, ◌∷◌, [], ◌↔◌, List, IsOk, IfErr, OnOk, OnErr, length, take};
 
+use fare_codes::MOST_SECTORS;
 use fare_rules::Part;
 use std::marker::Model;
 
 /// How many parts a construction holds at most: one for each sector of a trip.
-pub const MOST_PARTS: usize = 16;
+pub const MOST_PARTS: usize = MOST_SECTORS;
 
 /// What stands in the room that no part takes.
 const BLANK: Part = Part {

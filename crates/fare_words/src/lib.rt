@@ -2,7 +2,8 @@
 //!
 //! - `command`: the eleven commands, with what their options hold; `store_name`: the name of a store; `asked`: what is
 //!   asked of a trip;
-//! - `limits`: how great each number may be, and what stands for an option that is left out;
+//! - `limits`: how great a port and a count may be, and what stands for an option that is left out; the limits that
+//!   others share stand in `fare_codes` and `fare_outside`;
 //! - `name`: the command that the first word names;
 //! - `definitions`: each command's definition in `clap`;
 //! - `parsing`: what a definition finds in words; `options`: the options and flags in them, with the texts of their

@@ -1,21 +1,19 @@
 //! Each option by its own name.
 
 ghost use Rattle.std.specs.Prelude.{◌≡◌, IfSome};
-ghost use Rattle.fare_words.specs.Limits.{IsBetween, most_best, most_count, most_edition, most_extra, most_port};
-ghost use Rattle.fare_words.specs.Limits.{most_round, most_sectors, most_seed, most_workers};
+ghost use Rattle.fare_words.specs.Limits.{IsBetween};
 ghost use Rattle.fare_words.specs.Values.{asked_by, asked_in, best_in, count_in, edition_in, extra_in, from_in};
 ghost use Rattle.fare_words.specs.Values.{json_in};
 ghost use Rattle.fare_words.specs.Values.{port_in, round_in, sectors_in, seed_in, store_in, to_in, workers_in};
 ghost use Rattle.fare_words.specs.WithinLimits.{IsFew};
 
 use crate::asked::Asked;
-use crate::limits::{
-    DEFAULT_EXTRA, DEFAULT_ROUND, DEFAULT_WORKERS, MOST_BEST, MOST_COUNT, MOST_EDITION, MOST_EXTRA,
-    MOST_PORT, MOST_ROUND, MOST_SECTORS, MOST_SEED, MOST_WORKERS,
-};
+use crate::limits::{DEFAULT_EXTRA, DEFAULT_ROUND, DEFAULT_WORKERS, MOST_COUNT, MOST_PORT};
 use crate::numbers::number_between;
 use crate::options::Options;
 use crate::store_name::StoreName;
+use fare_codes::{LAST_EDITION, LAST_SEED, MOST_BEST, MOST_EXTRA, MOST_SECTORS, MOST_WORKERS};
+use fare_outside::MOST_HELD;
 
 /// The store.
 #[tactic(auto, unfolding(crate::specs::Values::store_in))]
@@ -32,7 +30,7 @@ pub(crate) fn store<'a>(options: &Options<'a>) -> Option<StoreName<'a>>
 #[tactic(auto, unfolding(crate::specs::Values::workers_in))]
 pub(crate) fn workers(options: &Options<'_>) -> Option<u32>
     ensures value { result ≡ workers_in options.now }
-    ensures limits { IfSome result (IsBetween 1 most_workers) }
+    ensures limits { IfSome result (IsBetween 1 MOST_WORKERS) }
 {
     options.number_or("workers", 1, MOST_WORKERS, DEFAULT_WORKERS)
 }
@@ -41,10 +39,10 @@ pub(crate) fn workers(options: &Options<'_>) -> Option<u32>
 #[tactic(auto, unfolding(crate::specs::Values::best_in))]
 fn best(options: &Options<'_>) -> Option<Option<u32>>
     ensures value { result ≡ best_in options.now }
-    ensures limits { IfSome result (λ asked. IfSome asked (IsBetween 1 most_best)) }
+    ensures limits { IfSome result (λ asked. IfSome asked (IsBetween 1 MOST_BEST)) }
 {
     match options.text("best") {
-        Some(text) => number_between(text, 1, MOST_BEST).map(Some),
+        Some(text) => number_between(text, 1, MOST_BEST as u32).map(Some),
         None => Some(None),
     }
 }
@@ -62,7 +60,7 @@ pub(crate) fn asked(options: &Options<'_>) -> Option<Asked>
 /// What the flag and the number ask of a trip.
 #[tactic(auto, unfolding(crate::specs::Values::asked_by, crate::specs::WithinLimits::IsFew))]
 fn asked_by(why: bool, best: Option<u32>) -> Option<Asked>
-    requires { IfSome best (IsBetween 1 most_best) }
+    requires { IfSome best (IsBetween 1 MOST_BEST) }
     ensures value { result ≡ asked_by why best }
     ensures limits { IfSome result IsFew }
 {
@@ -86,34 +84,34 @@ pub(crate) fn json(options: &Options<'_>) -> bool
 #[tactic(auto, unfolding(crate::specs::Values::edition_in))]
 pub(crate) fn edition(options: &Options<'_>) -> Option<u32>
     ensures value { result ≡ edition_in options.now }
-    ensures limits { IfSome result (IsBetween 1 most_edition) }
+    ensures limits { IfSome result (IsBetween 1 LAST_EDITION) }
 {
-    options.number("edition", 1, MOST_EDITION)
+    options.number("edition", 1, LAST_EDITION)
 }
 
 /// The number of the edition from which two are compared.
 #[tactic(auto, unfolding(crate::specs::Values::from_in))]
 pub(crate) fn from(options: &Options<'_>) -> Option<u32>
     ensures value { result ≡ from_in options.now }
-    ensures limits { IfSome result (IsBetween 1 most_edition) }
+    ensures limits { IfSome result (IsBetween 1 LAST_EDITION) }
 {
-    options.number("from", 1, MOST_EDITION)
+    options.number("from", 1, LAST_EDITION)
 }
 
 /// The number of the edition with which it is compared.
 #[tactic(auto, unfolding(crate::specs::Values::to_in))]
 pub(crate) fn to(options: &Options<'_>) -> Option<u32>
     ensures value { result ≡ to_in options.now }
-    ensures limits { IfSome result (IsBetween 1 most_edition) }
+    ensures limits { IfSome result (IsBetween 1 LAST_EDITION) }
 {
-    options.number("to", 1, MOST_EDITION)
+    options.number("to", 1, LAST_EDITION)
 }
 
 /// The port on which connections come in.
 #[tactic(auto, unfolding(crate::specs::Values::port_in))]
 pub(crate) fn port(options: &Options<'_>) -> Option<u16>
     ensures value { result ≡ port_in options.now }
-    ensures limits { IfSome result (IsBetween 1 most_port) }
+    ensures limits { IfSome result (IsBetween 1 MOST_PORT) }
 {
     let number = options.number("port", 1, MOST_PORT)?;
     Some(number as u16)
@@ -123,7 +121,7 @@ pub(crate) fn port(options: &Options<'_>) -> Option<u16>
 #[tactic(auto, unfolding(crate::specs::Values::count_in))]
 pub(crate) fn count(options: &Options<'_>) -> Option<u32>
     ensures value { result ≡ count_in options.now }
-    ensures limits { IfSome result (IsBetween 1 most_count) }
+    ensures limits { IfSome result (IsBetween 1 MOST_COUNT) }
 {
     options.number("count", 1, MOST_COUNT)
 }
@@ -132,34 +130,34 @@ pub(crate) fn count(options: &Options<'_>) -> Option<u32>
 #[tactic(auto, unfolding(crate::specs::Values::round_in))]
 pub(crate) fn round(options: &Options<'_>) -> Option<u32>
     ensures value { result ≡ round_in options.now }
-    ensures limits { IfSome result (IsBetween 1 most_round) }
+    ensures limits { IfSome result (IsBetween 1 MOST_HELD) }
 {
-    options.number_or("round", 1, MOST_ROUND, DEFAULT_ROUND)
+    options.number_or("round", 1, MOST_HELD as u32, DEFAULT_ROUND)
 }
 
 /// The seed of a drill.
 #[tactic(auto, unfolding(crate::specs::Values::seed_in))]
 pub(crate) fn seed(options: &Options<'_>) -> Option<u32>
     ensures value { result ≡ seed_in options.now }
-    ensures limits { IfSome result (IsBetween 0 most_seed) }
+    ensures limits { IfSome result (IsBetween 0 LAST_SEED) }
 {
-    options.number("seed", 0, MOST_SEED)
+    options.number("seed", 0, LAST_SEED)
 }
 
 /// How many sectors a drill has.
 #[tactic(auto, unfolding(crate::specs::Values::sectors_in))]
 pub(crate) fn sectors(options: &Options<'_>) -> Option<u32>
     ensures value { result ≡ sectors_in options.now }
-    ensures limits { IfSome result (IsBetween 1 most_sectors) }
+    ensures limits { IfSome result (IsBetween 1 MOST_SECTORS) }
 {
-    options.number("sectors", 1, MOST_SECTORS)
+    options.number("sectors", 1, MOST_SECTORS as u32)
 }
 
 /// How many extra records a drill has.
 #[tactic(auto, unfolding(crate::specs::Values::extra_in))]
 pub(crate) fn extra(options: &Options<'_>) -> Option<u32>
     ensures value { result ≡ extra_in options.now }
-    ensures limits { IfSome result (IsBetween 0 most_extra) }
+    ensures limits { IfSome result (IsBetween 0 MOST_EXTRA) }
 {
     options.number_or("extra", 0, MOST_EXTRA, DEFAULT_EXTRA)
 }

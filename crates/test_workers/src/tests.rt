@@ -4,16 +4,15 @@ mod cases;
 mod lonely_rules;
 
 ghost use Rattle.std.specs.Prelude.{◌≤◌};
-ghost use Rattle.fare_drill.specs.declared.limits.TheConstants.{LAST_SEED};
-ghost use Rattle.fare_split.specs.declared.pieces.TheConstants.{MOST_WORKERS};
 
 use cases::{CASES, Case, IN_ONE_COUNTRY, Input};
 use fare_branch::BranchQuoter;
+use fare_codes::{LAST_SEED, MOST_WORKERS};
 use fare_csv::read_edition;
 use fare_drill::drill_input;
 use fare_outside::OpenGate;
 use fare_rules::Part;
-use fare_split::{MOST_WORKERS, SplitQuoter};
+use fare_split::SplitQuoter;
 use fare_tariff::Edition;
 use fare_trip::{Trip, read_trip};
 use fare_units::{Construction, PlainQuoter, Quoter};

@@ -10,7 +10,7 @@ use crate::keeping::keep;
 use crate::part_sheet::PartSheet;
 use crate::sheets::Sheets;
 use arrayvec::ArrayVec;
-use fare_codes::{City, Nuc};
+use fare_codes::{City, MOST_SECTORS, Nuc};
 use fare_line::{Letter, LinePart};
 use fare_mileage::Mileage;
 
@@ -64,7 +64,7 @@ fn line_part(sheet: &PartSheet) -> LinePart
 }
 
 /// The parts of the line of a lawful construction.
-pub(crate) fn line_parts(sheets: &Sheets<'_>) -> ArrayVec<LinePart, 16>
+pub(crate) fn line_parts(sheets: &Sheets<'_>) -> ArrayVec<LinePart, MOST_SECTORS>
     ensures parts { result.items
         ≡ map line_part (part_sheets sheets.now.edition sheets.now.trip sheets.now.parts) }
     ensures form { are_parts 0 (length (flown_from sheets.now.trip 1)) result.items ≡ true }

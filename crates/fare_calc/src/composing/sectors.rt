@@ -9,6 +9,7 @@ ghost use Rattle.fare_calc.specs.LineOf.{flown_from, flown_of, flown_sector};
 use crate::composing::forms::{carrier_has_form, city_has_form};
 use crate::keeping::keep;
 use arrayvec::ArrayVec;
+use fare_codes::MOST_SECTORS;
 use fare_line::LineSector;
 use fare_trip::Trip;
 
@@ -51,7 +52,7 @@ fn flown_of(trip: &Trip, number: usize) -> Option<LineSector>
 }
 
 /// The flown sectors of a trip.
-pub(crate) fn flown_sectors(trip: &Trip) -> ArrayVec<LineSector, 16>
+pub(crate) fn flown_sectors(trip: &Trip) -> ArrayVec<LineSector, MOST_SECTORS>
     ensures sectors { result.items ≡ flown_from trip.now 1 }
     ensures form { list_all is_flown result.items ≡ true }
 {

@@ -10,6 +10,7 @@ use crate::keeping::keep;
 use crate::numbered_unit::NumberedUnit;
 use crate::sheets::Sheets;
 use arrayvec::ArrayVec;
+use fare_codes::MOST_SECTORS;
 use fare_line::PlusUp;
 
 /// The plus-up of a unit.
@@ -30,11 +31,11 @@ fn plus_up_of(unit: &NumberedUnit) -> Option<PlusUp>
 }
 
 /// The plus-ups of the units of a lawful construction.
-pub(crate) fn plus_ups(sheets: &Sheets<'_>) -> ArrayVec<PlusUp, 16>
+pub(crate) fn plus_ups(sheets: &Sheets<'_>) -> ArrayVec<PlusUp, MOST_SECTORS>
     ensures plus { result.items
         ≡ filter_map plus_up_of (unit_sheets sheets.now.edition sheets.now.trip sheets.now.parts) }
     ensures form { list_all is_plus result.items ≡ true }
-    ensures few { length result.items ≤ 16 }
+    ensures few { length result.items ≤ MOST_SECTORS }
 {
     let mut plus = ArrayVec::new();
     for unit in sheets.units() {

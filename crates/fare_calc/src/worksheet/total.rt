@@ -9,8 +9,9 @@ ghost use Rattle.fare_calc.specs.Worksheet.{currency_lines, local_text, total_li
 
 use crate::home::local_amount;
 use crate::sheets::Sheets;
-use fare_codes::rate_text;
+use fare_codes::{MOST_DECIMALS, rate_text};
 use fare_outside::NoMemory;
+use fare_rules::PRICE_LIMIT;
 use fare_tariff::CurRec;
 use fare_text::{push_code, push_decimal, push_hundredths, push_whole};
 
@@ -25,7 +26,7 @@ pub(crate) fn push_total(text: &mut Vec<u8>, sheets: &Sheets<'_>) -> Result<(), 
 
 /// Appends the lines of a price in hundredths of a NUC, with what it is in a currency.
 fn push_price(text: &mut Vec<u8>, price: u64, currency: &CurRec) -> Result<(), NoMemory>
-    requires price { price < 40_000_000_000 }
+    requires price { price < PRICE_LIMIT }
     requires currency { IsCurrency currency.now.roe currency.now.decimals currency.now.unit }
     ensures { OnOk result (text.new.items ≡ text.old.items ++ total_lines price (Some currency.now)) }
 {
@@ -38,7 +39,7 @@ fn push_price(text: &mut Vec<u8>, price: u64, currency: &CurRec) -> Result<(), N
 /// Appends the rate of exchange of a currency, and a price converted to it.
 #[tactic(auto, unfolding(crate::specs::Worksheet::currency_lines))]
 fn push_currency(text: &mut Vec<u8>, price: u64, currency: &CurRec) -> Result<(), NoMemory>
-    requires price { price < 40_000_000_000 }
+    requires price { price < PRICE_LIMIT }
     requires currency { IsCurrency currency.now.roe currency.now.decimals currency.now.unit }
     ensures { OnOk result (text.new.items ≡ text.old.items ++ currency_lines price currency.now) }
 {
@@ -54,7 +55,7 @@ fn push_currency(text: &mut Vec<u8>, price: u64, currency: &CurRec) -> Result<()
 
 /// Appends a local amount with its decimals; without decimals it has no point.
 fn push_local(text: &mut Vec<u8>, decimals: u8, amount: u128) -> Result<(), NoMemory>
-    requires { decimals ≤ 2 }
+    requires { decimals ≤ MOST_DECIMALS }
     ensures { OnOk result (text.new.items ≡ text.old.items ++ local_text decimals amount) }
 {
     match decimals {

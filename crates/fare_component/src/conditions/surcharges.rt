@@ -8,10 +8,9 @@ ghost use Rattle.fare_rules.specs.Mileage.{surcharge_of};
 
 use crate::conditions::terms::is_allowed;
 use crate::table::Priced;
-use fare_codes::Indicator;
+use fare_codes::{Indicator, MOST_SURCHARGE};
 use fare_mileage::{Mileage, mileage, mileage_by};
 use fare_points::indicator;
-use fare_rules::MOST_SURCHARGE;
 use fare_tariff::{Edition, FareRec};
 use fare_trip::Trip;
 

@@ -9,8 +9,7 @@ ghost use Rattle.fare_component.specs.Spans.{IsSpan};
 
 use crate::conditions::{greatest_rank, one_carrier, stopovers, transfers};
 use crate::table::priced::Priced;
-use fare_codes::{Carrier, Indicator};
-use fare_rules::MOST_SURCHARGE;
+use fare_codes::{Carrier, Indicator, MOST_SURCHARGE};
 
 /// What a span, from a point to another, asks of a fare: its indicator, the surcharge of its mileage, its stopovers and
 /// transfers, the greatest rank of its cabins, and the carrier of all its sectors, where they have one.

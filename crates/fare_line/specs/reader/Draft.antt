@@ -1,9 +1,10 @@
 -- A line as far as its text is read, piece by piece.
-use Rattle.std.specs.Prelude.{◌≡◌, ◌<◌, ◌≤◌, ℕ, zero, suc, ◌+◌, Bool, true, List, [], ◌∷◌, ◌++◌, length, Option, Some}
-use Rattle.std.specs.Prelude.{None, is_some, is_none, Result, Ok, Err, ◌==◌, ◌||◌, nat_lt, if◌then◌else◌}
+use Rattle.std.specs.Prelude.{◌≡◌, ◌<◌, ◌≤◌, ℕ, zero, suc, ◌+◌, ◌-◌, Bool, true, List, [], ◌∷◌, ◌++◌, length, Option}
+use Rattle.std.specs.Prelude.{Some, None, is_some, is_none, Result, Ok, Err, ◌==◌, ◌||◌, nat_lt, if◌then◌else◌}
 use Rattle.std.specs.List.{list_all}
 use Rattle.fare_codes.specs.Codes.{is_city}
 use Rattle.fare_codes.specs.declared.city.City.{City}
+use Rattle.fare_codes.specs.declared.limits.TheConstants.{MOST_SECTORS}
 use Rattle.fare_line.specs.declared.line.sector.LineSector.{LineSector}
 use Rattle.fare_line.specs.declared.line.part.LinePart.{LinePart}
 use Rattle.fare_line.specs.declared.line.plus_up.PlusUp.{PlusUp}
@@ -59,19 +60,19 @@ pub record IsDraft (d : DraftLine) : Type 0 where
   pub led : leads_without_gap d.parts ≡ true
   pub gap : is_gap d.gap ≡ true
   pub behind_part : is_some d.gap ≡ true → 0 < length d.parts
-  pub gap_room : is_some d.gap ≡ true → d.begun + 2 ≤ 16
+  pub gap_room : is_some d.gap ≡ true → d.begun + 2 ≤ MOST_SECTORS
   pub pending : list_all is_flown d.pending ≡ true
-  pub room : count d ≤ 16
+  pub room : count d ≤ MOST_SECTORS
   pub plus : list_all is_plus d.plus ≡ true
-  pub plus_room : length d.plus ≤ 16
+  pub plus_room : length d.plus ≤ MOST_SECTORS
   pub plus_behind : 0 < length d.plus → IsBetween d
 
 -- which pieces may come next
 abbrev pub Allowed : DraftLine → Piece → Type 0
-Allowed d (Sector sector) = (is_flown sector ≡ true) × (count d < 16) × (length d.plus ≡ 0)
+Allowed d (Sector sector) = (is_flown sector ≡ true) × (count d < MOST_SECTORS) × (length d.plus ≡ 0)
 Allowed d (Part part) = (is_priced part ≡ true) × (0 < length d.pending) × (part.end ≡ count d) × (part.gap ≡ d.gap)
-Allowed d (Gap city) = (is_city city ≡ true) × IsBetween d × (count d < 15) × (length d.plus ≡ 0)
-Allowed d (Plus plus) = (is_plus plus ≡ true) × IsBetween d × (length d.plus < 16)
+Allowed d (Gap city) = (is_city city ≡ true) × IsBetween d × (count d < MOST_SECTORS - 1) × (length d.plus ≡ 0)
+Allowed d (Plus plus) = (is_plus plus ≡ true) × IsBetween d × (length d.plus < MOST_SECTORS)
 Allowed d (End totals) = (is_amount totals.total ≡ true) × (is_rate totals.roe ≡ true) × IsBetween d
 
 -- the line with a piece more
@@ -116,11 +117,13 @@ end_piece bytes = totals_at bytes >>= λ x. Ok (End x.0, x.1)
 
 -- behind a sector stands another one, where there is room, or the price of the part
 unfoldable pub within_at : DraftLine → List ℕ → Result (Piece × List ℕ) ℕ
-within_at d bytes = if nat_lt (count d) 16 then either (sector_piece bytes) (part_piece d bytes) else part_piece d bytes
+within_at d bytes =
+    if nat_lt (count d) MOST_SECTORS then either (sector_piece bytes) (part_piece d bytes) else part_piece d bytes
 
 -- behind the parts stands a plus-up, where there is room, or the end
 unfoldable pub closing_at : DraftLine → List ℕ → Result (Piece × List ℕ) ℕ
-closing_at d bytes = if nat_lt (length d.plus) 16 then either (plus_piece bytes) (end_piece bytes) else end_piece bytes
+closing_at d bytes =
+    if nat_lt (length d.plus) MOST_SECTORS then either (plus_piece bytes) (end_piece bytes) else end_piece bytes
 
 -- a further part begins with a sector, or with a gap, where there is room for a sector behind it
 unfoldable pub further_at : List ℕ → Result (Piece × List ℕ) ℕ
@@ -129,8 +132,9 @@ further_at bytes = either (sector_piece bytes) (gap_piece bytes)
 -- behind a part stands a further part, where there is room, a plus-up or the end
 unfoldable pub between_at : DraftLine → List ℕ → Result (Piece × List ℕ) ℕ
 between_at d bytes =
-    if nat_lt (count d) 15 then either (further_at bytes) (closing_at d bytes)
-    else (if nat_lt (count d) 16 then either (sector_piece bytes) (closing_at d bytes) else closing_at d bytes)
+    if nat_lt (count d) (MOST_SECTORS - 1) then either (further_at bytes) (closing_at d bytes)
+    else (if nat_lt (count d) MOST_SECTORS then either (sector_piece bytes) (closing_at d bytes)
+    else closing_at d bytes)
 
 -- the piece that stands next
 unfoldable pub piece_at : DraftLine → List ℕ → Result (Piece × List ℕ) ℕ

@@ -1,7 +1,7 @@
 ghost use Rattle.std.specs.Prelude.{◌≡◌, ◌<◌, [], ◌∷◌, ◌++◌, length};
 
 use arrayvec::ArrayVec;
-use fare_codes::{Cabin, Carrier, City, Kind, RuleId};
+use fare_codes::{Cabin, Carrier, City, Kind, MOST_SECTORS, RuleId};
 
 /// The letter of a part: how its amount was found from the mileage.
 #[derive(Clone, Copy, Debug, PartialEq, Eq)]
@@ -31,7 +31,7 @@ pub struct LinePart {
     pub kind: Kind,
     /// The fare's rule; nothing is the free rule.
     pub rule: Option<RuleId>,
-    /// The unit, 1 to 16.
+    /// The unit, 1 to `MOST_SECTORS`.
     pub unit: u8,
     /// The city to which the surface sector before the part leads, where there is one.
     pub gap: Option<City>,
@@ -39,8 +39,8 @@ pub struct LinePart {
 
 impl LinePart {
     /// Adds the part to others.
-    pub(crate) fn push_to(self, parts: &mut ArrayVec<LinePart, 16>)
-        requires { length parts.old.items < 16 }
+    pub(crate) fn push_to(self, parts: &mut ArrayVec<LinePart, MOST_SECTORS>)
+        requires { length parts.old.items < MOST_SECTORS }
         ensures { parts.new.items ≡ parts.old.items ++ self ∷ [] }
     {
         let _fits = parts.try_extend_from_slice(&[self]);

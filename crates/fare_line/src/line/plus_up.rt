@@ -1,7 +1,7 @@
 /// What the price of a unit has on top of the sum of its amounts.
 #[derive(Clone, Copy, Debug)]
 pub struct PlusUp {
-    /// The unit, 1 to 16.
+    /// The unit, 1 to `MOST_SECTORS`.
     pub unit: u8,
     /// The difference in hundredths of a NUC, at most nine digits before the point.
     pub amount: u64,

@@ -10,19 +10,19 @@ use crate::line::plus_up::PlusUp;
 use crate::line::sector::LineSector;
 use crate::reading::pieces::{Piece, Totals};
 use arrayvec::ArrayVec;
-use fare_codes::City;
+use fare_codes::{City, MOST_SECTORS};
 use std::marker::Model;
 
 /// A line as far as its pieces are there.
 #[derive(Drop)]
 pub(crate) struct Draft {
     from: City,
-    sectors: ArrayVec<LineSector, 16>,
+    sectors: ArrayVec<LineSector, MOST_SECTORS>,
     closed: usize,
-    parts: ArrayVec<LinePart, 16>,
+    parts: ArrayVec<LinePart, MOST_SECTORS>,
     begun: u8,
     gap: Option<City>,
-    plus: ArrayVec<PlusUp, 16>,
+    plus: ArrayVec<PlusUp, MOST_SECTORS>,
 }
 
 impl Model for Draft {
@@ -73,7 +73,7 @@ impl Draft {
     /// How many sectors are there, gaps counted.
     pub(crate) fn count(&self) -> u8
         ensures value { result ≡ count self.now }
-        ensures few { result ≤ 16 }
+        ensures few { result ≤ MOST_SECTORS }
     {
         let gaps = if self.gap.is_some() { 1 } else { 0 };
         self.begun + gaps + (self.sectors.len() - self.closed) as u8

@@ -1,6 +1,6 @@
 //! The piece that stands next behind the pieces of a draft.
 
-ghost use Rattle.std.specs.Prelude.{nat_lt, if◌then◌else◌};
+ghost use Rattle.std.specs.Prelude.{◌-◌, nat_lt, if◌then◌else◌};
 ghost use Rattle.fare_line.specs.reader.Reading.{Gives};
 ghost use Rattle.fare_line.specs.reader.Draft.{between_at, closing_at, count, end_piece, further_at, gap_piece};
 ghost use Rattle.fare_line.specs.reader.Draft.{part_piece, piece_at, plus_piece, sector_piece, within_at};
@@ -9,6 +9,7 @@ use crate::line::Line;
 use crate::reading::cursor::Cursor;
 use crate::reading::draft::Draft;
 use crate::reading::pieces::Piece;
+use fare_codes::MOST_SECTORS;
 
 impl Cursor<'_> {
     /// A sector as a piece.
@@ -56,7 +57,7 @@ impl Cursor<'_> {
     fn within(&mut self, draft: &Draft) -> Result<Piece, usize>
         ensures { Gives result self.new.rest.now (within_at draft.now self.old.rest.now) }
     {
-        if draft.count() >= 16 {
+        if draft.count() as usize >= MOST_SECTORS {
             return self.part_piece(draft);
         }
         self.either(
@@ -70,7 +71,7 @@ impl Cursor<'_> {
     fn closing(&mut self, draft: &Draft) -> Result<Piece, usize>
         ensures { Gives result self.new.rest.now (closing_at draft.now self.old.rest.now) }
     {
-        if draft.plus_count() >= 16 {
+        if draft.plus_count() >= MOST_SECTORS {
             return self.end_piece();
         }
         self.either(|cursor| cursor.plus_piece(), |cursor| cursor.end_piece())
@@ -87,9 +88,10 @@ impl Cursor<'_> {
     /// How a further part begins, with as many sectors as there is room for.
     fn begins(&mut self, draft: &Draft) -> Result<Piece, usize>
         ensures { Gives result self.new.rest.now
-            (if nat_lt (count draft.now) 15 then further_at self.old.rest.now else sector_piece self.old.rest.now) }
+            (if nat_lt (count draft.now) (MOST_SECTORS - 1) then further_at self.old.rest.now
+            else sector_piece self.old.rest.now) }
     {
-        if draft.count() < 15 {
+        if (draft.count() as usize) < MOST_SECTORS - 1 {
             self.further()
         } else {
             self.sector_piece()
@@ -101,7 +103,7 @@ impl Cursor<'_> {
     fn between(&mut self, draft: &Draft) -> Result<Piece, usize>
         ensures { Gives result self.new.rest.now (between_at draft.now self.old.rest.now) }
     {
-        if draft.count() >= 16 {
+        if draft.count() as usize >= MOST_SECTORS {
             return self.closing(draft);
         }
         self.either(

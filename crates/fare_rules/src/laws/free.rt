@@ -10,7 +10,7 @@ ghost use Rattle.fare_rules.specs.ComponentAmount.{is_applicable, in_season};
 ghost use Rattle.fare_rules.specs.UnitRules.{allows_stay_of};
 ghost use Rattle.fare_rules.specs.Free.{is_applicable_freely};
 
-use crate::limits::MOST_SECTORS;
+use fare_codes::MOST_SECTORS;
 
 /// A fare of the whole year is in season on each day.
 pub fn whole_year_holds_each_day()
@@ -18,8 +18,9 @@ pub fn whole_year_holds_each_day()
         → is_month_day (month_day_of (first_day trip a)) ≡ true → in_season trip a fare ≡ true }
 {}
 
-/// The free rule asks nothing: within 16 sectors a fare of it, filed for the whole year, may be used wherever its
-/// cities, indicator, class, carrier and miles fit; it allows any stay, and it is combinable with itself both ways.
+/// The free rule asks nothing: within `MOST_SECTORS` sectors a fare of it, filed for the whole year, may be used
+/// wherever its cities, indicator, class, carrier and miles fit; it allows any stay, and it is combinable with itself
+/// both ways.
 pub fn free_rule_asks_nothing()
     ensures applicable { (tariff : Tariff) (trip : Itinerary) (a b : ℕ) (back : Bool) (fare : FareRecord)
         → fare.rule ≡ None → fare.season ≡ whole_year → b ≤ MOST_SECTORS

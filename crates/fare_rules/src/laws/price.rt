@@ -5,10 +5,11 @@ ghost use Rattle.fare_rules.specs.declared.part.Part.{Part};
 ghost use Rattle.fare_rules.specs.Best.{IsLawful};
 ghost use Rattle.fare_rules.specs.Valid.{HasFaresInForm};
 
-use crate::limits::{MOST_SECTORS, PRICE_LIMIT};
+use crate::limits::PRICE_LIMIT;
+use fare_codes::MOST_SECTORS;
 
 /// Law of prices: the price of a lawful construction is below 400,000,000.00. A component's amount is at most
-/// 12,500,000.00 and a minimum less than 20,000,000.00, and a trip has at most 16 sectors.
+/// 12,500,000.00 and a minimum less than 20,000,000.00, and a trip has at most `MOST_SECTORS` sectors.
 pub fn price_is_bounded()
     ensures { (tariff : Tariff) (trip : Itinerary) (parts : List Part) (price : ℕ) → HasFaresInForm tariff
         → count trip ≤ MOST_SECTORS → IsLawful tariff trip parts price → price < PRICE_LIMIT }

@@ -1,14 +1,17 @@
-//! Whether no record has a kind. The fares of a market are asked one behind the other from the first of them on, so that
-//! they are read together wherever they stand in a text.
+//! Whether no record has a kind. The fares of a market are asked one behind the other from the first of them on, so
+//! that they are read together wherever they stand in a text.
 
-ghost use Rattle.std.specs.Prelude.{◌≡◌, ◌<◌, ℕ, true, false, length, slice_index_or};
+ghost use Rattle.std.specs.Prelude.{◌≡◌, ◌<◌, ◌&&◌, ℕ, true, false, length, slice_index_or, take};
 ghost use Rattle.std.specs.List.{position_from};
-ghost use Rattle.fare_tariff.specs.Faulty.{clash_behind, clashes_from, has_kind_at, IsFree, is_suspect, leads_to_clash};
+ghost use Rattle.fare_tariff.specs.Faulty.{clash_behind, clash_of, clashes_from, has_kind_at, IsFree};
+ghost use Rattle.fare_tariff.specs.Faulty.{is_suspect, leads_to_clash};
+ghost use Rattle.fare_tariff.specs.Seen.{may_clash};
 ghost use Rattle.fare_tariff.specs.Keyed.{has_own_key, own_key};
 
 use crate::check::clash::{clash_at, clash_from};
 use crate::check::names::names_unknown;
 use crate::check::numbers::{has_same_points, is_zero_mileage};
+use crate::check::seen::Seen;
 use crate::filed::Filed;
 use crate::limits::MOST_RECORDS;
 use crate::records::Record;
@@ -16,17 +19,38 @@ use rayon::prelude::*;
 use std::marker::Sync;
 use std::thread::Threads;
 
+/// Whether the record at a place may clash with those that were passed, and clashes with one before it. The first
+/// record with its key is at a place that is known.
+fn clashes_among(
+    filed: &Filed,
+    place: usize,
+    one: &Record,
+    first: Option<usize>,
+    seen: &Seen,
+) -> bool
+    requires at { one.now ≡ slice_index_or filed.now place one.now }
+    requires first { (d : Record) → first
+        ≡ position_from (has_own_key (own_key (slice_index_or filed.now place d))) 0 filed.now }
+    requires long { length seen.now.buckets ≡ 61 }
+    ensures { result ≡ (may_clash seen.now one.now && clash_of (take place filed.now) one.now) }
+{
+    seen.may_clash(one) && clash_from(filed, place, one, first)
+}
+
 /// Whether one of the records with the key of a record clashes with one before it. The first of them is at a place that
-/// is known.
+/// is known. A fare whose bucket is empty has the key of none before it, so that few are compared.
 fn chain_clashes(filed: &Filed, one: &Record, first: Option<usize>) -> bool
     requires { first ≡ position_from (has_own_key (own_key one.now)) 0 filed.now }
     ensures { result ≡ clashes_from filed.now (own_key one.now) 0 filed.now }
 {
+    let mut seen = Seen::new();
     let mut at = first;
     while let Some(place) = at {
-        if clash_from(filed, place, &filed.records()[place], first) {
+        let other = &filed.records()[place];
+        if clashes_among(filed, place, other, first, &seen) {
             return true;
         }
+        seen.note(other);
         at = filed.next(place);
     }
     false

@@ -18,7 +18,7 @@ use fare_index::Key;
 fn is_guessed(filed: &Filed, city: City) -> bool
     ensures { result ≡ true → is_unknown_city filed.now city ≡ false }
 {
-    match filed.guess(city) {
+    match filed.guess(&Key::City(city)) {
         None => false,
         Some(one) => city_in(city, one).is_some(),
     }

@@ -4,8 +4,8 @@ ghost use Rattle.std.specs.Prelude.{◌≡◌, IfSome, option_map};
 ghost use Rattle.std.specs.Option.{option_copied};
 ghost use Rattle.std.specs.List.{list_any};
 ghost use Rattle.fare_tariff.specs.Filed.{AreInRange};
-ghost use Rattle.fare_tariff.specs.Lookup.{first_some, rule_in, rule_record, terms_of, free_terms, terms, lists};
-ghost use Rattle.fare_tariff.specs.Lookup.{lists_in, same_rule, unit_names, end_names, unit_ok, ends_ok};
+ghost use Rattle.fare_tariff.specs.Lookup.{first_some, rule_in, rule_of, rule_record, terms_of, free_terms};
+ghost use Rattle.fare_tariff.specs.Lookup.{terms, lists, lists_in, same_rule, unit_names, end_names, unit_ok, ends_ok};
 
 use crate::edition::Edition;
 use crate::filed::Filed;
@@ -78,15 +78,12 @@ impl Edition {
     }
 }
 
-/// The rule that a record files, where it is this one.
-pub(crate) fn rule_in(id: RuleId, one: &Record) -> Option<&RuleRec>
-    ensures { option_copied result ≡ rule_in id one.now }
+/// The rule that a record files, if any.
+fn rule_of(one: &Record) -> Option<&RuleRec>
+    ensures { option_copied result ≡ rule_of one.now }
 {
     match one {
-        Record::Rule(filed) => {
-            let rule = filed.rule();
-            if rule.id.is(id) { Some(rule) } else { None }
-        }
+        Record::Rule(filed) => Some(filed.rule()),
         _ => None,
     }
 }
@@ -98,7 +95,7 @@ pub(crate) fn rule_record(filed: &Filed, id: RuleId) -> Option<&RuleRec>
 {
     match filed.find(&Key::Rule(id)) {
         None => None,
-        Some(one) => rule_in(id, one),
+        Some(one) => rule_of(one),
     }
 }
 

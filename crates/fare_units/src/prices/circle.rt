@@ -17,9 +17,9 @@ use crate::parts::fares::fare_of;
 use crate::parts::own::{last_of, origin, own};
 use crate::parts::places::{end_of, start_of};
 use arrayvec::ArrayVec;
-use fare_codes::{Nuc, greater};
+use fare_codes::{MOST_SECTORS, Nuc, greater};
 use fare_points::{indicator_of, reference};
-use fare_rules::{MOST_SECTORS, Part};
+use fare_rules::Part;
 use fare_tariff::{Edition, FareRec};
 use fare_trip::Trip;
 

@@ -29,7 +29,7 @@ use fare_tariff::Edition;
 use fare_trip::Trip;
 
 /// What a unit costs at most, in hundredths of a NUC: as much as `MOST_PARTS` parts of the greatest amount.
-pub const MOST_UNIT_PRICE: u64 = 20_000_000_000;
+pub const MOST_UNIT_PRICE: u64 = MOST_PARTS as u64 * MOST_AMOUNT;
 
 /// A component of a trip: a fare for the span from point `a` to point `b`.
 #[derive(Clone, Copy)]

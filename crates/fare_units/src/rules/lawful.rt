@@ -7,6 +7,7 @@ ghost use Rattle.fare_units.specs.Advance.{Advances};
 ghost use Rattle.fare_units.specs.Breaks.{breaks_from, is_unpriced};
 ghost use Rattle.fare_units.specs.Known.{IsOf};
 ghost use Rattle.fare_rules.specs.Lawful.{broken_at, first_broken};
+ghost use Rattle.fare_rules.specs.Rule.{number_of};
 
 use crate::construction::MOST_PARTS;
 use crate::rules::amounts::unpriced;
@@ -16,16 +17,16 @@ use crate::rules::crossing::crossed;
 use crate::rules::part_rules::{FareRule, PartRule, first_part, mispaired};
 use crate::rules::unit_rules::{UnitRule, first_unit};
 use fare_component::Table;
-use fare_rules::{Broken, Part};
+use fare_rules::{Broken, Part, Rule};
 use fare_tariff::Edition;
 use fare_trip::Trip;
 
-/// A rule of a number that is broken at a place.
-fn broken_at(rule: u8, place: u8) -> Broken
-    ensures { result ≡ broken_at rule place }
+/// A rule that is broken at a place.
+fn broken_at(rule: Rule, place: u8) -> Broken
+    ensures { result ≡ broken_at (number_of rule) place }
 {
     Broken {
-        rule,
+        rule: rule.number(),
         place: place as u32,
     }
 }
@@ -35,22 +36,22 @@ fn broken_at(rule: u8, place: u8) -> Broken
 fn first_from_stay(edition: &Edition, trip: &Trip, parts: &[Part]) -> Option<Broken>
     requires few { length parts.now ≤ MOST_PARTS }
     requires advances { Advances trip.now parts.now }
-    ensures { result ≡ first_given (breaks_from 18 edition.now trip.now parts.now) }
+    ensures { result ≡ first_given (breaks_from (number_of Rule.Stay) edition.now trip.now parts.now) }
 {
     if let Some(u) = first_unit(edition, trip, parts, UnitRule::Stay) {
-        return Some(broken_at(18, u));
+        return Some(broken_at(Rule::Stay, u));
     }
     if let Some(u) = first_unit(edition, trip, parts, UnitRule::Combine) {
-        return Some(broken_at(19, u));
+        return Some(broken_at(Rule::Combine, u));
     }
     if let Some(k) = clashed(edition, parts) {
-        return Some(broken_at(20, k));
+        return Some(broken_at(Rule::End, k));
     }
     if let Some(k) = first_part(edition, trip, parts, PartRule::Surface) {
-        return Some(broken_at(21, k));
+        return Some(broken_at(Rule::Surface, k));
     }
     if let Some(k) = first_part(edition, trip, parts, PartRule::Season) {
-        return Some(broken_at(22, k));
+        return Some(broken_at(Rule::Season, k));
     }
     None
 }
@@ -60,13 +61,13 @@ fn first_from_stay(edition: &Edition, trip: &Trip, parts: &[Part]) -> Option<Bro
 fn first_from_mileage(edition: &Edition, trip: &Trip, parts: &[Part]) -> Option<Broken>
     requires few { length parts.now ≤ MOST_PARTS }
     requires advances { Advances trip.now parts.now }
-    ensures { result ≡ first_given (breaks_from 16 edition.now trip.now parts.now) }
+    ensures { result ≡ first_given (breaks_from (number_of Rule.Mileage) edition.now trip.now parts.now) }
 {
     if let Some(k) = first_part(edition, trip, parts, PartRule::Mileage) {
-        return Some(broken_at(16, k));
+        return Some(broken_at(Rule::Mileage, k));
     }
     if let Some(k) = first_part(edition, trip, parts, PartRule::Fare(FareRule::Excess)) {
-        return Some(broken_at(17, k));
+        return Some(broken_at(Rule::Excess, k));
     }
     first_from_stay(edition, trip, parts)
 }
@@ -76,31 +77,31 @@ fn first_from_mileage(edition: &Edition, trip: &Trip, parts: &[Part]) -> Option<
 fn first_from_distinct(edition: &Edition, trip: &Trip, parts: &[Part]) -> Option<Broken>
     requires few { length parts.now ≤ MOST_PARTS }
     requires advances { Advances trip.now parts.now }
-    ensures { result ≡ first_given (breaks_from 8 edition.now trip.now parts.now) }
+    ensures { result ≡ first_given (breaks_from (number_of Rule.Distinct) edition.now trip.now parts.now) }
 {
     if let Some(k) = first_part(edition, trip, parts, PartRule::Distinct) {
-        return Some(broken_at(8, k));
+        return Some(broken_at(Rule::Distinct, k));
     }
     if let Some(k) = mispaired(edition, trip, parts) {
-        return Some(broken_at(9, k));
+        return Some(broken_at(Rule::Pair, k));
     }
     if let Some(k) = first_part(edition, trip, parts, PartRule::Fare(FareRule::Indicator)) {
-        return Some(broken_at(10, k));
+        return Some(broken_at(Rule::Indicator, k));
     }
     if let Some(k) = first_part(edition, trip, parts, PartRule::Fare(FareRule::Cabin)) {
-        return Some(broken_at(11, k));
+        return Some(broken_at(Rule::Cabin, k));
     }
     if let Some(k) = first_part(edition, trip, parts, PartRule::Fare(FareRule::Carrier)) {
-        return Some(broken_at(12, k));
+        return Some(broken_at(Rule::Carrier, k));
     }
     if let Some(k) = first_part(edition, trip, parts, PartRule::Fare(FareRule::Stops)) {
-        return Some(broken_at(13, k));
+        return Some(broken_at(Rule::Stops, k));
     }
     if let Some(k) = first_part(edition, trip, parts, PartRule::Fare(FareRule::Transfers)) {
-        return Some(broken_at(14, k));
+        return Some(broken_at(Rule::Transfers, k));
     }
     if let Some(k) = first_part(edition, trip, parts, PartRule::Fare(FareRule::Advance)) {
-        return Some(broken_at(15, k));
+        return Some(broken_at(Rule::Advance, k));
     }
     first_from_mileage(edition, trip, parts)
 }
@@ -133,7 +134,7 @@ fn first_from_fares(
     requires advances { Advances trip.now parts.now }
     requires filed { unfiled edition.now parts.now ≡ None }
     requires known { IfSome known (λ table. IsOf edition.now trip.now table.now) }
-    ensures { result ≡ first_given (breaks_from 8 edition.now trip.now parts.now) }
+    ensures { result ≡ first_given (breaks_from (number_of Rule.Distinct) edition.now trip.now parts.now) }
 {
     if has_all_amounts(edition, trip, known, parts) {
         return first_from_stay(edition, trip, parts);
@@ -154,25 +155,25 @@ pub(crate) fn first_broken(
     ensures { result ≡ first_broken edition.now trip.now parts.now }
 {
     if let Some(k) = uncovered(trip, parts) {
-        return Some(broken_at(1, k));
+        return Some(broken_at(Rule::Cover, k));
     }
     if let Some(k) = misnumbered(parts) {
-        return Some(broken_at(2, k));
+        return Some(broken_at(Rule::Numbering, k));
     }
     if let Some(k) = unfiled(edition, parts) {
-        return Some(broken_at(3, k));
+        return Some(broken_at(Rule::Record, k));
     }
     if let Some(k) = crossed(parts) {
-        return Some(broken_at(4, k));
+        return Some(broken_at(Rule::Crossing, k));
     }
     if let Some(u) = first_unit(edition, trip, parts, UnitRule::Alone) {
-        return Some(broken_at(5, u));
+        return Some(broken_at(Rule::Alone, u));
     }
     if let Some(u) = first_unit(edition, trip, parts, UnitRule::Chain) {
-        return Some(broken_at(6, u));
+        return Some(broken_at(Rule::Chain, u));
     }
     if let Some(u) = first_unit(edition, trip, parts, UnitRule::Close) {
-        return Some(broken_at(7, u));
+        return Some(broken_at(Rule::Close, u));
     }
     first_from_fares(edition, trip, known, parts)
 }

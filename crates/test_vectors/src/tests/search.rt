@@ -1,13 +1,13 @@
 //! The pruned search: what it makes of a trip there and back with a side trip, and what the plain one makes of drills.
 
 ghost use Rattle.std.specs.Prelude.{◌≤◌};
-ghost use Rattle.fare_drill.specs.declared.limits.TheConstants.{LAST_SEED, MOST_SECTORS};
 
 use fare_bounds::Rest;
 use fare_branch::{BranchQuoter, OwnBound, Partial, Piece, choices, floor_of, search};
+use fare_codes::{LAST_SEED, MOST_SECTORS};
 use fare_component::Table;
 use fare_csv::read_edition;
-use fare_drill::{LAST_SEED, MOST_SECTORS, drill_input};
+use fare_drill::drill_input;
 use fare_rules::Part;
 use fare_trip::read_trip;
 use fare_units::{Construction, PlainQuoter, Quoter, earlier};

@@ -9,7 +9,7 @@ pub returns : goal.returns
 returns c =
     let form : HasFaresInForm c.args.table.now.edition = subst (λ (tariff : Tariff). HasFaresInForm tariff) c.edition.ensures c.edition_is_valid.ensures.in_form in
     let n : c.count-sectors.result ≡ count c.args.table.now.trip = c.count-sectors.ensures.value ∙ ap count c.trip.ensures in
-    first_of_all c.args.table.now.edition c.args.table.now.trip c.args.k 40_000_000_000 c.args.found.now c.walk_all.new.found c.requires.ranked
+    first_of_all c.args.table.now.edition c.args.table.now.trip c.args.k 40_000_000_000 c.walk_all.new.found
     c.walk_all.ensures
     (λ parts price l.
     let low : price < 40_000_000_000 = c.price_is_bounded.ensures c.args.table.now.edition c.args.table.now.trip parts price form (omega (arith, c.count-sectors.ensures.at_most)) l in

@@ -4,5 +4,5 @@ use Rattle.fare_best.proofs.first.walk_up.Goals as goal
 
 pub returns-then-is_within : goal.returns-then-is_within
 returns-then-is_within c =
-    first_within c.args.table.now.edition c.args.table.now.trip c.args.k c.saturating_add-limit.result c.loop-walk.found c.walk_all.new.found c.requires.some c.loop-walk.invariant
+    first_within c.args.table.now.edition c.args.table.now.trip c.args.k c.saturating_add-limit.result c.walk_all.new.found c.requires.some
     c.walk_all.ensures (sym c.is_within.ensures ∙ c.if-is_within.true)

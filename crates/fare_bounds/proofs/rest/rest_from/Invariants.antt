@@ -2,7 +2,7 @@
 use Rattle.std.proofs.Common.{◌≤◌, ◌-◌, ◌*◌}
 use Rattle.std.specs.Prelude.{IfSome}
 use Rattle.fare_bounds.specs.declared.limits.TheConstants.{COST_LIMIT}
-use Rattle.fare_rules.specs.declared.limits.TheConstants.{MOST_SECTORS}
+use Rattle.fare_codes.specs.declared.limits.TheConstants.{MOST_SECTORS}
 use Rattle.fare_bounds.specs.Covers.{IsLeast}
 use Rattle.fare_bounds.specs.Search.{GoesOn, IsBefore}
 use Rattle.fare_bounds.proofs.rest.rest_from.Given as goal

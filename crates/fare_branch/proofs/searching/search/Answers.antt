@@ -1,20 +1,23 @@
-use Rattle.std.proofs.Common.{ℕ, List, Option, None, sym, subst, arith}
+use Rattle.std.proofs.Common.{◌≡◌, ℕ, ◌≤◌, List, Option, sym, subst, ◌∙◌, arith}
 use Rattle.fare_rules.specs.declared.part.Part.{Part}
 use Rattle.fare_branch.specs.Search.{IsSearched}
-use Rattle.fare_branch.proofs.DiveLemmas.{dived_walked}
+use Rattle.fare_branch.proofs.DiveLemmas.{dived_begins, dived_told}
 use Rattle.fare_branch.proofs.PieceLemmas.{searched}
 use Rattle.fare_branch.proofs.searching.search.Goals as goal
 
+pub walk_piece-requires-clause-holds : goal.walk_piece-requires-clause-holds
+walk_piece-requires-clause-holds g c =
+    let same : g.B.Bound.fixed c.seen-known.new.self ≡ g.B.Bound.fixed c.args.bound.now = c.seen-known.ensures.fixed ∙ c.dives-homing.ensures.fixed in (
+      λ parts price l. let under : g.B.Bound.fixed c.args.bound.now ≤ price = c.requires.least.under parts price l in omega arith,
+      dived_told c.args.table.now.edition c.args.table.now.trip c.args.piece (g.B.Bound.least c.args.bound.now) (g.B.Bound.least c.dives-homing.new.bound) (g.B.Bound.least c.seen-known.new.self) c.dives-homing.result.1 (omega arith) c.dives-homing.ensures.dived,
+    )
+
 pub returns-clause-searched : goal.returns-clause-searched
 returns-clause-searched g c =
-    let tariff = c.args.table.now.edition in
-    let trip = c.args.table.now.trip in
-    let least : ℕ = g.B.Bound.least c.args.bound.now in
-    let dived : ℕ = g.B.Bound.least c.dives-homing.new.bound in
-    let known : ℕ = g.B.Bound.least c.seen-known.new.self in
-    let walked : ℕ = g.B.Bound.least c.walk_piece-found.new.bound in
-    let P : Option (List Part × ℕ) → Type 0 = λ found. IsSearched tariff trip c.args.piece c.seen-least.result found in
-    let Q : ℕ → Type 0 = λ seen. IsSearched tariff trip c.args.piece seen c.kept_at.result in
+    let P : Option (List Part × ℕ) → Type 0 = λ found. IsSearched c.args.table.now.edition c.args.table.now.trip c.args.piece c.seen-least.result found in
+    let Q : ℕ → Type 0 = λ seen. IsSearched c.args.table.now.edition c.args.table.now.trip c.args.piece seen c.kept_at.result in
     subst Q (sym c.seen-least.ensures.least) (subst P (sym c.kept_at.ensures)
-    (searched tariff trip c.args.piece least walked c.seen-least.result c.walk_piece-found.result (omega arith)
-    (dived_walked tariff trip c.args.piece least dived known walked None c.dives-homing.result.1 c.walk_piece-found.result (omega arith) c.dives-homing.ensures.dived c.walk_piece-found.ensures.walk)))
+    (searched c.args.table.now.edition c.args.table.now.trip c.args.piece (g.B.Bound.least c.seen-known.new.self) (g.B.Bound.least c.walk_piece.new.known) c.seen-least.result c.dives-homing.result.1 c.walk_piece.new.seeker.found (omega arith)
+    (dived_begins c.args.table.now.edition c.args.table.now.trip c.args.piece (g.B.Bound.least c.args.bound.now) (g.B.Bound.least c.dives-homing.new.bound) c.dives-homing.result.1 c.dives-homing.ensures.dived)
+    c.walk_piece.ensures.holds.1
+    c.walk_piece.ensures.walk))

@@ -8,5 +8,5 @@ use Rattle.fare_floors.proofs.ahead.half_row.Given as goal
 abbrev pub invariant-loop-i : goal.invariant-loop-i
 invariant-loop-i l = record {
   long : length l.row ≡ 17;
-  known : (i : ℕ) → l.fn.from ≤ i → i < l.i → IsOverOpen l.trip l.homing (i + 1) i l.start (must_go_from l.table.edition l.table.trip l.start l.begun i) i l.homes (rest_at l.below i) (rest_at l.row i);
+  known : (i : ℕ) → l.fn.from ≤ i → i < l.i → IsOverOpen l.trip l.homing (i + 1) l.begun i l.start (must_go_from l.table.edition l.table.trip l.start l.begun i) i l.homes (rest_at l.below i) (rest_at l.row i);
 }

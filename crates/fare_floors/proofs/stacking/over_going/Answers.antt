@@ -20,10 +20,10 @@ returns c =
     let R : ℕ → Type 0 = λ from. AreHomes c.args.table.now.edition c.args.table.now.trip from c.args.opened.start c.args.opened.closes c.args.behind.now c.homes_of-homes.result in
     let homes = subst R c.end.ensures.value c.homes_of-homes.ensures in
     let n : count c.trip-2.result.now ≡ count c.args.table.now.trip = ap count c.trip-2.ensures in
-    let rows : (i : ℕ) → end_of c.args.partial.now (length c.args.partial.now) ≤ i → i ≤ count c.args.table.now.trip → IsOverOpen c.args.table.now.trip c.args.homing.now (end_of c.args.partial.now (length c.args.partial.now)) c.args.opened.stands c.args.opened.start c.args.opened.must i c.homes_of-homes.result (rest_at c.args.behind.now i) (rest_at c.over_open-row.result i) =
+    let rows : (i : ℕ) → end_of c.args.partial.now (length c.args.partial.now) ≤ i → i ≤ count c.args.table.now.trip → IsOverOpen c.args.table.now.trip c.args.homing.now (end_of c.args.partial.now (length c.args.partial.now)) c.args.opened.closes c.args.opened.stands c.args.opened.start c.args.opened.must i c.homes_of-homes.result (rest_at c.args.behind.now i) (rest_at c.over_open-row.result i) =
     λ i low most.
-    let T : Itinerary → Type 0 = λ trip. IsOverOpen trip c.args.homing.now c.end-2.result c.args.opened.stands c.args.opened.start c.args.opened.must i c.homes_of-homes.result (rest_at c.args.behind.now i) (rest_at c.over_open-row.result i) in
-    let E : ℕ → Type 0 = λ from. IsOverOpen c.args.table.now.trip c.args.homing.now from c.args.opened.stands c.args.opened.start c.args.opened.must i c.homes_of-homes.result (rest_at c.args.behind.now i) (rest_at c.over_open-row.result i) in
+    let T : Itinerary → Type 0 = λ trip. IsOverOpen trip c.args.homing.now c.end-2.result c.args.opened.closes c.args.opened.stands c.args.opened.start c.args.opened.must i c.homes_of-homes.result (rest_at c.args.behind.now i) (rest_at c.over_open-row.result i) in
+    let E : ℕ → Type 0 = λ from. IsOverOpen c.args.table.now.trip c.args.homing.now from c.args.opened.closes c.args.opened.stands c.args.opened.start c.args.opened.must i c.homes_of-homes.result (rest_at c.args.behind.now i) (rest_at c.over_open-row.result i) in
     subst E c.end-2.ensures.value (subst T c.trip-2.ensures (c.over_open-row.ensures i (omega (arith, c.end-2.ensures.value)) (omega arith))) in
     over_both c.args.table.now c.args.homing.now c.args.partial.now c.args.unit c.over_open-row.result c.over_lasts-lasts.result c.greater_of.result
     (over_open_unit c.args.table.now c.args.homing.now c.args.partial.now c.args.unit c.requires.low c.requires.high c.args.behind.now c.requires.behind c.args.opened c.requires.opened c.over_open-row.result (c.homes_of-homes.result, homes, rows))

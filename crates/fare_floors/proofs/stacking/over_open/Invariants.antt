@@ -7,5 +7,5 @@ use Rattle.fare_floors.proofs.stacking.over_open.Given as goal
 abbrev pub invariant-loop-i : goal.invariant-loop-i
 invariant-loop-i l = record {
   long : length l.row ≡ 17;
-  known : (i : ℕ) → l.fn.from ≤ i → i < l.i → IsOverOpen l.trip l.homing l.fn.from l.opened.stands l.opened.start l.opened.must i l.homes (rest_at l.behind i) (rest_at l.row i);
+  known : (i : ℕ) → l.fn.from ≤ i → i < l.i → IsOverOpen l.trip l.homing l.fn.from l.opened.closes l.opened.stands l.opened.start l.opened.must i l.homes (rest_at l.behind i) (rest_at l.row i);
 }

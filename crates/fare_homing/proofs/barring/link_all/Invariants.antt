@@ -5,4 +5,4 @@ use Rattle.fare_homing.specs.Onward.{AreOnwards}
 use Rattle.fare_homing.proofs.barring.link_all.Given as goal
 
 abbrev pub invariant-loop-set : goal.invariant-loop-set
-invariant-loop-set l = (trip : Itinerary) (closing jaw : ℕ → ℕ → ℕ → Option ℕ) → AreOnwards l.edition trip closing jaw l.fn.onwards → AreOnwards l.edition trip closing jaw l.onwards
+invariant-loop-set l = (trip : Itinerary) (begun jaw : ℕ → ℕ → ℕ → Option ℕ) → AreOnwards l.edition trip begun jaw l.fn.onwards → AreOnwards l.edition trip begun jaw l.onwards

@@ -5,4 +5,4 @@ use Rattle.fare_homing.specs.Onward.{AreOnwards}
 use Rattle.fare_homing.proofs.barring.link_each.Given as goal
 
 abbrev pub invariant-loop-place : goal.invariant-loop-place
-invariant-loop-place l = (trip : Itinerary) (closing jaw : ℕ → ℕ → ℕ → Option ℕ) → AreOnwards l.edition trip closing jaw l.fn.onwards → AreOnwards l.edition trip closing jaw l.onwards
+invariant-loop-place l = (trip : Itinerary) (begun jaw : ℕ → ℕ → ℕ → Option ℕ) → AreOnwards l.edition trip begun jaw l.fn.onwards → AreOnwards l.edition trip begun jaw l.onwards

@@ -6,7 +6,7 @@ use Rattle.fare_homing.specs.Ceiling.{IsCeiling}
 use Rattle.fare_homing.specs.HomingRows.{AreWholes}
 use Rattle.fare_homing.specs.Legs.{AreLegsBehind}
 use Rattle.fare_homing.specs.Lonely.{AreLonely}
-use Rattle.fare_homing.specs.Rows.{AreCountries, cell, closing_from, jaw_from}
+use Rattle.fare_homing.specs.Rows.{AreCountries, begun_from, cell, jaw_from}
 use Rattle.fare_homing.proofs.HomingLemmas.{AreHomingsFrom, all_homings, no_homings, put_homings}
 use Rattle.fare_homing.proofs.homing.homing_of.Goals as goal
 
@@ -35,15 +35,15 @@ loop-c-preserved c =
     let next : c.loop-c.c ≡ place + 1 = omega arith in
     let last : c.count-count.result ≡ count trip = c.count-count.ensures.value ∙ ap count c.trip-trip.ensures in
     let From : ℕ → Type 0 = λ n. AreHomingsFrom tariff trip n homing in
-    let W : List ℕ → Type 0 = λ barred. AreWholes tariff trip barred (closing_from homing) (jaw_from homing) c.start_at-start.result.behind (rest_at c.wholes_at-whole.result) in
-    let I : ℕ → Type 0 = λ i. AreWholes tariff trip [] (closing_from homing) (jaw_from homing) i (rest_at c.wholes_at-whole.result) in
+    let W : List ℕ → Type 0 = λ barred. AreWholes tariff trip barred (begun_from homing) (jaw_from homing) c.start_at-start.result.behind (rest_at c.wholes_at-whole.result) in
+    let I : ℕ → Type 0 = λ i. AreWholes tariff trip [] (begun_from homing) (jaw_from homing) i (rest_at c.wholes_at-whole.result) in
     record {
       long_standing = length-set homing.standing place c.standing_at-standing.result ∙ known.long_standing;
       long_whole = length-set homing.whole place c.wholes_at-whole.result ∙ known.long_whole;
       long_rest = length-set homing.rest place c.least_onward.result ∙ known.long_rest;
       known = put_homings tariff trip homing place (omega arith) c.wholes_at-whole.result c.least_onward.result c.standing_at-standing.result
           (omega (arith, known.long_standing, c.count-count.ensures.at_most)) (omega (arith, known.long_whole, c.count-count.ensures.at_most)) (omega (arith, known.long_rest, c.count-count.ensures.at_most)) (subst From next known.known)
-          (subst I c.start_at-start.ensures.behind (subst W (c.start_at-start.ensures.barred ∙ c.as_slice-barred.ensures) c.wholes_at-whole.ensures)) (λ b x y past within up more. c.least_onward.ensures b x y past (omega arith) up more) c.standing_at-standing.ensures.closes c.standing_at-standing.ensures.ends;
+          (subst I c.start_at-start.ensures.behind (subst W (c.start_at-start.ensures.barred ∙ c.as_slice-barred.ensures) c.wholes_at-whole.ensures)) (λ b x y past within up more. c.least_onward.ensures b x y past (omega arith) up more) c.standing_at-standing.ensures.begins c.standing_at-standing.ensures.closes c.standing_at-standing.ensures.ends;
       countries = known.countries;
       lonely = known.lonely;
       ceiling = known.ceiling;
@@ -57,7 +57,7 @@ returns-clause-homings c =
     let known = all_homings c.args.table.now.edition c.args.table.now.trip c.loop-c.homing (subst P done c.loop-c.invariant.known) in
     record {
       known = known;
-      onwards = c.without_barred-homing.ensures c.args.table.now.edition c.args.table.now.trip (closing_from c.loop-c.homing) (jaw_from c.loop-c.homing) (cell c.loop-c.homing.whole) (record { wholes = known.wholes; onward = known.onward; nothing = known.nothing });
+      onwards = c.without_barred-homing.ensures c.args.table.now.edition c.args.table.now.trip (begun_from c.loop-c.homing) (jaw_from c.loop-c.homing) (cell c.loop-c.homing.whole) (record { wholes = known.wholes; onward = known.onward; nothing = known.nothing });
       countries = c.loop-c.invariant.countries;
       lonely = c.loop-c.invariant.lonely;
       ceiling = c.loop-c.invariant.ceiling;

@@ -3,13 +3,13 @@ use Rattle.std.specs.Prelude.{Option, if◌then◌else◌}
 use Rattle.std.proofs.lemmas.Bool.{cases_eq}
 use Rattle.fare_bounds.specs.Covers.{rest_at}
 use Rattle.fare_homing.specs.Homing.{IsUpTo}
-use Rattle.fare_homing.specs.Rows.{closing_from, jaw_from}
+use Rattle.fare_homing.specs.Rows.{begun_from, jaw_from}
 use Rattle.fare_homing.proofs.HomingRowLemmas.{lesser_kept, lesser_sum}
 use Rattle.fare_homing.proofs.whole.reach_first.Goals as goal
 
 pub loop-b-preserved : goal.loop-b-preserved
 loop-b-preserved c b x y low less up more =
-    let Behind : ℕ → Option ℕ = λ k. if c.args.closes then closing_from c.args.homing.now k k c.args.home else jaw_from c.args.homing.now k k c.args.home in
+    let Behind : ℕ → Option ℕ = λ k. if c.args.closes then begun_from c.args.homing.now k k c.args.home else jaw_from c.args.homing.now k k c.args.home in
     elim (cases_eq b c.loop-b.b) [
       | inl same ↦
           let P : ℕ → Type 0 = λ k. IsUpTo x (rest_at c.args.first.now k) in

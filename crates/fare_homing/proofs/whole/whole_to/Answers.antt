@@ -6,7 +6,7 @@ use Rattle.fare_rules.specs.Shape.{lie_together}
 use Rattle.fare_homing.specs.Barred.{unless_barred}
 use Rattle.fare_homing.specs.Homing.{IsUpTo, first_cost, is_same_city, may_end_at}
 use Rattle.fare_homing.specs.HomingRows.{IsPart}
-use Rattle.fare_homing.specs.Rows.{closing_from, jaw_from}
+use Rattle.fare_homing.specs.Rows.{begun_from, jaw_from}
 use Rattle.fare_homing.proofs.HomingRowLemmas.{lies_there, part_after}
 use Rattle.fare_homing.proofs.whole.whole_to.Goals as goal
 
@@ -37,6 +37,6 @@ returns c =
       first = λ b x y cost may part less up sum pair.
           let P : ℕ → Type 0 = λ a. IsPart tariff trip (unless_barred c.args.table.now.edition c.args.start.now.barred.now first_cost) a b x in
           let rises = part_after tariff trip (unless_barred c.args.table.now.edition c.args.start.now.barred.now first_cost) c.args.start.now.behind b x (subst P c.requires.point part) in
-          let Q : Bool → Type 0 = λ closes. IsUpTo y (if closes then closing_from homing b b c.args.home else jaw_from homing b b c.args.home) in
+          let Q : Bool → Type 0 = λ closes. IsUpTo y (if closes then begun_from homing b b c.args.home else jaw_from homing b b c.args.home) in
           c.with_half.ensures.half (x + y) cost (c.reach_first-half.ensures b x y rises.0 less (c.requires.legs.first b x part) (subst Q (sym here) up)) sum pair;
     }

@@ -10,7 +10,7 @@ use Rattle.fare_homing.specs.Barred.{unless_barred}
 use Rattle.fare_homing.specs.Homing.{IsUpTo, first_cost, homing_at, may_end_at, single_cost}
 use Rattle.fare_homing.specs.HomingRows.{IsPart}
 use Rattle.fare_homing.specs.Pairs.{HasPair}
-use Rattle.fare_homing.specs.Rows.{closing_from, jaw_from}
+use Rattle.fare_homing.specs.Rows.{begun_from, jaw_from}
 use Rattle.fare_homing.proofs.HomingRowLemmas.{part_after}
 use Rattle.fare_homing.proofs.whole.wholes_at.Goals as goal
 
@@ -45,7 +45,7 @@ loop-home-preserved c =
             let P : ℕ → Type 0 = λ k. IsUpTo cost (rest_at (set row here number) k) in
             let M : ℕ → Type 0 = λ k. may_end_at tariff trip start k ≡ true in
             let L : ℕ → Type 0 = λ k. b < k in
-            let U : ℕ → Type 0 = λ k. IsUpTo y (homing_at trip (closing_from homing b) (jaw_from homing b) start b k) in
+            let U : ℕ → Type 0 = λ k. IsUpTo y (homing_at trip (begun_from homing b) (jaw_from homing b) start b k) in
             let H : ℕ → Type 0 = λ k. HasPair tariff trip c.args.start.now.barred.now start k cost in
             subst P (sym same) (subst (IsUpTo cost) (sym (get_or-set_same row here number None long)) (c.whole_to.ensures.first b x y cost (subst M same may) part (subst L same before) (subst U same up) sum (subst H same pair)))
         | inr other ↦ subst (IsUpTo cost) (sym (get_or-set_other row here j number None other)) (c.loop-home.invariant.first b j x y cost low (omega arith) may part before up sum pair)
@@ -70,7 +70,7 @@ returns c =
           let within : j ≤ count trip = (entry_is_of_fare tariff trip pair.begin j pair.last pair.last_there).within in
           let M : ℕ → Type 0 = λ a. may_end_at tariff trip a j ≡ true in
           let A : ℕ → Type 0 = λ a. IsPart tariff trip (unless_barred c.args.table.now.edition c.args.start.now.barred.now first_cost) a b x in
-          let U : ℕ → Type 0 = λ a. IsUpTo y (homing_at trip (closing_from homing b) (jaw_from homing b) a b j) in
+          let U : ℕ → Type 0 = λ a. IsUpTo y (homing_at trip (begun_from homing b) (jaw_from homing b) a b j) in
           let H : ℕ → Type 0 = λ a. HasPair tariff trip c.args.start.now.barred.now a j cost in
           c.loop-home.invariant.first b j x y cost (omega (arith, after.0)) (omega arith) (subst M begins may) (subst A begins part) less (subst U begins up) sum (subst H begins pair);
     }

@@ -1,11 +1,12 @@
 use Rattle.std.proofs.Common.{◌≡◌, ◌<◌, ◌+◌, Bool, true, false, length, List, ℕ, refl, sym, ◌∙◌, arith, append-nil, add-zero}
 use Rattle.std.specs.Bool.{OnFalse}
+use Rattle.fare_outside.specs.declared.door.TheConstants.{MOST_HELD}
 use Rattle.fare_rounds.specs.Taking.{RoseBy, cut_off, held}
 use Rattle.fare_rounds.proofs.ArrivalLemmas.{entry-brought, no-entry}
 use Rattle.fare_rounds.proofs.round.Round.gather.Goals as goal
 
 -- a row that isn't full takes one connection more
-has-room : (answer : Bool) (places : List ℕ) → length places < 8 → OnFalse answer (length places ≡ 8) → answer ≡ true
+has-room : (answer : Bool) (places : List ℕ) → length places < MOST_HELD → OnFalse answer (length places ≡ MOST_HELD) → answer ≡ true
 has-room true places few full = refl
 has-room false places few full = absurd (omega (arith, full, few))
 
@@ -17,7 +18,7 @@ pub returns-in-Some-clause-taken : goal.returns-in-Some-clause-taken
 returns-in-Some-clause-taken g c =
     let read = c.read_request.ensures in
     let door = c.read_request.new.door in
-    let few : length (g.D.Door.held door) < 8 = rw read.held c.requires.held in
+    let few : length (g.D.Door.held door) < MOST_HELD = rw read.held c.requires.held in
     let answered = has-room c.hold.result (g.D.Door.held door) few c.hold.ensures.full in
     let is = sym c.in-Some.is ∙ c.of.ensures in
     let seen = c.self.view_is in

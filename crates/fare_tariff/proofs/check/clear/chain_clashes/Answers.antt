@@ -6,6 +6,7 @@ use Rattle.fare_tariff.specs.Faulty.{clash_of, clashes_from}
 use Rattle.fare_tariff.specs.Keyed.{own_key, has_own_key}
 use Rattle.fare_tariff.proofs.Chain.{IsKeyed, keyed_first, from_first, walk_step}
 use Rattle.fare_tariff.proofs.FreePlaces.{clash_looks, one_clear}
+use Rattle.fare_tariff.proofs.SeenFares.{seen_clear, seen_first, seen_next}
 use Rattle.fare_tariff.proofs.check.clear.chain_clashes.Goals as goal
 
 pub loop-at-init : goal.loop-at-init
@@ -15,10 +16,11 @@ loop-at-init c =
     record {
       keyed = keyed_first key all c.args.first c.requires;
       same = from_first (clashes_from all key) false key (clash_looks all key) all c.args.first c.requires;
+      passed = seen_first key all c.new-seen.result c.args.first c.new-seen.ensures c.requires;
     }
 
-pub clash_from-requires-clause-first : goal.clash_from-requires-clause-first
-clash_from-requires-clause-first c =
+pub clashes_among-requires-clause-first : goal.clashes_among-requires-clause-first
+clashes_among-requires-clause-first c =
     let all = c.args.filed.now in
     let key = own_key c.args.one.now in
     let keyed : IsKeyed key all c.in-Some.place = subst (λ o. IfSome o (IsKeyed key all)) c.in-Some.is c.loop-at.invariant.keyed in
@@ -42,7 +44,9 @@ loop-at-preserved c =
     record {
       keyed = step.keyed;
       same = step.there
-          ∙ one_clear (has_own_key key one) (clash_of (take place all) one) (clashes_from all key (place + 1) (drop (place + 1) all)) c.if-clash_from.ensures
+          ∙ one_clear (has_own_key key one) (clash_of (take place all) one) (clashes_from all key (place + 1) (drop (place + 1) all))
+          (seen_clear key all c.loop-at.seen c.loop-at.at place one c.in-Some.is c.loop-at.invariant.keyed read c.if-clashes_among.ensures c.loop-at.invariant.passed)
           ∙ sym step.here
           ∙ c.loop-at.invariant.same;
+      passed = seen_next key all c.loop-at.seen c.note.new.self c.loop-at.at c.next-at.result place one c.in-Some.is c.loop-at.invariant.keyed read (c.next-at.ensures one) c.note.ensures c.loop-at.invariant.passed;
     }

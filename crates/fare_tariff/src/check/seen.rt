@@ -1,0 +1,104 @@
+//! The fares that a walk over a market has passed: how many, and in which buckets. Fares with one key share a bucket,
+//! so a fare that comes to an empty one has the key of none before it.
+
+ghost use Rattle.std.specs.Prelude.{◌≡◌, ◌<◌, length};
+ghost use Rattle.fare_tariff.specs.Seen.{bucket_of, class_number, kind_number, may_clash, noted, none_seen};
+ghost use Rattle.fare_tariff.specs.Seen.{rule_number};
+
+use crate::guesses::spelled_rule;
+use crate::limits::MOST_FARES_BETWEEN;
+use crate::records::{FareRec, Record};
+use fare_codes::{Cabin, Carrier, Kind, RuleId};
+
+/// How many buckets there are: a prime, so that each character of a rule's id counts.
+const BUCKETS: usize = 61;
+
+/// The fares that were passed, of which 64 or more count as 64.
+#[derive(Drop)]
+pub(crate) struct Seen {
+    pub(crate) count: usize,
+    pub(crate) buckets: [bool; BUCKETS],
+}
+
+/// A number below 61 for a rule field.
+fn rule_number(rule: &Option<RuleId>) -> u64
+    ensures value { result ≡ rule_number rule.now }
+    ensures small { result < 61 }
+{
+    match rule {
+        None => 0,
+        Some(id) => spelled_rule(*id) % 61,
+    }
+}
+
+/// A number for each class.
+fn class_number(class: Cabin) -> u64
+    ensures value { result ≡ class_number class }
+    ensures small { result < 61 }
+{
+    match class {
+        Cabin::F => 0,
+        Cabin::C => 16,
+        Cabin::Y => 32,
+    }
+}
+
+/// A number for each kind of fare, and whether it is of every carrier.
+fn kind_number(kind: Kind, every: bool) -> u64
+    ensures value { result ≡ kind_number kind every }
+    ensures small { result < 61 }
+{
+    match (kind, every) {
+        (Kind::OW, true) => 0,
+        (Kind::OW, false) => 4,
+        (Kind::HR, true) => 8,
+        (Kind::HR, false) => 12,
+    }
+}
+
+/// The bucket of a fare, by its carrier, its class, its kind and its rule.
+fn bucket_of(fare: &FareRec) -> usize
+    ensures value { result ≡ bucket_of fare.now }
+    ensures within { result < 61 }
+{
+    let every = fare.carrier.is(Carrier::read(b"YY").unwrap());
+    let number = rule_number(&fare.rule) + class_number(fare.class) + kind_number(fare.kind, every);
+    (number % 61) as usize
+}
+
+impl Seen {
+    /// None was passed.
+    pub(crate) fn new() -> Seen
+        ensures { result ≡ none_seen }
+    {
+        Seen {
+            count: 0,
+            buckets: [false; BUCKETS],
+        }
+    }
+
+    /// Whether a record may clash with those that were passed: as many as there may be were passed, or one in its
+    /// bucket, or it is no fare.
+    pub(crate) fn may_clash(&self, one: &Record) -> bool
+        requires { length self.now.buckets ≡ 61 }
+        ensures { result ≡ may_clash self.now one.now }
+    {
+        match one {
+            Record::Fare(fare) => self.count >= MOST_FARES_BETWEEN || self.buckets[bucket_of(fare)],
+            _ => true,
+        }
+    }
+
+    /// Passes a record.
+    pub(crate) fn note(&mut self, one: &Record)
+        requires { length self.old.buckets ≡ 61 }
+        ensures { self.new ≡ noted self.old one.now }
+    {
+        if self.count < MOST_FARES_BETWEEN {
+            self.count += 1;
+        }
+        if let Record::Fare(fare) = one {
+            self.buckets[bucket_of(fare)] = true;
+        }
+    }
+}

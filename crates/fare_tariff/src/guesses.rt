@@ -1,0 +1,110 @@
+//! Where the record of a city or a rule may stand: a guess, which whoever takes it looks up in the records.
+
+ghost use Rattle.std.specs.Prelude.{◌≡◌, ◌+◌, ◌*◌, ◌%◌, ◌^◌};
+ghost use Rattle.std.specs.List.{fold};
+ghost use Rattle.fare_tariff.specs.Spelling.{spelled_rule};
+
+use fare_codes::RuleId;
+use fare_index::Key;
+use fare_outside::NoMemory;
+use std::alloc::Global;
+use std::hash::{Hash, Hasher};
+
+/// As many slots as three letters of five bits have, so that no two cities share one. A shorter edition has at least as
+/// many as it has records.
+const MOST_SLOTS: usize = 32_768;
+
+/// How many bits of a slot's number three letters fill.
+const SLOT_BITS: u32 = 15;
+
+/// The numbers of letters differ by less than this.
+const LETTERS: u64 = 32;
+
+/// A place for each slot, of which a city or a rule has one. One that shares its slot is found by its key.
+#[derive(Drop)]
+pub(crate) struct Guesses {
+    places: Vec<u32>,
+}
+
+/// The letters of a code as the digits of a number. Unlike by a hash, cities whose letters are near one another have
+/// slots near one another, so the slots of an edition's cities fill few lines of a cache.
+#[derive(Drop)]
+struct Spelling {
+    number: u64,
+}
+
+impl Hasher for Spelling {
+    ghost use Rattle.fare_tariff.specs.declared.guesses.TheConstants.{LETTERS};
+
+    ghost write = { λ s bytes. record {
+      number = fold (λ n byte. ((n * LETTERS) % 2 ^ 64 + byte) % 2 ^ 64) s.number bytes;
+    } };
+
+    ghost finish = { λ s. s.number };
+
+    fn finish(&self) -> u64 {
+        self.number
+    }
+
+    fn write(&mut self, bytes: &[u8]) {
+        for byte in bytes {
+            self.number = self.number.wrapping_mul(LETTERS).wrapping_add(*byte as u64);
+        }
+    }
+}
+
+/// The number that the characters of a rule's id spell, with zeros behind them.
+#[tactic(auto, unfolding(crate::specs::Spelling::spelled_rule))]
+pub(crate) fn spelled_rule(id: RuleId) -> u64
+    ensures { result ≡ spelled_rule id }
+{
+    let mut spelling = Spelling { number: 0 };
+    id.hash(&mut spelling);
+    spelling.finish()
+}
+
+/// The number that the letters of a key spell; nothing where it is neither a city's nor a rule's.
+fn spelled(key: &Key) -> Option<u64> {
+    let mut spelling = Spelling { number: 0 };
+    match key {
+        Key::City(city) => city.hash(&mut spelling),
+        Key::Rule(id) => return Some(spelled_rule(*id)),
+        _ => return None,
+    }
+    Some(spelling.finish())
+}
+
+/// The slot of a number among so many, a power of two. The letters of a rule before its last three count too.
+fn slot_of(number: u64, slots: usize) -> usize {
+    let folded = number ^ (number >> SLOT_BITS) ^ (number >> (2 * SLOT_BITS));
+    folded as usize & (slots.max(1) - 1)
+}
+
+impl Guesses {
+    /// The places of the cities and the rules among the keys of some records. Places that don't fit 32 bits are left
+    /// out.
+    pub(crate) fn of(alloc: Global, keys: &[Key]) -> Result<Guesses, NoMemory> {
+        let slots = keys.len().min(MOST_SLOTS).next_power_of_two();
+        let mut places = vec![in alloc; 0; slots]?;
+        for (place, key) in (0..u32::MAX).zip(keys.iter()) {
+            if let Some(number) = spelled(key) {
+                if let Some(slot) = places.get_mut(slot_of(number, slots)) {
+                    *slot = place;
+                }
+            }
+        }
+        Ok(Guesses { places })
+    }
+
+    /// Where the record of a key may stand. Nothing is known of the answer: it is a guess, which is looked up, and a
+    /// wrong one costs a look-up by key. Keys that share a slot cost no more than that.
+    pub(crate) fn place(&self, key: &Key) -> usize {
+        match spelled(key) {
+            None => usize::MAX,
+            Some(number) => match self.places.get(slot_of(number, self.places.len())) {
+                Some(place) => *place as usize,
+                None => usize::MAX,
+            },
+        }
+    }
+}
