@@ -14,7 +14,7 @@ use fare_branch::{best_of, dived_front, is_far};
 use fare_codes::MOST_BEST;
 use fare_component::Table;
 use fare_floors::{Partial, Stage, ahead_of, stack_of};
-use fare_homing::{Homing, homing_of, number_at, with_barred};
+use fare_homing::{Homing, add_barred, homing_of, number_at};
 use fare_outside::NoMemory;
 use fare_rules::{PRICE_LIMIT, edition_is_valid, price_is_bounded};
 use fare_tariff::Edition;
@@ -68,7 +68,8 @@ fn rise(table: &Table, k: usize, least: u64, found: &mut BestList)
     requires ranked { IsRanked table.now.edition table.now.trip k found.old }
     ensures { IsFirstK table.now.edition table.now.trip k found.new }
 {
-    let homing = with_barred(table, homing_of(table, None));
+    let mut homing = homing_of(table, None);
+    add_barred(table, &mut homing);
     if is_far(&homing, least) {
         return search_far(table, &homing, k, least, found);
     }
@@ -225,7 +226,8 @@ fn walk_under(
     ensures { IsWalked table.now.edition table.now.trip wanted.count wanted.limit (Completes []) found.new }
 {
     if ceiling.is_some() {
-        let homing = with_barred(table, homing_of(table, ceiling));
+        let mut homing = homing_of(table, ceiling);
+        add_barred(table, &mut homing);
         return walk_all(table, &homing, wanted, found);
     }
     walk_all(table, homing, wanted, found)

@@ -13,7 +13,7 @@ use crate::bound::{Bound, NO_PRICE};
 use crate::descent::dive;
 use crate::pieces::Piece;
 use fare_component::Table;
-use fare_homing::{Homing, homing_of, number_at, with_barred};
+use fare_homing::{Homing, add_barred, number_at, remake};
 
 /// Under how many ceilings a search dives.
 const MOST_CEILINGS: u32 = 4;
@@ -60,50 +60,55 @@ fn next_ceiling(homing: &Homing, least: u64) -> Option<u64> {
     }
 }
 
-/// What dives come to in a piece, with what is behind each point under the last ceiling.
-pub(crate) fn dives<B: Bound>(table: &Table, piece: Piece, bound: &mut B) -> (Homing, Found)
+/// What dives come to in a piece; what is behind each point is then known under the last ceiling.
+pub(crate) fn dives<B: Bound>(
+    table: &Table,
+    homing: &mut Homing,
+    piece: Piece,
+    bound: &mut B,
+) -> Found
+    requires homing { AreHomingsOf table.now.edition table.now.trip homing.old }
     requires under { IsUnderAll table.now.edition table.now.trip (B.fixed bound.old) }
-    ensures homing { AreHomingsOf table.now.edition table.now.trip result.0 }
+    ensures homing { AreHomingsOf table.now.edition table.now.trip homing.new }
     ensures fixed { B.fixed bound.new ≡ B.fixed bound.old }
     ensures dived { IsDived table.now.edition table.now.trip piece (B.least bound.old) None (B.least bound.new)
-        result.1 }
+        result }
 {
-    let mut homing = homing_of(table, None);
-    let mut best = try_dive(table, &homing, piece, None, bound);
+    let mut best = try_dive(table, homing, piece, None, bound);
     for _ceiling in 0..MOST_CEILINGS {
         let least = bound.seen();
-        let Some(price) = next_ceiling(&homing, least) else {
-            return (homing, best);
+        let Some(price) = next_ceiling(homing, least) else {
+            return best;
         };
-        homing = homing_of(table, Some(price));
+        remake(homing, table, price);
         if homing.ceiling.is_none() {
-            return (homing, best);
+            return best;
         }
-        best = try_dive(table, &homing, piece, best, bound);
+        best = try_dive(table, homing, piece, best, bound);
     }
-    (homing, best)
+    best
 }
 
-/// What is behind each point under a ceiling that the price known is under, unless there is nothing below it.
-pub(crate) fn raised(table: &Table, homing: Homing, least: u64) -> Homing
-    requires homing { AreHomingsOf table.now.edition table.now.trip homing }
-    ensures homing { AreHomingsOf table.now.edition table.now.trip result }
+/// Makes what is behind each point anew under a ceiling that the price known is under, unless there is nothing below it.
+pub(crate) fn raise(table: &Table, homing: &mut Homing, least: u64)
+    requires homing { AreHomingsOf table.now.edition table.now.trip homing.old }
+    ensures homing { AreHomingsOf table.now.edition table.now.trip homing.new }
 {
     match homing.ceiling {
         Some(ceiling) if ceiling.price < least && !homing.rest[0].is_nothing() => {
-            homing_of(table, Some(least))
+            remake(homing, table, least)
         }
-        _ => homing,
+        _ => {}
     }
 }
 
-/// The same with what is behind each point where some fares are barred, unless all costs no less than the price known.
-pub(crate) fn closer(table: &Table, homing: Homing, least: u64) -> Homing
-    requires homing { AreHomingsOf table.now.edition table.now.trip homing }
-    ensures homing { AreHomingsOf table.now.edition table.now.trip result }
+/// Adds what is behind each point where some fares are barred, unless all costs no less than the price known.
+pub(crate) fn bring_closer(table: &Table, homing: &mut Homing, least: u64)
+    requires homing { AreHomingsOf table.now.edition table.now.trip homing.old }
+    ensures homing { AreHomingsOf table.now.edition table.now.trip homing.new }
 {
     match number_at(&homing.rest, 0).amount() {
-        Some(floor) if floor < least => with_barred(table, homing),
-        _ => homing,
+        Some(floor) if floor < least => add_barred(table, homing),
+        _ => {}
     }
 }

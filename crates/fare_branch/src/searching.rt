@@ -10,14 +10,14 @@ ghost use Rattle.fare_branch.specs.Sought.{IsWalk};
 
 use crate::best_so_far::{BestSoFar, Found};
 use crate::bound::Bound;
-use crate::opening::{closer, dives, raised};
+use crate::opening::{bring_closer, dives, raise};
 use crate::pieces::{Counts, Piece, choice, choices, counts_of};
 use crate::seeker::Seeker;
 use crate::walking::follow;
 use fare_bounds::Rest;
 use fare_component::Table;
 use fare_floors::{Partial, Stage, ahead_of, floor_ahead, stack_of};
-use fare_homing::Homing;
+use fare_homing::{Homing, homing_of};
 use fare_rules::Part;
 use fare_units::Construction;
 
@@ -34,9 +34,11 @@ pub fn search<B: Bound>(
     ensures fixed { B.fixed bound.new ≡ B.fixed bound.old }
     ensures searched { IsSearched table.now.edition table.now.trip piece (B.least bound.new) result }
 {
-    let (homing, first) = dives(table, piece, bound);
+    let mut homing = homing_of(table, None);
+    let first = dives(table, &mut homing, piece, bound);
     let known = bound.seen();
-    let homing = closer(table, raised(table, homing, known), known);
+    raise(table, &mut homing, known);
+    bring_closer(table, &mut homing, known);
     let mut best = BestSoFar { found: first };
     walk_piece(table, &homing, piece, &mut best, bound);
     let least = bound.seen();

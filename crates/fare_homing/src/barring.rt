@@ -132,16 +132,16 @@ fn onwards_of(table: &Table, homing: &Homing) -> Option<Onwards>
     Some(onwards)
 }
 
-/// The same homing with what is behind each point where some fares are barred, for the sets of rules that the parts
-/// before it may bar.
-pub fn with_barred(table: &Table, mut homing: Homing) -> Homing
-    requires { AreHomingsOf table.now.edition table.now.trip homing }
-    ensures homings { AreHomingsOf table.now.edition table.now.trip result }
-    ensures ceiling { result.ceiling ≡ homing.ceiling }
-    ensures rest { result.rest ≡ homing.rest }
+/// Adds to a homing what is behind each point where some fares are barred, for the sets of rules that the parts before
+/// it may bar.
+#[inline(never)]
+pub fn add_barred(table: &Table, homing: &mut Homing)
+    requires { AreHomingsOf table.now.edition table.now.trip homing.old }
+    ensures homings { AreHomingsOf table.now.edition table.now.trip homing.new }
+    ensures ceiling { homing.new.ceiling ≡ homing.old.ceiling }
+    ensures rest { homing.new.rest ≡ homing.old.rest }
 {
-    if let Some(onwards) = onwards_of(table, &homing) {
+    if let Some(onwards) = onwards_of(table, homing) {
         homing.onwards = onwards;
     }
-    homing
 }

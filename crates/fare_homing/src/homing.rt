@@ -134,6 +134,7 @@ pub fn lie_near(table: &Table, homing: &Homing, a: usize, b: usize) -> bool
 
 /// The numbers of a trip with the countries of its points and its lonely fares, of which no other is known but that
 /// nothing is behind the end.
+#[inline(never)]
 fn unknown(
     count: usize,
     countries: [Option<Country>; MOST_POINTS],
@@ -165,7 +166,9 @@ fn unknown(
     }
 }
 
-/// The homing of the trip of a table, under a ceiling where a price is given.
+/// The homing of the trip of a table, under a ceiling where a price is given. Its numbers fill many pages, and each copy
+/// that a caller holds is as much of the time of a short trip, so it is inlined nowhere.
+#[inline(never)]
 pub fn homing_of(table: &Table, price: Option<u64>) -> Homing
     ensures homings { AreHomingsOf table.now.edition table.now.trip result }
     ensures ceiling { IfSome result.ceiling (λ ceiling. price ≡ Some ceiling.price) }
@@ -187,4 +190,13 @@ pub fn homing_of(table: &Table, price: Option<u64>) -> Homing
     }
     homing.onwards = without_barred(&homing.rest);
     homing
+}
+
+/// Makes a homing anew under a ceiling at a price.
+#[inline(never)]
+pub fn remake(homing: &mut Homing, table: &Table, price: u64)
+    ensures homings { AreHomingsOf table.now.edition table.now.trip homing.new }
+    ensures ceiling { IfSome homing.new.ceiling (λ ceiling. ceiling.price ≡ price) }
+{
+    *homing = homing_of(table, Some(price));
 }

@@ -42,10 +42,12 @@ mod standing;
 mod steps;
 mod whole;
 
-pub use barring::with_barred;
+pub use barring::add_barred;
 pub use ceiling::Ceiling;
 pub use floor::{Floor, GREATEST_FLOOR, NOTHING, added, greater, lesser, number_at, paid_with};
-pub use homing::{Homing, Standing, begun_from, cell, closing_from, homing_of, jaw_from, lie_near};
+pub use homing::{
+    Homing, Standing, begun_from, cell, closing_from, homing_of, jaw_from, lie_near, remake,
+};
 pub use lonely::{MOST_LONELY, is_rule_of, rule_at};
 pub use nearness::are_near;
 pub use onward::{MOST_RULES, MOST_SETS, Onward, Onwards, next_set};

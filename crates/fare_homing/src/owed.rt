@@ -3,6 +3,7 @@
 
 ghost use Rattle.std.specs.Prelude.{◌≡◌, ℕ, ◌<◌, ◌≤◌, true, false};
 ghost use Rattle.fare_trip.specs.Itinerary.{count};
+ghost use Rattle.fare_rules.specs.Indicator.{indicator};
 ghost use Rattle.fare_bounds.specs.Covers.{rest_at};
 ghost use Rattle.fare_component.specs.Table.{entries_of};
 ghost use Rattle.fare_homing.specs.Homing.{IsUpTo, is_same_city};
@@ -11,16 +12,17 @@ ghost use Rattle.fare_homing.specs.Owed.{AreOwed, owed_above, owed_by, reference
 
 use crate::floor::{Floor, NOTHING, greater, lesser, number_at};
 use crate::legs::half_cost;
-use fare_codes::Nuc;
+use fare_codes::{Indicator, Nuc};
 use fare_component::{Entry, Table};
 use fare_points::{indicator, reference};
 use fare_rules::MOST_POINTS;
 use fare_trip::Trip;
 
-/// The reference of a fare over a span, from the city where that begins to the one where it ends.
-fn reference_over(table: &Table, a: usize, b: usize, number: u32) -> Option<Nuc>
+/// The reference of a fare over a span of an indicator, from the city where that begins to the one where it ends.
+fn reference_over(table: &Table, a: usize, b: usize, ind: Indicator, number: u32) -> Option<Nuc>
     requires rises { a < b }
     requires within { b ≤ count table.now.trip }
+    requires ind { ind ≡ indicator table.now.edition table.now.trip a b }
     ensures { result ≡ reference_over table.now.edition table.now.trip a b number }
 {
     let (edition, trip) = (table.edition(), table.trip());
@@ -30,7 +32,6 @@ fn reference_over(table: &Table, a: usize, b: usize, number: u32) -> Option<Nuc>
         return None;
     };
     let on = trip.sector(a + 1).day;
-    let ind = indicator(edition, trip, a, b);
     reference(edition, trip.point(a), trip.point(b), ind, fare, on)
 }
 
@@ -46,14 +47,15 @@ fn owed_above(out: u64, reference: Option<Nuc>) -> u64
 }
 
 /// What a unit owes behind a first part with an entry of a span; nothing where that can't be one.
-fn owed_by(table: &Table, a: usize, b: usize, entry: &Entry) -> Option<u64>
+fn owed_by(table: &Table, a: usize, b: usize, ind: Indicator, entry: &Entry) -> Option<u64>
     requires rises { a < b }
     requires within { b ≤ count table.now.trip }
+    requires ind { ind ≡ indicator table.now.edition table.now.trip a b }
     ensures { result ≡ owed_by table.now.edition table.now.trip a b entry.now }
 {
     match half_cost(entry, &entry.out) {
         None => None,
-        Some(out) => Some(owed_above(out, reference_over(table, a, b, entry.fare))),
+        Some(out) => Some(owed_above(out, reference_over(table, a, b, ind, entry.fare))),
     }
 }
 
@@ -64,9 +66,10 @@ fn least_owed(table: &Table, a: usize, b: usize) -> Floor
     ensures { IsUnderEach (owed_by table.now.edition table.now.trip a b)
         (entries_of table.now.edition table.now.trip a b) result }
 {
+    let ind = indicator(table.edition(), table.trip(), a, b);
     let mut least = NOTHING;
     for entry in table.entries(a, b) {
-        least = lesser(least, Floor::of(owed_by(table, a, b, entry)));
+        least = lesser(least, Floor::of(owed_by(table, a, b, ind, entry)));
     }
     least
 }

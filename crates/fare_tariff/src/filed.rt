@@ -3,6 +3,7 @@
 ghost use Rattle.std.specs.Prelude.{◌≡◌, ◌+◌, ◌<◌, true, find, map, IfOk, IfSome, OnOk, length, drop, slice_index_or};
 ghost use Rattle.std.specs.List.{AllZip, list_all, position_from};
 ghost use Rattle.std.specs.Option.{option_copied};
+ghost use Rattle.fare_index.specs.Key.{same_key};
 ghost use Rattle.fare_tariff.specs.declared.records.record.Record.{Record};
 ghost use Rattle.fare_tariff.specs.Check.{has_amount_in_range};
 ghost use Rattle.fare_codes.specs.declared.nuc.TheConstants.{FARE_LIMIT};
@@ -77,7 +78,7 @@ impl Filed {
     {
         match self.records.get(place) {
             None => false,
-            Some(one) => own_key(one) == *key,
+            Some(one) => has_key(one, key),
         }
     }
 
@@ -154,6 +155,16 @@ pub fn own_key(one: &Record) -> Key
         Record::Mpm(r) => Key::permitted(r.from, r.to, r.ind),
         Record::Tpm(r) => Key::ticketed(r.from, r.to),
         Record::Ema(r) => Key::extra(r.from, r.to, r.ind, r.via),
+    }
+}
+
+/// Whether a record has a key. A search looks up rules again and again, so of a rule its id alone is compared.
+fn has_key(one: &Record, key: &Key) -> bool
+    ensures { result ≡ same_key (own_key one.now) key.now }
+{
+    match (one, key) {
+        (Record::Rule(filed), Key::Rule(id)) => filed.rule().id.is(*id),
+        _ => own_key(one) == *key,
     }
 }
 

@@ -4,7 +4,7 @@ ghost use Rattle.std.specs.Prelude.{◌≡◌, ◌+◌, ◌*◌, ◌%◌, ◌^�
 ghost use Rattle.std.specs.List.{fold};
 ghost use Rattle.fare_tariff.specs.Spelling.{spelled_rule};
 
-use fare_codes::RuleId;
+use fare_codes::{City, RuleId};
 use fare_index::Key;
 use fare_outside::NoMemory;
 use std::alloc::Global;
@@ -14,11 +14,17 @@ use std::hash::{Hash, Hasher};
 /// many as it has records.
 const MOST_SLOTS: usize = 32_768;
 
+/// A short edition has as many, so that few of its rules share a slot with another or with a city.
+const FEWEST_SLOTS: usize = 512;
+
 /// How many bits of a slot's number three letters fill.
 const SLOT_BITS: u32 = 15;
 
 /// The numbers of letters differ by less than this.
 const LETTERS: u64 = 32;
+
+/// An odd number near 2^64 divided by the golden ratio: in a product with it each bit of a number counts in the first.
+const MIXING: u64 = 0x9E37_79B9_7F4A_7C15;
 
 /// A place for each slot, of which a city or a rule has one. One that shares its slot is found by its key.
 #[derive(Drop)]
@@ -63,28 +69,42 @@ pub(crate) fn spelled_rule(id: RuleId) -> u64
     spelling.finish()
 }
 
-/// The number that the letters of a key spell; nothing where it is neither a city's nor a rule's.
-fn spelled(key: &Key) -> Option<u64> {
+/// The number that the letters of a city spell.
+fn spelled_city(city: City) -> u64 {
     let mut spelling = Spelling { number: 0 };
-    match key {
-        Key::City(city) => city.hash(&mut spelling),
-        Key::Rule(id) => return Some(spelled_rule(*id)),
-        _ => return None,
-    }
-    Some(spelling.finish())
+    city.hash(&mut spelling);
+    let number = spelling.finish();
+    number ^ (number >> SLOT_BITS)
 }
 
-/// The slot of a number among so many, a power of two. The letters of a rule before its last three count too.
+/// The first bits of a number that is mixed: short ids have zeros behind them, so their last bits are the same.
+fn mixed(number: u64) -> u64 {
+    number.wrapping_mul(MIXING) >> (u64::BITS - SLOT_BITS)
+}
+
+/// The number by which the slot of a key is found; nothing where it is neither a city's nor a rule's.
+fn spelled(key: &Key) -> Option<u64> {
+    match key {
+        Key::City(city) => Some(spelled_city(*city)),
+        Key::Rule(id) => Some(mixed(spelled_rule(*id))),
+        _ => None,
+    }
+}
+
+/// The slot of a number among so many, a power of two.
 fn slot_of(number: u64, slots: usize) -> usize {
-    let folded = number ^ (number >> SLOT_BITS) ^ (number >> (2 * SLOT_BITS));
-    folded as usize & (slots.max(1) - 1)
+    number as usize & (slots.max(1) - 1)
 }
 
 impl Guesses {
     /// The places of the cities and the rules among the keys of some records. Places that don't fit 32 bits are left
     /// out.
     pub(crate) fn of(alloc: Global, keys: &[Key]) -> Result<Guesses, NoMemory> {
-        let slots = keys.len().min(MOST_SLOTS).next_power_of_two();
+        let slots = keys
+            .len()
+            .max(FEWEST_SLOTS)
+            .min(MOST_SLOTS)
+            .next_power_of_two();
         let mut places = vec![in alloc; 0; slots]?;
         for (place, key) in (0..u32::MAX).zip(keys.iter()) {
             if let Some(number) = spelled(key) {
