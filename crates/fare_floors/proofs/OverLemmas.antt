@@ -34,7 +34,8 @@ use Rattle.fare_floors.proofs.UnitLemmas.{all, own_has, unit_in, alone_in, holds
 use Rattle.fare_floors.proofs.GoesOnLemmas.{first_member, going_on, goes_not, goes_on_from, on_same, none_above, home_behind, own_first, own_last, own_two, two_ends}
 use Rattle.fare_floors.proofs.NearLemmas.{EndsBy, unit_ends_by}
 use Rattle.fare_homing.specs.Pairs.{HasPair}
-use Rattle.fare_floors.proofs.PairLemmas.{pair_of}
+use Rattle.fare_homing.specs.Threes.{IsOneOfThree}
+use Rattle.fare_floors.proofs.PairLemmas.{pair_of, third_of}
 use Rattle.fare_floors.proofs.OnwardLemmas.{ends_rise, must_close_from, closed_whole, ends_home, either_left, either_right}
 use Rattle.fare_floors.specs.Costs.{true_cost}
 use Rattle.fare_floors.specs.Stack.{goes_on, has_more, own_to, stand_of, IsOver, LastsBy}
@@ -505,10 +506,11 @@ module _ (tariff : Tariff) (trip : Itinerary) (parts : List Part) (price : ℕ) 
             let origin_there : point trip home ≡ point trip (begins_at trip parts (unit_of parts (k + 1))) = (bytes_eq-Decides (point trip home) (point trip (begins_at trip parts (unit_of parts (k + 1))))).0 city in
             let C : ℕ → Type 0 = λ a. below_ceiling tariff trip ceiling a home (end_of parts (k + 1)) (between_cost (heads_to tariff trip a (end_of parts (k + 1)) home)) (entry tariff trip parts price lawful (k + 1)) ≡ Some (true_cost tariff trip parts (k + 1)) in
             let cost : C (begin_after trip (point_behind parts k)) = subst C (sym (begins_next k high)) (below_every tariff trip parts price lawful (k + 1) (omega arith) high none_ow long less ceiling alike cheap home origin_there (between_cost (heads_to tariff trip (start_of trip parts (k + 1)) (end_of parts (k + 1)) home)) (entry tariff trip parts price lawful (k + 1)) refl (true_cost tariff trip parts (k + 1)) (between_costs tariff trip parts price lawful (k + 1) (omega arith) high way less home origin_there)) in
+            let third : IsOneOfThree tariff trip (part_at parts (k + 1)).fare = third_of tariff trip parts price lawful (unit_of parts (k + 1)) mine_low mine_high (omega arith) (k + 1) (own_has tariff trip parts price lawful (k + 1) (omega arith) high) first less in
             let stand : ℕ = stand_of parts k (unit_of parts (k + 1)) in
             let elsewhere : is_same_city trip home (end_of parts (k + 1)) ≡ false = ends_apart (unit_of parts (k + 1)) (k + 1) mine_low mine_high long (own_has tariff trip parts price lawful (k + 1) (omega arith) high) less city in
             let up : IsUpTo (true_cost tariff trip parts (k + 1) + c.0) (closing_by (has_more parts k (unit_of parts (k + 1))) begun closing stand (point_behind parts k) home) =
-            between_under are.homings (has_more parts k (unit_of parts (k + 1))) stand (point_behind parts k) (end_of parts (k + 1)) home (entry tariff trip parts price lawful (k + 1)) (true_cost tariff trip parts (k + 1)) c.0 (stand_before first) (there_between first long) contained cost h.0 h.1 elsewhere closes in
+            between_under are.homings (has_more parts k (unit_of parts (k + 1))) stand (point_behind parts k) (end_of parts (k + 1)) home (entry tariff trip parts price lawful (k + 1)) (true_cost tariff trip parts (k + 1)) c.0 (stand_before first) (there_between first long) contained cost third h.0 h.1 elsewhere closes in
             let here : goes_on parts k (unit_of parts (k + 1)) ≡ true = goes_on_from parts k (unit_of parts (k + 1)) (omega arith) (omega arith) in
             let o : Stands k (unit_of parts (k + 1)) (point_behind parts k) ((true_cost tariff trip parts (k + 1) + c.0) + c.1) = from_open tariff trip begun closing jaw left parts k (unit_of parts (k + 1)) (point_behind parts k) (true_cost tariff trip parts (k + 1) + c.0) c.1 mine_low here (from_city (has_more parts k (unit_of parts (k + 1))) stand (begins_at trip parts (unit_of parts (k + 1))) (point_behind parts k) (home_at parts (unit_of parts (k + 1))) (true_cost tariff trip parts (k + 1) + c.0) city up) (under_same (home_at parts (unit_of parts (k + 1))) c.1 c.4)
             (lasts_more tariff trip parts (last_of (own parts (unit_of parts (k + 1)))) (point_behind parts k) (end_of parts (k + 1)) c.0 (true_cost tariff trip parts (k + 1) + c.0) (omega arith) (omega arith) c.5) in

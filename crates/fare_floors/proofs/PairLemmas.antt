@@ -16,12 +16,13 @@ use Rattle.fare_rules.proofs.MemberLemmas.{Member, member_numbers}
 use Rattle.fare_rules.proofs.NumberLemmas.{find_none}
 use Rattle.fare_homing.specs.Barred.{is_barred}
 use Rattle.fare_homing.specs.Pairs.{HasPair, are_mates, days_between, may_pair}
+use Rattle.fare_homing.specs.Threes.{IsFlown, IsOneOfThree}
 use Rattle.fare_floors.specs.Costs.{true_cost}
 use Rattle.fare_floors.proofs.GoesOnLemmas.{first_member, last_member, not_so}
 use Rattle.fare_floors.proofs.ShutLemmas.{any_at, both_true}
 use Rattle.fare_floors.proofs.SumLemmas.{kept_member}
 use Rattle.fare_floors.proofs.TrueCostLemmas.{back_costs, entry, entry_there, first_costs}
-use Rattle.fare_floors.proofs.UnitLemmas.{alone_in}
+use Rattle.fare_floors.proofs.UnitLemmas.{all, alone_in}
 
 true_false : true ≡ false → ⊥
 true_false e = cc
@@ -85,13 +86,51 @@ module _ (tariff : Tariff) (trip : Itinerary) (parts : List Part) (price : ℕ) 
   pub last_half : is_ow tariff parts last ≡ false
   last_half = half last last_in
 
-  -- its last part combines with the earlier ones
-  pub fits : has_misfit tariff parts last ≡ false
+  -- each part combines with the earlier ones
+  fits_at : (k : ℕ) → Member k (own parts unit) → has_misfit tariff parts k ≡ false
   unfolding misfitted
-  fits =
-      not_so (has_misfit tariff parts last) (λ t.
-      true_false (sym (any_at (has_misfit tariff parts) last (own parts unit) last_in t)
+  fits_at k m =
+      not_so (has_misfit tariff parts k) (λ t.
+      true_false (sym (any_at (has_misfit tariff parts) k (own parts unit) m t)
       ∙ find_none (is_misfitted tariff parts) 1 (greatest_unit parts (places parts) + 1) (kept tariff trip parts price lawful).combine unit from_one (omega (arith, high))))
+
+  pub fits : has_misfit tariff parts last ≡ false
+  fits = fits_at last last_in
+
+  mates_of : (j k : ℕ) → Member j (own parts unit) → Member k (own parts unit) → j < k → are_unit_mates tariff parts j k ≡ true
+  mates_of j k m n less =
+      let one = own_place parts unit j m in
+      let other = own_place parts unit k n in
+      let agree : is_misfit tariff parts k j ≡ false =
+      not_so (is_misfit tariff parts k j) (λ t. true_false (sym (any_at (is_misfit tariff parts k) j (numbers 1 k) (member_numbers 1 k j one.0 less) t) ∙ fits_at k n)) in
+      so_true (are_unit_mates tariff parts j k) (second_false _ (not (are_unit_mates tariff parts j k)) (eq-eqb (unit_of parts k) (unit_of parts j) (other.2 ∙ sym one.2)) agree)
+
+  -- and its fare has an amount on the trip
+  flown : (k : ℕ) → Member k (own parts unit) → IsFlown tariff trip (part_at parts k).fare
+  flown k m =
+      let place = own_place parts unit k m in
+      let cover = all tariff trip parts price lawful in
+      record {
+        a = start_of trip parts k;
+        b = end_of parts k;
+        rises = cover.above k place.0 place.1;
+        within = cover.within k place.0 place.1;
+        entry = entry tariff trip parts price lawful k;
+        there = entry_there tariff trip parts price lawful k place.0 place.1;
+        fare = refl;
+      }
+
+  -- so that of a part between is one of three
+  pub third_of : (k : ℕ) → Member k (own parts unit) → first < k → k < last → IsOneOfThree tariff trip (part_at parts k).fare
+  third_of k m begun less = record {
+    before = (part_at parts first).fare;
+    behind = (part_at parts last).fare;
+    flown_before = flown first first_in;
+    flown_behind = flown last last_in;
+    with_before = mates_of first k first_in m begun;
+    with_behind = mates_of k last m last_in less;
+    apart = mates_of first last first_in last_in two;
+  }
 
   -- and the rule of each part allows the stay
   pub allows : (k : ℕ) → Member k (own parts unit) → forbids_stay tariff parts (stay trip parts (own parts unit)) k ≡ false
@@ -103,11 +142,7 @@ module _ (tariff : Tariff) (trip : Itinerary) (parts : List Part) (price : ℕ) 
       not_so (forbids_stay tariff parts (stay trip parts (own parts unit)) k) (λ t. true_false (sym (any_at (forbids_stay tariff parts (stay trip parts (own parts unit))) k (own parts unit) m t) ∙ none))
 
   mates : are_unit_mates tariff parts first last ≡ true
-  mates =
-      let less : first_of (own parts unit) < last_of (own parts unit) = two in
-      let agree : is_misfit tariff parts last first ≡ false =
-      not_so (is_misfit tariff parts last first) (λ t. true_false (sym (any_at (is_misfit tariff parts last) first (numbers 1 last) (member_numbers 1 last first first_place.0 less) t) ∙ fits)) in
-      so_true (are_unit_mates tariff parts first last) (second_false _ (not (are_unit_mates tariff parts first last)) (eq-eqb (unit_of parts last) (unit_of parts first) (last_place.2 ∙ sym first_place.2)) agree)
+  mates = mates_of first last first_in last_in two
 
   agree : are_mates tariff (days_between trip (start_of trip parts first) (start_of trip parts last)) (part_at parts first).fare (part_at parts last).fare ≡ true
   unfolding stay

@@ -48,11 +48,11 @@ module _ (tariff : Tariff) (trip : Itinerary) (homing : Homing) (p : ℕ) (befor
     (wholes_here : AreWholes tariff trip [] (begun_from homing) (jaw_from homing) p (rest_at row)) (onward_here : IsOnward trip (rest_at row) (rest_at homing.rest) p number) where
   -- the whole units and the rest of the point are put
   abbrev pub half : Homing
-  half = record { standing = homing.standing; whole = set homing.whole p row; rest = set homing.rest p number; countries = homing.countries; lonely = homing.lonely; ceiling = homing.ceiling; onwards = homing.onwards }
+  half = record { standing = homing.standing; whole = set homing.whole p row; rest = set homing.rest p number; countries = homing.countries; lonely = homing.lonely; of_two = homing.of_two; ceiling = homing.ceiling; onwards = homing.onwards }
 
   -- and what is behind each point for a unit that stands there
   abbrev pub all : Homing
-  all = record { standing = set homing.standing p new; whole = set homing.whole p row; rest = set homing.rest p number; countries = homing.countries; lonely = homing.lonely; ceiling = homing.ceiling; onwards = homing.onwards }
+  all = record { standing = set homing.standing p new; whole = set homing.whole p row; rest = set homing.rest p number; countries = homing.countries; lonely = homing.lonely; of_two = homing.of_two; ceiling = homing.ceiling; onwards = homing.onwards }
 
   this_whole : (j : ℕ) → cell (set homing.whole p row) p j ≡ rest_at row j
   this_whole j = ap (λ (xs : List (Option ℕ)). slice_index_or xs j None) (get_or-set_same homing.whole p row [] long_whole)

@@ -80,7 +80,7 @@ module _ (tariff : Tariff) (trip : Itinerary) where
       → IsPart tariff trip (below_ceiling tariff trip ceiling a home b (between_cost (heads_in countries a b home))) a b x
   between_same countries ceiling a b home x are low mid high part =
       let P : Bool → Type 0 = λ heads. IsPart tariff trip (below_ceiling tariff trip ceiling a home b (between_cost heads)) a b x in
-      subst P (heads_same tariff trip countries a b home are low mid high) part
+      subst P (heads_same tariff trip countries a b home are low mid high) part.part
 
   -- without a ceiling it costs no less than the least of the parts of its way
   pub step_up : (countries : List (Option Country)) (a b home x : ℕ) (first last : Option ℕ) → AreCountries tariff trip countries → a ≤ count trip → b ≤ count trip → home ≤ count trip
@@ -126,7 +126,7 @@ pub closings_same : (tariff : Tariff) (trip : Itinerary) (ceiling : Option Ceili
 closings_same tariff trip ceiling worth after new_after whole new_whole stays new_stays stand i row new afters wholes same here are = record {
   last = λ j x is. subst (IsUpTo x) (sym (here j)) (are.last j x is);
   between = λ b j x y city part less apart within up.
-      let rises = part_after tariff trip (below_ceiling tariff trip ceiling (begin_after trip i) j b (between_cost (heads_to tariff trip (begin_after trip i) b j))) i b x part in
+      let rises = part_after tariff trip (below_ceiling tariff trip ceiling (begin_after trip i) j b (between_cost (heads_to tariff trip (begin_after trip i) b j))) i b x part.part in
       subst (IsUpTo (x + y)) (sym (here j)) (are.between b j x y city part less apart within (subst (IsUpTo y) (afters b j rises.0) up));
   nested = under_same whole new_whole stays new_stays i row new wholes same here are.nested;
 }

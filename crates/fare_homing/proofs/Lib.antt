@@ -9,3 +9,4 @@ pub mod RestLemmas
 pub mod BarringLemmas
 pub mod LinkLemmas
 pub mod OwedLemmas
+pub mod ThreeLemmas

@@ -12,6 +12,7 @@ use Rattle.fare_homing.specs.Ceiling.{below_ceiling}
 use Rattle.fare_homing.specs.Homing.{IsUpTo, single_cost, first_cost, between_cost, back_cost, closing_by, heads_to, may_end_at, is_same_city, homing_at}
 use Rattle.fare_homing.specs.HomingRows.{AreHomings, AreRests, IsBetween, IsLast, IsPart, IsSecond}
 use Rattle.fare_homing.specs.Pairs.{HasPair}
+use Rattle.fare_homing.specs.Threes.{IsOneOfThree}
 use Rattle.fare_homing.proofs.HomingRowLemmas.{part_after}
 
 module _ {tariff : Tariff} {trip : Itinerary} {ceiling : Option Ceiling} {begun closing jaw : ℕ → ℕ → ℕ → Option ℕ} {whole : ℕ → ℕ → Option ℕ} {left : ℕ → Option ℕ} (are : AreHomings tariff trip ceiling begun closing jaw whole left) where
@@ -29,10 +30,10 @@ module _ {tariff : Tariff} {trip : Itinerary} {ceiling : Option Ceiling} {begun 
       (are.wholes i (omega (arith, after.0, after.1))).first b j cost behind all ends part less later sum pair
 
   pub between_under : (more : Bool) (c i b j : ℕ) (entry : Entry) (cost behind : ℕ) → c ≤ i → is_same_city trip c (begin_after trip i) ≡ true → Contains (entries_of tariff trip (begin_after trip i) b) entry
-      → below_ceiling tariff trip ceiling (begin_after trip i) j b (between_cost (heads_to tariff trip (begin_after trip i) b j)) entry ≡ Some cost → b < j → j ≤ count trip → is_same_city trip j b ≡ false → IsUpTo behind (closing b b j) → IsUpTo (cost + behind) (closing_by more begun closing c i j)
-  between_under more c i b j entry cost behind low stands there e less within apart later =
-      let part : IsBetween tariff trip ceiling (begin_after trip i) j b cost = record { entry = entry; there = there; costs = e } in
-      let after = part_after tariff trip (below_ceiling tariff trip ceiling (begin_after trip i) j b (between_cost (heads_to tariff trip (begin_after trip i) b j))) i b cost part in
+      → below_ceiling tariff trip ceiling (begin_after trip i) j b (between_cost (heads_to tariff trip (begin_after trip i) b j)) entry ≡ Some cost → IsOneOfThree tariff trip entry.fare → b < j → j ≤ count trip → is_same_city trip j b ≡ false → IsUpTo behind (closing b b j) → IsUpTo (cost + behind) (closing_by more begun closing c i j)
+  between_under more c i b j entry cost behind low stands there e third less within apart later =
+      let part : IsBetween tariff trip ceiling (begin_after trip i) j b cost = record { part = record { entry = entry; there = there; costs = e }; third = third } in
+      let after = part_after tariff trip (below_ceiling tariff trip ceiling (begin_after trip i) j b (between_cost (heads_to tariff trip (begin_after trip i) b j))) i b cost part.part in
       by_more more part (omega (arith, after.0, after.1))
     where
       by_more : (more : Bool) → IsBetween tariff trip ceiling (begin_after trip i) j b cost → i < count trip → IsUpTo (cost + behind) (closing_by more begun closing c i j)

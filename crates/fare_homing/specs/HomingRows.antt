@@ -13,16 +13,18 @@ use Rattle.fare_homing.specs.Homing.{IsUpTo, homing_at, is_same_city, may_go_on}
 use Rattle.fare_homing.specs.Least.{IsCost}
 use Rattle.fare_homing.specs.Owed.{IsOwed}
 use Rattle.fare_homing.specs.Pairs.{HasPair}
+use Rattle.fare_homing.specs.Threes.{IsOneOfThree}
 
 -- what a part from a point to another costs, by what it is in its unit
 abbrev pub IsPart : Tariff → Itinerary → (Entry → Option ℕ) → ℕ → ℕ → ℕ → Type 0
 IsPart tariff trip cost_of a b = IsCost cost_of (entries_of tariff trip a b)
 
 -- what a part between from a point costs by where it ends, in a unit that closes at another point, where it isn't too
--- dear for a ceiling
-abbrev pub IsBetween : Tariff → Itinerary → Option Ceiling → ℕ → ℕ → ℕ → ℕ → Type 0
-IsBetween tariff trip ceiling a home b =
-    IsPart tariff trip (below_ceiling tariff trip ceiling a home b (between_cost (heads_to tariff trip a b home))) a b
+-- dear for a ceiling; its fare is then one of three in a unit
+pub record IsBetween (tariff : Tariff) (trip : Itinerary) (ceiling : Option Ceiling) (a home b cost : ℕ) : Type 0 where
+  pub part : IsPart tariff trip (below_ceiling tariff trip ceiling a home b (between_cost (heads_to tariff trip a b home)))
+      a b cost
+  pub third : IsOneOfThree tariff trip part.entry.fare
 
 -- numbers are under what one unit costs that begins behind a point, by the point where it ends: a part alone in it; or
 -- the unit's first and last part, which may pair, with all that is between them, from the city where the first ends;

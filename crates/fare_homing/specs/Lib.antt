@@ -2,6 +2,7 @@ pub use Rattle.fare_component.specs.Table
 pub use Rattle.fare_bounds.specs.Covers
 pub mod Barred
 pub mod Barring
+pub mod Between
 pub mod Ceiling
 pub mod Floor
 pub mod Homing
@@ -13,3 +14,4 @@ pub mod Legs
 pub mod Lonely
 pub mod Onward
 pub mod Rows
+pub mod Threes

@@ -12,6 +12,7 @@ use Rattle.fare_homing.specs.Ceiling.{IsCeiling}
 use Rattle.fare_homing.specs.HomingRows.{AreHomings}
 use Rattle.fare_homing.specs.Lonely.{AreLonely}
 use Rattle.fare_homing.specs.Onward.{AreOnwards}
+use Rattle.fare_homing.specs.Threes.{AreOfTwo}
 
 -- a number by its two points; none where there is no such row or place
 abbrev pub cell : List (List (Option ℕ)) → ℕ → ℕ → Option ℕ
@@ -39,8 +40,8 @@ AreCountries tariff trip countries =
     (i : ℕ) → i ≤ count trip → slice_index_or countries i None ≡ country tariff (point trip i)
 
 -- the numbers of a trip are no more than what its parts cost under a ceiling that is one of it, its countries are those
--- of its points, its lonely fares have rules that combine with no fare of their own, and so are its numbers by what is
--- barred
+-- of its points, its lonely fares have rules that combine with no fare of their own, of none of its fares of two may one
+-- that has its rule be one of three in a unit, and its numbers by what is barred are no more either
 pub record AreHomingsOf (tariff : Tariff) (trip : Itinerary) (homing : Homing) : Type 0 where
   pub known : AreHomings tariff trip homing.ceiling (begun_from homing) (closing_from homing) (jaw_from homing)
       (cell homing.whole) (rest_at homing.rest)
@@ -48,6 +49,7 @@ pub record AreHomingsOf (tariff : Tariff) (trip : Itinerary) (homing : Homing) :
   pub lonely : AreLonely tariff homing.lonely
   pub onwards : AreOnwards tariff trip (begun_from homing) (jaw_from homing) homing.onwards
   pub ceiling : IsCeiling tariff trip homing.ceiling
+  pub of_two : AreOfTwo tariff trip homing.of_two
 
 -- the country of a point among those of a trip's points
 abbrev pub country_at : List (Option Country) → ℕ → Option Country

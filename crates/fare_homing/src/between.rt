@@ -1,19 +1,21 @@
 //! Parts between the first and the last of a unit: what is behind a point until a unit closes, by one that comes next.
 
-ghost use Rattle.std.specs.Prelude.{◌≡◌, ℕ, ◌+◌, ◌<◌, ◌≤◌, List, [], Some, false};
+ghost use Rattle.std.specs.Prelude.{◌≡◌, ℕ, ◌+◌, ◌<◌, ◌≤◌, List, [], Some, false, if◌then◌else◌};
 ghost use Rattle.fare_trip.specs.Itinerary.{count};
 ghost use Rattle.fare_bounds.specs.Covers.{rest_at};
 ghost use Rattle.fare_component.specs.Table.{entries_of};
-ghost use Rattle.fare_homing.specs.Ceiling.{below_ceiling};
 ghost use Rattle.fare_homing.specs.Homing.{IsUpTo, between_cost, is_same_city};
 ghost use Rattle.fare_homing.specs.HomingRows.{IsBetween};
 ghost use Rattle.fare_homing.specs.Least.{IsUnderEach};
 ghost use Rattle.fare_rules.specs.Shape.{is_same_country};
 ghost use Rattle.fare_rules.specs.Construction.{begin_after};
 ghost use Rattle.fare_homing.specs.Legs.{AreLegsBehind, AreLegsOf};
+ghost use Rattle.fare_homing.specs.Between.{cost_within};
 ghost use Rattle.fare_homing.specs.Rows.{closing_from, country_at, heads_in, AreCountries};
+ghost use Rattle.fare_homing.specs.Threes.{AreOfTwo};
 
-use crate::ceiling::{Ceiling, is_too_dear};
+use crate::barred::{is_barred, unless};
+use crate::ceiling::is_too_dear;
 use crate::floor::{Floor, NOTHING, added, lesser, number_at};
 use crate::homing::{Homing, closing_from};
 use crate::legs::{LegRows, half_cost};
@@ -96,48 +98,93 @@ fn between_cost(entry: &Entry, heads: bool) -> Option<u64>
     }
 }
 
-/// What a part between costs at least that ends at a point, where its unit closes at another, of the parts that aren't
-/// too dear for a ceiling.
-fn least_below(table: &Table, ceiling: Ceiling, start: &Start, home: usize, b: usize) -> Floor
-    requires start { start.now.point < MOST_POINTS }
-    requires rises { start.now.point < b }
-    requires end { b ≤ count table.now.trip }
-    requires home { home ≤ count table.now.trip }
-    ensures { IsUnderEach (below_ceiling table.now.edition table.now.trip (Some ceiling) start.now.point home b
-        (between_cost (heads_in start.now.countries.now start.now.point b home)))
-        (entries_of table.now.edition table.now.trip start.now.point b) result }
+/// A part between from a point to another, in a unit that closes at a third.
+#[derive(Clone, Copy)]
+pub(crate) struct Between {
+    pub(crate) start: usize,
+    pub(crate) end: usize,
+    pub(crate) home: usize,
+    /// Whether it heads home.
+    pub(crate) heads: bool,
+}
+
+/// What a part between costs with an entry, where its fare may be one of three in a unit and isn't too dear for a
+/// ceiling.
+fn cost_within(table: &Table, homing: &Homing, between: Between, entry: &Entry) -> Option<u64>
+    requires rises { between.start < between.end }
+    requires end { between.end ≤ count table.now.trip }
+    requires home { between.home ≤ count table.now.trip }
+    ensures { result ≡ cost_within table.now.edition table.now.trip homing.now.of_two homing.now.ceiling between
+        entry.now }
+{
+    let _sectors = table.trip().count();
+    if is_barred(table.edition(), homing.of_two.as_slice(), entry.fare) {
+        return None;
+    }
+    let cost = between_cost(entry, between.heads);
+    let Some(ceiling) = homing.ceiling else {
+        return cost;
+    };
+    let (start, end) = (between.start, between.end);
+    unless(
+        is_too_dear(table, ceiling, start, between.home, end, entry.fare),
+        cost,
+    )
+}
+
+/// What a part between costs at least, of the fares that may be one of three in a unit and aren't too dear for a ceiling.
+fn least_within(table: &Table, homing: &Homing, between: Between) -> Floor
+    requires rises { between.start < between.end }
+    requires end { between.end ≤ count table.now.trip }
+    requires home { between.home ≤ count table.now.trip }
+    ensures { IsUnderEach (cost_within table.now.edition table.now.trip homing.now.of_two homing.now.ceiling between)
+        (entries_of table.now.edition table.now.trip between.start between.end) result }
 {
     let sectors = table.trip().count();
-    prove!(b <= sectors);
-    let heads = heads_in(start.countries, start.point, b, home);
+    prove!(between.end <= sectors);
     let mut least = NOTHING;
-    for entry in table.entries(start.point, b) {
-        if is_too_dear(table, ceiling, start.point, home, b, entry.fare) {
-            continue;
-        }
-        least = lesser(least, Floor::of(between_cost(entry, heads)));
+    for entry in table.entries(between.start, between.end) {
+        least = lesser(least, Floor::of(cost_within(table, homing, between, entry)));
     }
     least
 }
 
-/// What a part between costs at least that ends at a point, where its unit closes at another.
-fn step_to(table: &Table, ceiling: Option<Ceiling>, start: &Start, home: usize, b: usize) -> Floor
+/// What a part between costs at least by the least of all parts of its span that go its way.
+fn leg_to(start: &Start, b: usize, heads: bool) -> Floor
+    ensures { result ≡ (if heads then rest_at start.now.legs.now.last b else rest_at start.now.legs.now.first b) }
+{
+    if heads {
+        number_at(&start.legs.last, b)
+    } else {
+        number_at(&start.legs.first, b)
+    }
+}
+
+/// What a part between costs at least that ends at a point, where its unit closes at another. Where all fares may be one
+/// of three and there is no ceiling, that is known of each span.
+fn step_to(table: &Table, homing: &Homing, start: &Start, home: usize, b: usize) -> Floor
     requires point { start.now.point < b }
     requires end { b ≤ count table.now.trip }
     requires home { home ≤ count table.now.trip }
     requires countries { AreCountries table.now.edition table.now.trip start.now.countries.now }
     requires legs { AreLegsOf table.now.edition table.now.trip [] start.now.point start.now.legs.now }
-    ensures { (x : ℕ) → IsBetween table.now.edition table.now.trip ceiling start.now.point home b x
+    requires of_two { AreOfTwo table.now.edition table.now.trip homing.now.of_two }
+    ensures { (x : ℕ) → IsBetween table.now.edition table.now.trip homing.now.ceiling start.now.point home b x
         → IsUpTo x result }
 {
     let _sectors = table.trip().count();
-    if let Some(ceiling) = ceiling {
-        return least_below(table, ceiling, start, home, b);
-    }
-    if heads_in(start.countries, start.point, b, home) {
-        number_at(&start.legs.last, b)
-    } else {
-        number_at(&start.legs.first, b)
+    let heads = heads_in(start.countries, start.point, b, home);
+    match homing.ceiling {
+        None if homing.of_two[0] == 0 => leg_to(start, b, heads),
+        _ => {
+            let between = Between {
+                start: start.point,
+                end: b,
+                home,
+                heads,
+            };
+            least_within(table, homing, between)
+        }
     }
 }
 
@@ -148,6 +195,7 @@ fn reach_between(table: &Table, homing: &Homing, start: &Start, home: usize) -> 
     requires within { home ≤ count table.now.trip }
     requires countries { AreCountries table.now.edition table.now.trip start.now.countries.now }
     requires legs { AreLegsOf table.now.edition table.now.trip [] start.now.point start.now.legs.now }
+    requires of_two { AreOfTwo table.now.edition table.now.trip homing.now.of_two }
     ensures { (b x y : ℕ) → start.now.point < b → b < home → is_same_city table.now.trip home b ≡ false
         → IsBetween table.now.edition table.now.trip homing.now.ceiling start.now.point home b x
         → IsUpTo y (closing_from homing.now b b home) → IsUpTo (x + y) result }
@@ -162,10 +210,7 @@ fn reach_between(table: &Table, homing: &Homing, start: &Start, home: usize) -> 
             continue;
         }
         let behind = closing_from(homing, b, b, home);
-        least = lesser(
-            least,
-            added(step_to(table, homing.ceiling, start, home, b), behind),
-        );
+        least = lesser(least, added(step_to(table, homing, start, home, b), behind));
     }
     least
 }
@@ -182,6 +227,7 @@ pub(crate) fn with_between(
     requires rises { i < count table.now.trip }
     requires countries { AreCountries table.now.edition table.now.trip start.now.countries.now }
     requires legs { AreLegsOf table.now.edition table.now.trip [] start.now.point start.now.legs.now }
+    requires of_two { AreOfTwo table.now.edition table.now.trip homing.now.of_two }
     ensures kept { (j most : ℕ) → IsUpTo most (rest_at row.now j) → IsUpTo most (rest_at result j) }
     ensures between { (b j x y : ℕ) → i < j → start.now.point < b → b < j → j ≤ count table.now.trip
         → is_same_city table.now.trip j b ≡ false

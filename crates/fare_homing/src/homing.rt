@@ -12,9 +12,10 @@ use crate::floor::{Floor, NOTHING, number_at};
 use crate::legs::legs_behind;
 use crate::lonely::{MOST_LONELY, lonely_fares};
 use crate::nearness::countries_of;
-use crate::onward::{Onwards, without_barred};
+use crate::onward::{MOST_RULES, Onwards, without_barred};
 use crate::reaching::least_onward;
 use crate::standing::standing_at;
+use crate::threes::fares_of_two;
 use crate::whole::wholes_at;
 use fare_codes::Country;
 use fare_component::Table;
@@ -46,6 +47,9 @@ pub struct Homing {
     /// The record number of one fare of each rule that doesn't combine end on end with itself, of the one way fares: of
     /// as many rules as are told apart; 0 at the places that are free.
     pub lonely: [u32; MOST_LONELY],
+    /// The record number of one fare of each rule of which no unit of three parts or more can have one; 0 at the places
+    /// that are free, which stand behind the others.
+    pub of_two: [u32; MOST_RULES],
     /// The ceiling under which the numbers hold: of what costs more they say nothing.
     pub ceiling: Option<Ceiling>,
     /// All that is behind the point, where no unit is open and some fares are barred.
@@ -139,6 +143,7 @@ fn unknown(
     count: usize,
     countries: [Option<Country>; MOST_POINTS],
     lonely: [u32; MOST_LONELY],
+    of_two: [u32; MOST_RULES],
     ceiling: Option<Ceiling>,
 ) -> Homing
     requires { count < MOST_POINTS }
@@ -146,6 +151,7 @@ fn unknown(
     ensures countries { result.countries ≡ countries }
     ensures ceiling { result.ceiling ≡ ceiling }
     ensures lonely { result.lonely ≡ lonely }
+    ensures of_two { result.of_two ≡ of_two }
 {
     let rows = [[NOTHING; MOST_POINTS]; MOST_POINTS];
     let none = Standing {
@@ -161,6 +167,7 @@ fn unknown(
         rest,
         countries,
         lonely,
+        of_two,
         ceiling,
         onwards: without_barred(&rest),
     }
@@ -179,7 +186,9 @@ pub fn homing_of(table: &Table, price: Option<u64>) -> Homing
     let barred = none.as_slice();
     let legs = legs_behind(table, barred);
     let ceiling = ceiling_of(table, price);
-    let mut homing = unknown(count, countries_of(table), lonely_fares(table), ceiling);
+    let lonely = lonely_fares(table);
+    let of_two = fares_of_two(table);
+    let mut homing = unknown(count, countries_of(table), lonely, of_two, ceiling);
     for c in (0..count).rev() {
         let start = start_at(table, &legs, &homing.countries, barred, c);
         let whole = wholes_at(table, &homing, &start);

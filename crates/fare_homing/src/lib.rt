@@ -10,6 +10,7 @@
 //! - `pairs`: what the first and the last part of a unit cost at least together;
 //! - `whole`: what one unit costs at least that begins behind a point;
 //! - `owed`: what a unit of two parts owes behind its first one;
+//! - `threes`: the rules of which no unit of three parts or more can have a fare;
 //! - `between`: what is behind a point until a unit closes, by a part between its first and its last;
 //! - `standing`: what is behind each point until a unit comes home that stands in the city of one point;
 //! - `lonely`: the rules of one way fares that don't combine with themselves;
@@ -40,6 +41,7 @@ mod rests;
 mod rule_sets;
 mod standing;
 mod steps;
+mod threes;
 mod whole;
 
 pub use barring::add_barred;

@@ -47,7 +47,7 @@ fn put_fares_from(table: &Table, fares: &mut [u32; MOST_RULES], a: usize) {
 }
 
 /// A fare of each rule of a table: of as many rules as are told apart.
-fn rules_of(table: &Table) -> [u32; MOST_RULES] {
+pub(crate) fn rules_of(table: &Table) -> [u32; MOST_RULES] {
     let mut fares = [0; MOST_RULES];
     for a in 0..table.trip().count() {
         put_fares_from(table, &mut fares, a);

@@ -10,6 +10,7 @@ ghost use Rattle.fare_homing.specs.HomingRows.{AreClosings, AreJaws, AreNext, Is
 ghost use Rattle.fare_homing.specs.Legs.{AreLegsBehind, AreLegsOf};
 ghost use Rattle.fare_homing.specs.Owed.{AreOwed};
 ghost use Rattle.fare_homing.specs.Rows.{cell, closing_from, AreCountries};
+ghost use Rattle.fare_homing.specs.Threes.{AreOfTwo};
 
 use crate::between::{Start, lie_together, start_at, with_between};
 use crate::floor::{Floor, NOTHING};
@@ -73,6 +74,7 @@ fn next_at(
     requires rises { start.now.behind < count table.now.trip }
     requires countries { AreCountries table.now.edition table.now.trip start.now.countries.now }
     requires legs { AreLegsOf table.now.edition table.now.trip [] start.now.point start.now.legs.now }
+    requires of_two { AreOfTwo table.now.edition table.now.trip homing.now.of_two }
     ensures { AreNext table.now.edition table.now.trip homing.now.ceiling (λ j x. IsUpTo x (rest_at last.now j))
         (λ b. closing_from homing.now b b) stand start.now.behind (rest_at result) }
 {
@@ -161,6 +163,7 @@ pub(crate) fn standing_at(
     requires within { stand < count table.now.trip }
     requires countries { AreCountries table.now.edition table.now.trip countries.now }
     requires legs { AreLegsBehind table.now.edition table.now.trip [] legs.now }
+    requires of_two { AreOfTwo table.now.edition table.now.trip homing.now.of_two }
     ensures begins { (i : ℕ) → stand ≤ i → i < count table.now.trip
         → AreClosings table.now.edition table.now.trip homing.now.ceiling
         (IsSecond table.now.edition table.now.trip stand i) (λ b. closing_from homing.now b b)

@@ -7,6 +7,7 @@ use Rattle.fare_homing.specs.HomingRows.{AreWholes}
 use Rattle.fare_homing.specs.Legs.{AreLegsBehind}
 use Rattle.fare_homing.specs.Lonely.{AreLonely}
 use Rattle.fare_homing.specs.Rows.{AreCountries, begun_from, cell, jaw_from}
+use Rattle.fare_homing.specs.Threes.{AreOfTwo}
 use Rattle.fare_homing.proofs.HomingLemmas.{AreHomingsFrom, all_homings, no_homings, put_homings}
 use Rattle.fare_homing.proofs.homing.homing_of.Goals as goal
 
@@ -20,7 +21,8 @@ loop-c-init c =
       long_rest = search rules;
       known = subst P (sym last) (no_homings c.args.table.now.edition c.args.table.now.trip c.unknown-homing.result (subst (λ n. rest_at c.unknown-homing.result.rest n ≡ Some 0) last c.unknown-homing.ensures.end));
       countries = subst (AreCountries c.args.table.now.edition c.args.table.now.trip) (sym c.unknown-homing.ensures.countries) c.countries_of.ensures;
-      lonely = subst (AreLonely c.args.table.now.edition) (sym c.unknown-homing.ensures.lonely) c.lonely_fares.ensures;
+      lonely = subst (AreLonely c.args.table.now.edition) (sym c.unknown-homing.ensures.lonely) c.lonely_fares-lonely.ensures;
+      of_two = subst (AreOfTwo c.args.table.now.edition c.args.table.now.trip) (sym c.unknown-homing.ensures.of_two) c.fares_of_two-of_two.ensures;
       ceiling = subst (IsCeiling c.args.table.now.edition c.args.table.now.trip) (sym c.unknown-homing.ensures.ceiling) c.ceiling_of-ceiling.ensures.ceiling;
       price = subst (λ ceiling. IfSome ceiling (λ known. c.args.price ≡ Some known.price)) (sym c.unknown-homing.ensures.ceiling) c.ceiling_of-ceiling.ensures.value;
     }
@@ -46,6 +48,7 @@ loop-c-preserved c =
           (subst I c.start_at-start.ensures.behind (subst W (c.start_at-start.ensures.barred ∙ c.as_slice-barred.ensures) c.wholes_at-whole.ensures)) (λ b x y past within up more. c.least_onward.ensures b x y past (omega arith) up more) c.standing_at-standing.ensures.begins c.standing_at-standing.ensures.closes c.standing_at-standing.ensures.ends;
       countries = known.countries;
       lonely = known.lonely;
+      of_two = known.of_two;
       ceiling = known.ceiling;
       price = known.price;
     }
@@ -60,6 +63,7 @@ returns-clause-homings c =
       onwards = c.without_barred-homing.ensures c.args.table.now.edition c.args.table.now.trip (begun_from c.loop-c.homing) (jaw_from c.loop-c.homing) (cell c.loop-c.homing.whole) (record { wholes = known.wholes; onward = known.onward; nothing = known.nothing });
       countries = c.loop-c.invariant.countries;
       lonely = c.loop-c.invariant.lonely;
+      of_two = c.loop-c.invariant.of_two;
       ceiling = c.loop-c.invariant.ceiling;
     }
 

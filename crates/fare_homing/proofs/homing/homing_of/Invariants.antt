@@ -4,6 +4,7 @@ use Rattle.std.specs.Prelude.{IfSome, Some}
 use Rattle.fare_homing.specs.Ceiling.{IsCeiling}
 use Rattle.fare_homing.specs.Lonely.{AreLonely}
 use Rattle.fare_homing.specs.Rows.{AreCountries}
+use Rattle.fare_homing.specs.Threes.{AreOfTwo}
 use Rattle.fare_homing.proofs.HomingLemmas.{AreHomingsFrom}
 use Rattle.fare_homing.proofs.homing.homing_of.Given as goal
 
@@ -15,6 +16,7 @@ invariant-loop-c l = record {
   known : AreHomingsFrom l.table.edition l.table.trip l.c l.homing;
   countries : AreCountries l.table.edition l.table.trip l.homing.countries;
   lonely : AreLonely l.table.edition l.homing.lonely;
+  of_two : AreOfTwo l.table.edition l.table.trip l.homing.of_two;
   ceiling : IsCeiling l.table.edition l.table.trip l.homing.ceiling;
   price : IfSome l.homing.ceiling (λ known. l.fn.price ≡ Some known.price);
 }
