@@ -1,8 +1,6 @@
-//! Quotations, lists and the texts of first constructions over books of one edition, and the first constructions of
-//! drills.
+//! Quotations, lists and the texts of first constructions over books of one edition.
 
 mod computed;
-mod drills;
 mod first;
 mod quotations;
 mod worked;

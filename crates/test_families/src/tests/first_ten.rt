@@ -1,17 +1,16 @@
-//! The first ten constructions of drills, beside all that are lawful in their order.
+//! The first ten constructions of trips, beside all that are lawful in their order.
 
-ghost use Rattle.std.specs.Prelude.{◌≤◌};
-
+use super::few;
+use super::sources::{Source, input_of};
 use fare_best::{BestList, first_k};
 use fare_component::Table;
-use fare_drill::drill_input;
+use fare_tariff::Edition;
+use fare_trip::Trip;
 use fare_units::{Construction, Part, earlier, lawful_price, start_of};
 use std::alloc::Global;
+use std::process::Abort;
 use std::test::Fail;
 use std::thread::Threads;
-
-/// The price of the best construction of the drill of seed 15 and 16 sectors, as a separate plain program computed it.
-const LONGEST_BEST: u64 = 127_961;
 
 /// A construction of some parts, and of another where it is given and has room.
 fn made(parts: &[Part], last: Option<Part>) -> Construction {
@@ -88,36 +87,50 @@ fn are_first(first: &BestList, all: &[(Construction, u64)]) -> bool {
     true
 }
 
-/// Whether the first ten of a drill are those of all that are lawful.
-fn holds<R: Threads + Sync>(rt: &R, alloc: Global, seed: u32, sectors: u32) -> Result<bool, Fail>
-    requires seed { seed ≤ 20 }
-    requires some { 1 ≤ sectors }
-    requires few { sectors ≤ 4 }
-{
-    let (edition, trip) = drill_input(rt, alloc, seed, sectors, 0)?;
-    let table = Table::prepare(alloc, &edition, &trip)?;
+/// Whether the first ten of a trip are those of all that are lawful.
+pub fn are_those_of_all(alloc: Global, edition: &Edition, trip: &Trip) -> Result<bool, Fail> {
+    let table = Table::prepare(alloc, edition, trip)?;
     let mut all = Vec::new(alloc);
-    collect(&table, &Construction::new(), sectors as usize, &mut all)?;
-    let first = first_k(alloc, &edition, &trip, 10)?;
+    collect(&table, &Construction::new(), trip.count(), &mut all)?;
+    let first = first_k(alloc, edition, trip, 10)?;
     Ok(are_first(&first, all.as_slice()))
 }
 
-#[test]
-fn the_first_ten_of_small_drills_are_those_of_all(rt: HostRuntime) -> Result<(), Fail> {
-    for seed in 1..4 {
-        for sectors in 1..4 {
-            assert!(rt; holds(&rt, rt.alloc(), seed, sectors)?);
-        }
+/// Compares the first ten of trips with those of all that are lawful.
+fn are_first_ten<R: Threads + Sync + Abort>(
+    rt: &R,
+    alloc: Global,
+    sources: &[Source],
+) -> Result<(), Fail> {
+    for source in sources {
+        let (edition, trip) = input_of(rt, alloc, source.tariff, source.itinerary)?;
+        assert!(rt;
+            are_those_of_all(alloc, &edition, &trip)?,
+            "{}",
+            source.name
+        );
     }
     Ok(())
 }
 
 #[test]
-fn a_drill_of_sixteen_sectors_ends(rt: HostRuntime) -> Result<(), Fail> {
-    let (edition, trip) = drill_input(&rt, rt.alloc(), 15, 16, 0)?;
-    let first = first_k(rt.alloc(), &edition, &trip, 10)?;
-    assert_eq!(rt; first.len(), 10);
-    let best = first.get(0).map(|found| found.1);
-    assert_eq!(rt; best, Some(LONGEST_BEST));
-    Ok(())
+fn units_that_rules_bar(rt: HostRuntime) -> Result<(), Fail> {
+    are_first_ten(&rt, rt.alloc(), few::units::SOURCES.as_slice())
+}
+
+#[test]
+fn circles(rt: HostRuntime) -> Result<(), Fail> {
+    are_first_ten(&rt, rt.alloc(), few::circles::SOURCES.as_slice())
+}
+
+#[test]
+fn rules_that_do_not_all_combine(rt: HostRuntime) -> Result<(), Fail> {
+    are_first_ten(&rt, rt.alloc(), few::end_on_end::SOURCES.as_slice())
+}
+
+#[test]
+fn hubs_and_gaps(rt: HostRuntime) -> Result<(), Fail> {
+    are_first_ten(&rt, rt.alloc(), few::hub::SOURCES.as_slice())?;
+    are_first_ten(&rt, rt.alloc(), few::own_means::SOURCES.as_slice())?;
+    are_first_ten(&rt, rt.alloc(), few::backhauls::SOURCES.as_slice())
 }

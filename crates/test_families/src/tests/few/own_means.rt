@@ -1,0 +1,94 @@
+//! A trip one sector of which is made by own means.
+
+use crate::tests::sources::Source;
+
+pub static SOURCES: [Source; 1] = [Source {
+    name: "sectors by own means",
+    tariff: "HEAD,1,1,2025-01-01\nCUR,AA,XAA,1.000000,2,1,U\nCITY,CAA,AA,2\nCITY,CAB,AA,2\nCITY,CAC,AA,2\n\
+                 CITY,CAD,AA,2\nCITY,CAE,AA,2\nRULE,A,16,16,0,0,999,Y,*,*\nFARE,CAA,CAB,EH,YY,Y,OW,,205.75\n\
+                 FARE,CAA,CAB,EH,YY,Y,OW,A,214.65\nFARE,CAA,CAB,EH,Q1,Y,OW,,220.35\n\
+                 FARE,CAA,CAB,EH,Q1,Y,OW,A,219.43\nFARE,CAA,CAB,EH,YY,Y,HR,,158.64\n\
+                 FARE,CAA,CAB,EH,YY,Y,HR,A,144.29\nFARE,CAA,CAB,EH,Q1,Y,HR,,148.22\n\
+                 FARE,CAA,CAB,EH,Q1,Y,HR,A,145.41\nFARE,CAA,CAC,EH,YY,Y,OW,,216.14\n\
+                 FARE,CAA,CAC,EH,YY,Y,OW,A,221.58\nFARE,CAA,CAC,EH,Q1,Y,OW,,215.20\n\
+                 FARE,CAA,CAC,EH,Q1,Y,OW,A,215.67\nFARE,CAA,CAC,EH,YY,Y,HR,,159.34\n\
+                 FARE,CAA,CAC,EH,YY,Y,HR,A,153.77\nFARE,CAA,CAC,EH,Q1,Y,HR,,162.15\n\
+                 FARE,CAA,CAC,EH,Q1,Y,HR,A,150.29\nFARE,CAA,CAD,EH,YY,Y,OW,,210.92\n\
+                 FARE,CAA,CAD,EH,YY,Y,OW,A,218.99\nFARE,CAA,CAD,EH,Q1,Y,OW,,209.58\n\
+                 FARE,CAA,CAD,EH,Q1,Y,OW,A,227.29\nFARE,CAA,CAD,EH,YY,Y,HR,,166.11\n\
+                 FARE,CAA,CAD,EH,YY,Y,HR,A,156.98\nFARE,CAA,CAD,EH,Q1,Y,HR,,157.86\n\
+                 FARE,CAA,CAD,EH,Q1,Y,HR,A,161.44\nFARE,CAA,CAE,EH,YY,Y,OW,,227.61\n\
+                 FARE,CAA,CAE,EH,YY,Y,OW,A,227.71\nFARE,CAA,CAE,EH,Q1,Y,OW,,212.04\n\
+                 FARE,CAA,CAE,EH,Q1,Y,OW,A,226.25\nFARE,CAA,CAE,EH,YY,Y,HR,,161.12\n\
+                 FARE,CAA,CAE,EH,YY,Y,HR,A,157.45\nFARE,CAA,CAE,EH,Q1,Y,HR,,166.77\n\
+                 FARE,CAA,CAE,EH,Q1,Y,HR,A,168.42\nFARE,CAB,CAA,EH,YY,Y,OW,,207.68\n\
+                 FARE,CAB,CAA,EH,YY,Y,OW,A,215.10\nFARE,CAB,CAA,EH,Q1,Y,OW,,222.35\n\
+                 FARE,CAB,CAA,EH,Q1,Y,OW,A,205.09\nFARE,CAB,CAA,EH,YY,Y,HR,,161.46\n\
+                 FARE,CAB,CAA,EH,YY,Y,HR,A,149.50\nFARE,CAB,CAA,EH,Q1,Y,HR,,143.62\n\
+                 FARE,CAB,CAA,EH,Q1,Y,HR,A,143.45\nFARE,CAB,CAC,EH,YY,Y,OW,,203.52\n\
+                 FARE,CAB,CAC,EH,YY,Y,OW,A,216.30\nFARE,CAB,CAC,EH,Q1,Y,OW,,214.08\n\
+                 FARE,CAB,CAC,EH,Q1,Y,OW,A,203.18\nFARE,CAB,CAC,EH,YY,Y,HR,,162.23\n\
+                 FARE,CAB,CAC,EH,YY,Y,HR,A,161.04\nFARE,CAB,CAC,EH,Q1,Y,HR,,150.80\n\
+                 FARE,CAB,CAC,EH,Q1,Y,HR,A,157.05\nFARE,CAB,CAD,EH,YY,Y,OW,,210.43\n\
+                 FARE,CAB,CAD,EH,YY,Y,OW,A,225.84\nFARE,CAB,CAD,EH,Q1,Y,OW,,214.64\n\
+                 FARE,CAB,CAD,EH,Q1,Y,OW,A,220.86\nFARE,CAB,CAD,EH,YY,Y,HR,,146.59\n\
+                 FARE,CAB,CAD,EH,YY,Y,HR,A,156.80\nFARE,CAB,CAD,EH,Q1,Y,HR,,150.54\n\
+                 FARE,CAB,CAD,EH,Q1,Y,HR,A,161.64\nFARE,CAB,CAE,EH,YY,Y,OW,,217.96\n\
+                 FARE,CAB,CAE,EH,YY,Y,OW,A,228.23\nFARE,CAB,CAE,EH,Q1,Y,OW,,219.15\n\
+                 FARE,CAB,CAE,EH,Q1,Y,OW,A,220.32\nFARE,CAB,CAE,EH,YY,Y,HR,,153.77\n\
+                 FARE,CAB,CAE,EH,YY,Y,HR,A,156.07\nFARE,CAB,CAE,EH,Q1,Y,HR,,153.72\n\
+                 FARE,CAB,CAE,EH,Q1,Y,HR,A,162.86\nFARE,CAC,CAA,EH,YY,Y,OW,,210.48\n\
+                 FARE,CAC,CAA,EH,YY,Y,OW,A,221.58\nFARE,CAC,CAA,EH,Q1,Y,OW,,215.41\n\
+                 FARE,CAC,CAA,EH,Q1,Y,OW,A,225.50\nFARE,CAC,CAA,EH,YY,Y,HR,,151.93\n\
+                 FARE,CAC,CAA,EH,YY,Y,HR,A,164.97\nFARE,CAC,CAA,EH,Q1,Y,HR,,146.44\n\
+                 FARE,CAC,CAA,EH,Q1,Y,HR,A,154.52\nFARE,CAC,CAB,EH,YY,Y,OW,,220.15\n\
+                 FARE,CAC,CAB,EH,YY,Y,OW,A,221.76\nFARE,CAC,CAB,EH,Q1,Y,OW,,214.39\n\
+                 FARE,CAC,CAB,EH,Q1,Y,OW,A,221.88\nFARE,CAC,CAB,EH,YY,Y,HR,,156.15\n\
+                 FARE,CAC,CAB,EH,YY,Y,HR,A,145.04\nFARE,CAC,CAB,EH,Q1,Y,HR,,146.80\n\
+                 FARE,CAC,CAB,EH,Q1,Y,HR,A,155.88\nFARE,CAC,CAD,EH,YY,Y,OW,,217.82\n\
+                 FARE,CAC,CAD,EH,YY,Y,OW,A,220.61\nFARE,CAC,CAD,EH,Q1,Y,OW,,209.07\n\
+                 FARE,CAC,CAD,EH,Q1,Y,OW,A,205.47\nFARE,CAC,CAD,EH,YY,Y,HR,,158.21\n\
+                 FARE,CAC,CAD,EH,YY,Y,HR,A,149.81\nFARE,CAC,CAD,EH,Q1,Y,HR,,161.34\n\
+                 FARE,CAC,CAD,EH,Q1,Y,HR,A,157.77\nFARE,CAC,CAE,EH,YY,Y,OW,,225.93\n\
+                 FARE,CAC,CAE,EH,YY,Y,OW,A,220.56\nFARE,CAC,CAE,EH,Q1,Y,OW,,216.25\n\
+                 FARE,CAC,CAE,EH,Q1,Y,OW,A,225.17\nFARE,CAC,CAE,EH,YY,Y,HR,,165.80\n\
+                 FARE,CAC,CAE,EH,YY,Y,HR,A,154.64\nFARE,CAC,CAE,EH,Q1,Y,HR,,156.39\n\
+                 FARE,CAC,CAE,EH,Q1,Y,HR,A,162.99\nFARE,CAD,CAA,EH,YY,Y,OW,,227.64\n\
+                 FARE,CAD,CAA,EH,YY,Y,OW,A,222.72\nFARE,CAD,CAA,EH,Q1,Y,OW,,212.88\n\
+                 FARE,CAD,CAA,EH,Q1,Y,OW,A,215.21\nFARE,CAD,CAA,EH,YY,Y,HR,,154.81\n\
+                 FARE,CAD,CAA,EH,YY,Y,HR,A,161.03\nFARE,CAD,CAA,EH,Q1,Y,HR,,168.93\n\
+                 FARE,CAD,CAA,EH,Q1,Y,HR,A,167.07\nFARE,CAD,CAB,EH,YY,Y,OW,,216.22\n\
+                 FARE,CAD,CAB,EH,YY,Y,OW,A,223.33\nFARE,CAD,CAB,EH,Q1,Y,OW,,225.26\n\
+                 FARE,CAD,CAB,EH,Q1,Y,OW,A,216.34\nFARE,CAD,CAB,EH,YY,Y,HR,,154.05\n\
+                 FARE,CAD,CAB,EH,YY,Y,HR,A,158.06\nFARE,CAD,CAB,EH,Q1,Y,HR,,163.47\n\
+                 FARE,CAD,CAB,EH,Q1,Y,HR,A,146.70\nFARE,CAD,CAC,EH,YY,Y,OW,,212.83\n\
+                 FARE,CAD,CAC,EH,YY,Y,OW,A,207.97\nFARE,CAD,CAC,EH,Q1,Y,OW,,218.23\n\
+                 FARE,CAD,CAC,EH,Q1,Y,OW,A,219.33\nFARE,CAD,CAC,EH,YY,Y,HR,,151.27\n\
+                 FARE,CAD,CAC,EH,YY,Y,HR,A,151.48\nFARE,CAD,CAC,EH,Q1,Y,HR,,156.61\n\
+                 FARE,CAD,CAC,EH,Q1,Y,HR,A,146.54\nFARE,CAD,CAE,EH,YY,Y,OW,,210.51\n\
+                 FARE,CAD,CAE,EH,YY,Y,OW,A,214.23\nFARE,CAD,CAE,EH,Q1,Y,OW,,221.07\n\
+                 FARE,CAD,CAE,EH,Q1,Y,OW,A,217.39\nFARE,CAD,CAE,EH,YY,Y,HR,,158.88\n\
+                 FARE,CAD,CAE,EH,YY,Y,HR,A,156.81\nFARE,CAD,CAE,EH,Q1,Y,HR,,158.11\n\
+                 FARE,CAD,CAE,EH,Q1,Y,HR,A,150.67\nFARE,CAE,CAA,EH,YY,Y,OW,,213.77\n\
+                 FARE,CAE,CAA,EH,YY,Y,OW,A,220.98\nFARE,CAE,CAA,EH,Q1,Y,OW,,225.59\n\
+                 FARE,CAE,CAA,EH,Q1,Y,OW,A,222.41\nFARE,CAE,CAA,EH,YY,Y,HR,,154.21\n\
+                 FARE,CAE,CAA,EH,YY,Y,HR,A,167.94\nFARE,CAE,CAA,EH,Q1,Y,HR,,155.35\n\
+                 FARE,CAE,CAA,EH,Q1,Y,HR,A,162.66\nFARE,CAE,CAB,EH,YY,Y,OW,,226.20\n\
+                 FARE,CAE,CAB,EH,YY,Y,OW,A,217.05\nFARE,CAE,CAB,EH,Q1,Y,OW,,216.58\n\
+                 FARE,CAE,CAB,EH,Q1,Y,OW,A,219.02\nFARE,CAE,CAB,EH,YY,Y,HR,,164.00\n\
+                 FARE,CAE,CAB,EH,YY,Y,HR,A,149.60\nFARE,CAE,CAB,EH,Q1,Y,HR,,158.61\n\
+                 FARE,CAE,CAB,EH,Q1,Y,HR,A,149.89\nFARE,CAE,CAC,EH,YY,Y,OW,,212.31\n\
+                 FARE,CAE,CAC,EH,YY,Y,OW,A,220.40\nFARE,CAE,CAC,EH,Q1,Y,OW,,223.37\n\
+                 FARE,CAE,CAC,EH,Q1,Y,OW,A,218.59\nFARE,CAE,CAC,EH,YY,Y,HR,,158.14\n\
+                 FARE,CAE,CAC,EH,YY,Y,HR,A,157.84\nFARE,CAE,CAC,EH,Q1,Y,HR,,154.06\n\
+                 FARE,CAE,CAC,EH,Q1,Y,HR,A,159.25\nFARE,CAE,CAD,EH,YY,Y,OW,,206.48\n\
+                 FARE,CAE,CAD,EH,YY,Y,OW,A,206.45\nFARE,CAE,CAD,EH,Q1,Y,OW,,213.28\n\
+                 FARE,CAE,CAD,EH,Q1,Y,OW,A,207.64\nFARE,CAE,CAD,EH,YY,Y,HR,,143.25\n\
+                 FARE,CAE,CAD,EH,YY,Y,HR,A,158.78\nFARE,CAE,CAD,EH,Q1,Y,HR,,147.08\n\
+                 FARE,CAE,CAD,EH,Q1,Y,HR,A,154.05\nEND\n",
+    itinerary: "{\"sale\":\"2025-03-01\",\"from\":\"CAA\",\"sectors\":[\
+                    {\"to\":\"CAB\",\"carrier\":\"Q1\",\"day\":\"2025-04-01\",\"cabin\":\"Y\",\"stop\":true},\
+                    {\"to\":\"CAC\",\"carrier\":\"Q1\",\"day\":\"2025-04-01\",\"cabin\":\"Y\",\"stop\":true},\
+                    {\"to\":\"CAD\",\"carrier\":\"Q1\",\"day\":\"2025-04-01\",\"cabin\":\"Y\",\"stop\":true,\"surface\":true},\
+                    {\"to\":\"CAE\",\"carrier\":\"Q1\",\"day\":\"2025-04-01\",\"cabin\":\"Y\",\"stop\":true}]}",
+}];

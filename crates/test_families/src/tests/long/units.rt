@@ -1,0 +1,151 @@
+//! Trips whose rules bar units.
+
+use crate::tests::sources::LongSource;
+
+pub static SOURCES: [LongSource; 4] = [
+    LongSource {
+        name: "rules that combine in a unit by two and never by three",
+        tariff: "HEAD,1,1,2025-01-01\nCUR,AA,XAA,1.000000,2,1,U\nCUR,AB,XAB,1.000000,2,1,U\n\
+                 CUR,AC,XAC,1.000000,2,1,U\nCITY,CAA,AA,2\nCITY,CAB,AB,2\nCITY,CAC,AC,2\n\
+                 RULE,A0,16,16,0,0,999,Y,B0 B1 B2,*\nRULE,A1,16,16,0,0,999,Y,B0 B1 B2,*\n\
+                 RULE,A2,16,16,0,0,999,Y,B0 B1 B2,*\nRULE,B0,16,16,0,0,999,Y,A0 A1 A2,*\n\
+                 RULE,B1,16,16,0,0,999,Y,A0 A1 A2,*\nRULE,B2,16,16,0,0,999,Y,A0 A1 A2,*\n\
+                 FARE,CAA,CAB,EH,YY,Y,HR,A0,50.08\nFARE,CAA,CAB,EH,YY,Y,HR,A1,50.36\n\
+                 FARE,CAA,CAB,EH,YY,Y,HR,A2,50.48\nFARE,CAA,CAB,EH,YY,Y,HR,B0,50.04\n\
+                 FARE,CAA,CAB,EH,YY,Y,HR,B1,50.16\nFARE,CAA,CAB,EH,YY,Y,HR,B2,50.07\n\
+                 FARE,CAA,CAB,EH,YY,Y,OW,,100.31\nFARE,CAA,CAB,EH,Q1,Y,OW,,100.48\n\
+                 FARE,CAB,CAC,EH,YY,Y,HR,A0,50.28\nFARE,CAB,CAC,EH,YY,Y,HR,A1,50.30\n\
+                 FARE,CAB,CAC,EH,YY,Y,HR,A2,50.41\nFARE,CAB,CAC,EH,YY,Y,HR,B0,50.24\n\
+                 FARE,CAB,CAC,EH,YY,Y,HR,B1,50.13\nFARE,CAB,CAC,EH,YY,Y,HR,B2,50.06\n\
+                 FARE,CAB,CAC,EH,YY,Y,OW,,100.31\nFARE,CAB,CAC,EH,Q1,Y,OW,,100.01\n\
+                 FARE,CAA,CAC,EH,YY,Y,HR,A0,50.24\nFARE,CAA,CAC,EH,YY,Y,HR,A1,50.27\n\
+                 FARE,CAA,CAC,EH,YY,Y,HR,A2,50.38\nFARE,CAA,CAC,EH,YY,Y,HR,B0,50.48\n\
+                 FARE,CAA,CAC,EH,YY,Y,HR,B1,50.49\nFARE,CAA,CAC,EH,YY,Y,HR,B2,50.00\n\
+                 FARE,CAA,CAC,EH,YY,Y,OW,,100.44\nFARE,CAA,CAC,EH,Q1,Y,OW,,100.28\n\
+                 FARE,CAB,CAA,EH,YY,Y,HR,A0,50.17\nFARE,CAB,CAA,EH,YY,Y,HR,A1,50.46\n\
+                 FARE,CAB,CAA,EH,YY,Y,HR,A2,50.14\nFARE,CAB,CAA,EH,YY,Y,HR,B0,50.37\n\
+                 FARE,CAB,CAA,EH,YY,Y,HR,B1,50.06\nFARE,CAB,CAA,EH,YY,Y,HR,B2,50.20\n\
+                 FARE,CAB,CAA,EH,YY,Y,OW,,100.01\nFARE,CAB,CAA,EH,Q1,Y,OW,,100.01\n\
+                 FARE,CAC,CAB,EH,YY,Y,HR,A0,50.01\nFARE,CAC,CAB,EH,YY,Y,HR,A1,50.41\n\
+                 FARE,CAC,CAB,EH,YY,Y,HR,A2,50.34\nFARE,CAC,CAB,EH,YY,Y,HR,B0,50.00\n\
+                 FARE,CAC,CAB,EH,YY,Y,HR,B1,50.24\nFARE,CAC,CAB,EH,YY,Y,HR,B2,50.43\n\
+                 FARE,CAC,CAB,EH,YY,Y,OW,,100.13\nFARE,CAC,CAB,EH,Q1,Y,OW,,100.27\n\
+                 FARE,CAC,CAA,EH,YY,Y,HR,A0,50.46\nFARE,CAC,CAA,EH,YY,Y,HR,A1,50.01\n\
+                 FARE,CAC,CAA,EH,YY,Y,HR,A2,50.33\nFARE,CAC,CAA,EH,YY,Y,HR,B0,50.14\n\
+                 FARE,CAC,CAA,EH,YY,Y,HR,B1,50.48\nFARE,CAC,CAA,EH,YY,Y,HR,B2,50.28\n\
+                 FARE,CAC,CAA,EH,YY,Y,OW,,100.31\nFARE,CAC,CAA,EH,Q1,Y,OW,,100.35\nEND\n",
+        itinerary: "{\"sale\":\"2025-03-01\",\"from\":\"CAA\",\"sectors\":[\
+                    {\"to\":\"CAB\",\"carrier\":\"Q1\",\"day\":\"2025-04-01\",\"cabin\":\"Y\",\"stop\":true},\
+                    {\"to\":\"CAC\",\"carrier\":\"Q1\",\"day\":\"2025-04-02\",\"cabin\":\"Y\",\"stop\":true},\
+                    {\"to\":\"CAA\",\"carrier\":\"Q1\",\"day\":\"2025-04-03\",\"cabin\":\"Y\",\"stop\":true},\
+                    {\"to\":\"CAB\",\"carrier\":\"Q1\",\"day\":\"2025-04-04\",\"cabin\":\"Y\",\"stop\":true},\
+                    {\"to\":\"CAC\",\"carrier\":\"Q1\",\"day\":\"2025-04-05\",\"cabin\":\"Y\",\"stop\":true},\
+                    {\"to\":\"CAA\",\"carrier\":\"Q1\",\"day\":\"2025-04-06\",\"cabin\":\"Y\",\"stop\":true},\
+                    {\"to\":\"CAB\",\"carrier\":\"Q1\",\"day\":\"2025-04-07\",\"cabin\":\"Y\",\"stop\":true},\
+                    {\"to\":\"CAC\",\"carrier\":\"Q1\",\"day\":\"2025-04-08\",\"cabin\":\"Y\",\"stop\":true},\
+                    {\"to\":\"CAA\",\"carrier\":\"Q1\",\"day\":\"2025-04-09\",\"cabin\":\"Y\",\"stop\":true},\
+                    {\"to\":\"CAB\",\"carrier\":\"Q1\",\"day\":\"2025-04-10\",\"cabin\":\"Y\",\"stop\":true},\
+                    {\"to\":\"CAC\",\"carrier\":\"Q1\",\"day\":\"2025-04-11\",\"cabin\":\"Y\",\"stop\":true},\
+                    {\"to\":\"CAA\",\"carrier\":\"Q1\",\"day\":\"2025-04-12\",\"cabin\":\"Y\",\"stop\":true},\
+                    {\"to\":\"CAB\",\"carrier\":\"Q1\",\"day\":\"2025-04-13\",\"cabin\":\"Y\",\"stop\":true},\
+                    {\"to\":\"CAC\",\"carrier\":\"Q1\",\"day\":\"2025-04-14\",\"cabin\":\"Y\",\"stop\":true},\
+                    {\"to\":\"CAA\",\"carrier\":\"Q1\",\"day\":\"2025-04-15\",\"cabin\":\"Y\",\"stop\":true}]}",
+        price: Some(150_315),
+    },
+    LongSource {
+        name: "the same without one way fares",
+        tariff: "HEAD,1,1,2025-01-01\nCUR,AA,XAA,1.000000,2,1,U\nCUR,AB,XAB,1.000000,2,1,U\n\
+                 CUR,AC,XAC,1.000000,2,1,U\nCITY,CAA,AA,2\nCITY,CAB,AB,2\nCITY,CAC,AC,2\n\
+                 RULE,A0,16,16,0,0,999,Y,B0 B1 B2,*\nRULE,A1,16,16,0,0,999,Y,B0 B1 B2,*\n\
+                 RULE,A2,16,16,0,0,999,Y,B0 B1 B2,*\nRULE,B0,16,16,0,0,999,Y,A0 A1 A2,*\n\
+                 RULE,B1,16,16,0,0,999,Y,A0 A1 A2,*\nRULE,B2,16,16,0,0,999,Y,A0 A1 A2,*\n\
+                 FARE,CAA,CAB,EH,YY,Y,HR,A0,50.08\nFARE,CAA,CAB,EH,YY,Y,HR,A1,50.36\n\
+                 FARE,CAA,CAB,EH,YY,Y,HR,A2,50.48\nFARE,CAA,CAB,EH,YY,Y,HR,B0,50.04\n\
+                 FARE,CAA,CAB,EH,YY,Y,HR,B1,50.16\nFARE,CAA,CAB,EH,YY,Y,HR,B2,50.07\n\
+                 FARE,CAB,CAC,EH,YY,Y,HR,A0,50.31\nFARE,CAB,CAC,EH,YY,Y,HR,A1,50.48\n\
+                 FARE,CAB,CAC,EH,YY,Y,HR,A2,50.28\nFARE,CAB,CAC,EH,YY,Y,HR,B0,50.30\n\
+                 FARE,CAB,CAC,EH,YY,Y,HR,B1,50.41\nFARE,CAB,CAC,EH,YY,Y,HR,B2,50.24\n\
+                 FARE,CAA,CAC,EH,YY,Y,HR,A0,50.13\nFARE,CAA,CAC,EH,YY,Y,HR,A1,50.06\n\
+                 FARE,CAA,CAC,EH,YY,Y,HR,A2,50.31\nFARE,CAA,CAC,EH,YY,Y,HR,B0,50.01\n\
+                 FARE,CAA,CAC,EH,YY,Y,HR,B1,50.24\nFARE,CAA,CAC,EH,YY,Y,HR,B2,50.27\n\
+                 FARE,CAB,CAA,EH,YY,Y,HR,A0,50.38\nFARE,CAB,CAA,EH,YY,Y,HR,A1,50.48\n\
+                 FARE,CAB,CAA,EH,YY,Y,HR,A2,50.49\nFARE,CAB,CAA,EH,YY,Y,HR,B0,50.00\n\
+                 FARE,CAB,CAA,EH,YY,Y,HR,B1,50.44\nFARE,CAB,CAA,EH,YY,Y,HR,B2,50.28\n\
+                 FARE,CAC,CAB,EH,YY,Y,HR,A0,50.17\nFARE,CAC,CAB,EH,YY,Y,HR,A1,50.46\n\
+                 FARE,CAC,CAB,EH,YY,Y,HR,A2,50.14\nFARE,CAC,CAB,EH,YY,Y,HR,B0,50.37\n\
+                 FARE,CAC,CAB,EH,YY,Y,HR,B1,50.06\nFARE,CAC,CAB,EH,YY,Y,HR,B2,50.20\n\
+                 FARE,CAC,CAA,EH,YY,Y,HR,A0,50.01\nFARE,CAC,CAA,EH,YY,Y,HR,A1,50.01\n\
+                 FARE,CAC,CAA,EH,YY,Y,HR,A2,50.01\nFARE,CAC,CAA,EH,YY,Y,HR,B0,50.41\n\
+                 FARE,CAC,CAA,EH,YY,Y,HR,B1,50.34\nFARE,CAC,CAA,EH,YY,Y,HR,B2,50.00\nEND\n",
+        itinerary: "{\"sale\":\"2025-03-01\",\"from\":\"CAA\",\"sectors\":[\
+                    {\"to\":\"CAB\",\"carrier\":\"Q1\",\"day\":\"2025-04-01\",\"cabin\":\"Y\",\"stop\":true},\
+                    {\"to\":\"CAC\",\"carrier\":\"Q1\",\"day\":\"2025-04-02\",\"cabin\":\"Y\",\"stop\":true},\
+                    {\"to\":\"CAA\",\"carrier\":\"Q1\",\"day\":\"2025-04-03\",\"cabin\":\"Y\",\"stop\":true},\
+                    {\"to\":\"CAB\",\"carrier\":\"Q1\",\"day\":\"2025-04-04\",\"cabin\":\"Y\",\"stop\":true},\
+                    {\"to\":\"CAC\",\"carrier\":\"Q1\",\"day\":\"2025-04-05\",\"cabin\":\"Y\",\"stop\":true},\
+                    {\"to\":\"CAA\",\"carrier\":\"Q1\",\"day\":\"2025-04-06\",\"cabin\":\"Y\",\"stop\":true},\
+                    {\"to\":\"CAB\",\"carrier\":\"Q1\",\"day\":\"2025-04-07\",\"cabin\":\"Y\",\"stop\":true},\
+                    {\"to\":\"CAC\",\"carrier\":\"Q1\",\"day\":\"2025-04-08\",\"cabin\":\"Y\",\"stop\":true},\
+                    {\"to\":\"CAA\",\"carrier\":\"Q1\",\"day\":\"2025-04-09\",\"cabin\":\"Y\",\"stop\":true},\
+                    {\"to\":\"CAB\",\"carrier\":\"Q1\",\"day\":\"2025-04-10\",\"cabin\":\"Y\",\"stop\":true},\
+                    {\"to\":\"CAC\",\"carrier\":\"Q1\",\"day\":\"2025-04-11\",\"cabin\":\"Y\",\"stop\":true},\
+                    {\"to\":\"CAA\",\"carrier\":\"Q1\",\"day\":\"2025-04-12\",\"cabin\":\"Y\",\"stop\":true},\
+                    {\"to\":\"CAB\",\"carrier\":\"Q1\",\"day\":\"2025-04-13\",\"cabin\":\"Y\",\"stop\":true},\
+                    {\"to\":\"CAC\",\"carrier\":\"Q1\",\"day\":\"2025-04-14\",\"cabin\":\"Y\",\"stop\":true},\
+                    {\"to\":\"CAA\",\"carrier\":\"Q1\",\"day\":\"2025-04-15\",\"cabin\":\"Y\",\"stop\":true}]}",
+        price: None,
+    },
+    LongSource {
+        name: "half round trips whose least stay no close pair meets",
+        tariff: "HEAD,1,1,2025-01-01\nCUR,AA,XAA,1.000000,2,1,U\nCUR,AB,XAB,1.000000,2,1,U\nCITY,CAA,AA,2\n\
+                 CITY,CAB,AB,2\nRULE,S0,16,16,0,16,999,Y,*,*\nRULE,S1,16,16,0,16,999,Y,*,*\n\
+                 FARE,CAA,CAB,EH,YY,Y,HR,S0,100.08\nFARE,CAA,CAB,EH,YY,Y,HR,S1,100.36\n\
+                 FARE,CAA,CAB,EH,YY,Y,OW,,150.00\nFARE,CAB,CAA,EH,YY,Y,HR,S0,100.48\n\
+                 FARE,CAB,CAA,EH,YY,Y,HR,S1,100.04\nFARE,CAB,CAA,EH,YY,Y,OW,,150.00\nEND\n",
+        itinerary: "{\"sale\":\"2025-03-01\",\"from\":\"CAA\",\"sectors\":[\
+                    {\"to\":\"CAB\",\"carrier\":\"Q1\",\"day\":\"2025-04-01\",\"cabin\":\"Y\",\"stop\":true},\
+                    {\"to\":\"CAA\",\"carrier\":\"Q1\",\"day\":\"2025-04-02\",\"cabin\":\"Y\",\"stop\":true},\
+                    {\"to\":\"CAB\",\"carrier\":\"Q1\",\"day\":\"2025-04-03\",\"cabin\":\"Y\",\"stop\":true},\
+                    {\"to\":\"CAA\",\"carrier\":\"Q1\",\"day\":\"2025-04-04\",\"cabin\":\"Y\",\"stop\":true},\
+                    {\"to\":\"CAB\",\"carrier\":\"Q1\",\"day\":\"2025-04-05\",\"cabin\":\"Y\",\"stop\":true},\
+                    {\"to\":\"CAA\",\"carrier\":\"Q1\",\"day\":\"2025-04-06\",\"cabin\":\"Y\",\"stop\":true},\
+                    {\"to\":\"CAB\",\"carrier\":\"Q1\",\"day\":\"2025-04-07\",\"cabin\":\"Y\",\"stop\":true},\
+                    {\"to\":\"CAA\",\"carrier\":\"Q1\",\"day\":\"2025-04-08\",\"cabin\":\"Y\",\"stop\":true},\
+                    {\"to\":\"CAB\",\"carrier\":\"Q1\",\"day\":\"2025-04-09\",\"cabin\":\"Y\",\"stop\":true},\
+                    {\"to\":\"CAA\",\"carrier\":\"Q1\",\"day\":\"2025-04-10\",\"cabin\":\"Y\",\"stop\":true},\
+                    {\"to\":\"CAB\",\"carrier\":\"Q1\",\"day\":\"2025-04-11\",\"cabin\":\"Y\",\"stop\":true},\
+                    {\"to\":\"CAA\",\"carrier\":\"Q1\",\"day\":\"2025-04-12\",\"cabin\":\"Y\",\"stop\":true},\
+                    {\"to\":\"CAB\",\"carrier\":\"Q1\",\"day\":\"2025-04-13\",\"cabin\":\"Y\",\"stop\":true},\
+                    {\"to\":\"CAA\",\"carrier\":\"Q1\",\"day\":\"2025-04-14\",\"cabin\":\"Y\",\"stop\":true},\
+                    {\"to\":\"CAB\",\"carrier\":\"Q1\",\"day\":\"2025-04-15\",\"cabin\":\"Y\",\"stop\":true},\
+                    {\"to\":\"CAA\",\"carrier\":\"Q1\",\"day\":\"2025-04-16\",\"cabin\":\"Y\",\"stop\":true}]}",
+        price: Some(240_000),
+    },
+    LongSource {
+        name: "rules that combine with nothing in a unit",
+        tariff: "HEAD,1,1,2025-01-01\nCUR,AA,XAA,1.000000,2,1,U\nCUR,AB,XAB,1.000000,2,1,U\nCITY,CAA,AA,2\n\
+                 CITY,CAB,AB,2\nRULE,N0,16,16,0,0,999,Y,,*\nRULE,N1,16,16,0,0,999,Y,,*\n\
+                 RULE,N2,16,16,0,0,999,Y,,*\nFARE,CAA,CAB,EH,YY,Y,HR,N0,100.08\n\
+                 FARE,CAA,CAB,EH,YY,Y,HR,N1,100.36\nFARE,CAA,CAB,EH,YY,Y,HR,N2,100.48\n\
+                 FARE,CAB,CAA,EH,YY,Y,HR,N0,100.04\nFARE,CAB,CAA,EH,YY,Y,HR,N1,100.16\n\
+                 FARE,CAB,CAA,EH,YY,Y,HR,N2,100.07\nEND\n",
+        itinerary: "{\"sale\":\"2025-03-01\",\"from\":\"CAA\",\"sectors\":[\
+                    {\"to\":\"CAB\",\"carrier\":\"Q1\",\"day\":\"2025-04-01\",\"cabin\":\"Y\",\"stop\":true},\
+                    {\"to\":\"CAA\",\"carrier\":\"Q1\",\"day\":\"2025-04-02\",\"cabin\":\"Y\",\"stop\":true},\
+                    {\"to\":\"CAB\",\"carrier\":\"Q1\",\"day\":\"2025-04-03\",\"cabin\":\"Y\",\"stop\":true},\
+                    {\"to\":\"CAA\",\"carrier\":\"Q1\",\"day\":\"2025-04-04\",\"cabin\":\"Y\",\"stop\":true},\
+                    {\"to\":\"CAB\",\"carrier\":\"Q1\",\"day\":\"2025-04-05\",\"cabin\":\"Y\",\"stop\":true},\
+                    {\"to\":\"CAA\",\"carrier\":\"Q1\",\"day\":\"2025-04-06\",\"cabin\":\"Y\",\"stop\":true},\
+                    {\"to\":\"CAB\",\"carrier\":\"Q1\",\"day\":\"2025-04-07\",\"cabin\":\"Y\",\"stop\":true},\
+                    {\"to\":\"CAA\",\"carrier\":\"Q1\",\"day\":\"2025-04-08\",\"cabin\":\"Y\",\"stop\":true},\
+                    {\"to\":\"CAB\",\"carrier\":\"Q1\",\"day\":\"2025-04-09\",\"cabin\":\"Y\",\"stop\":true},\
+                    {\"to\":\"CAA\",\"carrier\":\"Q1\",\"day\":\"2025-04-10\",\"cabin\":\"Y\",\"stop\":true},\
+                    {\"to\":\"CAB\",\"carrier\":\"Q1\",\"day\":\"2025-04-11\",\"cabin\":\"Y\",\"stop\":true},\
+                    {\"to\":\"CAA\",\"carrier\":\"Q1\",\"day\":\"2025-04-12\",\"cabin\":\"Y\",\"stop\":true},\
+                    {\"to\":\"CAB\",\"carrier\":\"Q1\",\"day\":\"2025-04-13\",\"cabin\":\"Y\",\"stop\":true},\
+                    {\"to\":\"CAA\",\"carrier\":\"Q1\",\"day\":\"2025-04-14\",\"cabin\":\"Y\",\"stop\":true},\
+                    {\"to\":\"CAB\",\"carrier\":\"Q1\",\"day\":\"2025-04-15\",\"cabin\":\"Y\",\"stop\":true},\
+                    {\"to\":\"CAA\",\"carrier\":\"Q1\",\"day\":\"2025-04-16\",\"cabin\":\"Y\",\"stop\":true}]}",
+        price: None,
+    },
+];
