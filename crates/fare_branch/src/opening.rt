@@ -37,14 +37,14 @@ fn try_dive<B: Bound>(
     }
 }
 
-/// Whether a price is twice what all costs at least, or more, so that a ceiling is worth its time: a circle minimum may
-/// have raised it.
+/// Whether a price is half as much again as what all costs at least, or more, so that a ceiling is worth its time: a
+/// circle minimum may have raised it.
 pub fn is_far(homing: &Homing, price: u64) -> bool
     ensures { result ≡ is_far price (rest_at homing.now.rest 0) }
 {
     match number_at(&homing.rest, 0).amount() {
         None => false,
-        Some(floor) => price != NO_PRICE && floor.saturating_add(floor) <= price,
+        Some(floor) => price != NO_PRICE && floor.saturating_add(floor / 2) <= price,
     }
 }
 

@@ -30,3 +30,4 @@ pub mod AheadLemmas
 pub mod CircleLemmas
 pub mod FollowLemmas
 pub mod EntryLemmas
+pub mod DearLemmas

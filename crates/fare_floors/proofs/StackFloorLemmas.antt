@@ -394,7 +394,7 @@ module _ (tariff : Tariff) (trip : Itinerary) (front rest : List Part) (price : 
 module _ (table : Pricing) (homing : Homing) (are : AreHomingsOf table.edition table.trip homing) (front : List Part) (within : end_of front (length front) ≤ count table.trip) (behind : List (Option ℕ))
     (over : AreOver table homing front (greatest_unit front (places front)) behind) (found : Option ℕ) (sum : IsUnderSum (Some (units_floor table.edition table.trip front)) (rest_at behind (end_of front (length front))) found) where
   -- what the units cost at least, with what is behind, is no more than the price of a completion
-  found_up : (parts : List Part) (price : ℕ) → IsCompletion table.edition table.trip front parts price → IsWithin homing.ceiling price → IsUpTo price found
+  pub found_up : (parts : List Part) (price : ℕ) → IsCompletion table.edition table.trip front parts price → IsWithin homing.ceiling price → IsUpTo price found
   found_up parts price c cheap =
       let P : List Part → Type 0 = λ xs. IsLawful table.edition table.trip xs price in
       let lawful : IsLawful table.edition table.trip (front ++ c.begins.0) price = subst P c.begins.1 c.lawful in

@@ -9,6 +9,7 @@ pub mod Ending
 pub mod Refusals
 pub mod Joining
 pub mod Costs
+pub mod Dear
 pub mod LastParts
 pub mod Stack
 pub mod Ahead

@@ -12,6 +12,7 @@
 //! - `lasting`: what the last part of a unit that goes on costs at least;
 //! - `barring`: what is behind first parts where no unit is open, without the fares that they bar;
 //! - `stacking`: what is behind each point at least over the units of first parts, since what begins must end;
+//! - `dear`: whether the last of first parts makes the circle minimum of its unit greater than a ceiling;
 //! - `stack`: what is known of first parts by their units: what each costs at least, what is behind, and a floor;
 //! - `ahead`: what is behind the part that comes next at least;
 //! - `stage`: where a search stands: first parts with what is ahead of them.
@@ -22,6 +23,7 @@
 mod ahead;
 mod barring;
 mod costs;
+mod dear;
 mod ending;
 mod floors;
 mod joining;

@@ -1,13 +1,15 @@
 //! What is known of first parts by their units: what each costs at least, what is behind each point over them, and a
 //! floor.
 
-ghost use Rattle.std.specs.Prelude.{◌≤◌, length};
+ghost use Rattle.std.specs.Prelude.{◌≡◌, ◌≤◌, length, None, option_map, if◌then◌else◌};
 ghost use Rattle.fare_floors.specs.Costs.{AreFloorsBefore, AreUnitFloors};
 ghost use Rattle.fare_floors.specs.Floors.{IsMadeWith};
 ghost use Rattle.fare_floors.specs.Stack.{IsStack};
+ghost use Rattle.fare_homing.specs.Floor.{capped_sum};
 ghost use Rattle.fare_homing.specs.Rows.{AreHomingsOf};
 
 use crate::costs::{MOST_UNITS, floors_after, floors_of, spent_on};
+use crate::dear::is_over;
 use crate::floors::lowered_to;
 use crate::partial::Partial;
 use crate::stacking::over_units;
@@ -28,6 +30,16 @@ pub struct Stack {
     pub floor: Option<u64>,
 }
 
+/// What was paid with what is behind; nothing where all is beyond the ceiling.
+fn floor_unless(beyond: bool, paid: u64, behind: Floor) -> Option<u64>
+    ensures { result ≡ (if beyond then None else option_map (capped_sum paid) behind) }
+{
+    if beyond {
+        return None;
+    }
+    paid_with(paid, behind)
+}
+
 /// What is known of first parts by what each of their units costs at least.
 fn stack_with(table: &Table, homing: &Homing, partial: &Partial, floors: [u64; MOST_UNITS]) -> Stack
     requires homing { AreHomingsOf table.now.edition table.now.trip homing.now }
@@ -40,7 +52,8 @@ fn stack_with(table: &Table, homing: &Homing, partial: &Partial, floors: [u64; M
     let spent = spent_on(&floors, greatest);
     let over = over_units(table, homing, partial);
     let behind = number_at(&over[greatest], partial.end());
-    let floor = lowered_to(homing.ceiling, paid_with(spent, behind));
+    let beyond = is_over(table, homing.ceiling, partial);
+    let floor = lowered_to(homing.ceiling, floor_unless(beyond, spent, behind));
     Stack {
         floors,
         spent,

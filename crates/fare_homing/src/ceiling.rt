@@ -38,7 +38,7 @@ pub(crate) fn ceiling_at(table: &Table, price: u64) -> Option<Ceiling>
 
 /// Whether a fare on a part from a point to another makes the circle minimum of a unit that closes at a third greater
 /// than a ceiling: twice its reference from there to where the part ends is above the price.
-pub(crate) fn is_too_dear(
+pub fn is_too_dear(
     table: &Table,
     ceiling: Ceiling,
     a: usize,

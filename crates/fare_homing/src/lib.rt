@@ -45,7 +45,7 @@ mod threes;
 mod whole;
 
 pub use barring::add_barred;
-pub use ceiling::Ceiling;
+pub use ceiling::{Ceiling, is_too_dear};
 pub use floor::{Floor, GREATEST_FLOOR, NOTHING, added, greater, lesser, number_at, paid_with};
 pub use homing::{
     Homing, Standing, begun_from, cell, closing_from, homing_of, jaw_from, lie_near, remake,
