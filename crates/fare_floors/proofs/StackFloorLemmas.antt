@@ -431,10 +431,3 @@ within_is_floor table ceiling front found under above = as_floor found (λ parts
         let low : up.0 ≤ price = up.2 in
         let same : floor ≡ up.0 = same_Some floor up.0 up.1 in
         omega arith
-
--- so it is a floor
-pub stack_is_floor : (table : Pricing) (homing : Homing) → AreHomingsOf table.edition table.trip homing → (front : List Part) → end_of front (length front) ≤ count table.trip → (behind : List (Option ℕ)) → AreOver table homing front (greatest_unit front (places front)) behind
-    → (found lowered : Option ℕ) → IsUnderSum (Some (units_floor table.edition table.trip front)) (rest_at behind (end_of front (length front))) found → ((most : ℕ) → IsUpTo most found → IsUpTo most lowered) → IfSome homing.ceiling (λ known. IsUpTo (known.price + 1) lowered)
-    → IsFloorAnswer table.edition table.trip front lowered
-stack_is_floor table homing are front within behind over found lowered sum kept above =
-    within_is_floor table homing.ceiling front lowered (λ parts price c cheap. kept price (found_up table homing are front within behind over found sum parts price c cheap)) above
