@@ -22,6 +22,33 @@ use fare_rules::Part;
 /// Some first parts with their floor, where there are any.
 type Step = Option<(Partial, u64)>;
 
+/// Which floors a step may have.
+#[derive(Clone, Copy)]
+struct Wanted {
+    /// None below this one.
+    from: u64,
+    /// None that is guessed to be above this one.
+    most: u64,
+}
+
+impl Wanted {
+    /// First those that are no dearer than what they follow, or else than the least that may come.
+    fn first(from: u64, floor: Option<u64>) -> Wanted {
+        Wanted {
+            from,
+            most: from.max(floor.unwrap_or(0)),
+        }
+    }
+
+    /// Then all.
+    fn then(self) -> Wanted {
+        Wanted {
+            from: self.from,
+            most: u64::MAX,
+        }
+    }
+}
+
 /// Whether the floor of what was found is no more than another.
 fn is_no_dearer(found: &Step, floor: u64) -> bool {
     match found {
@@ -33,7 +60,13 @@ fn is_no_dearer(found: &Step, floor: u64) -> bool {
 /// The one with the lesser floor of what was found and some first parts that one more follows, where these can bring
 /// anything and their floor isn't below a number.
 #[tactic(auto, using(crate::proofs::DiveLemmas::goes_next))]
-fn lesser_step(stage: &Stage, part: Part, guess: Option<u64>, from: u64, found: Step) -> Step
+fn lesser_step(
+    stage: &Stage,
+    part: Part,
+    guess: Option<u64>,
+    wanted: Wanted,
+    found: Step,
+) -> Step
     requires stage { IsStage stage.now.table.now stage.now.homing.now stage.now.front.now stage.now.ahead.now }
     requires found { IfSome found (GoesFrom stage.now.table.now stage.now.front.now) }
     ensures { IfSome result (GoesFrom stage.now.table.now stage.now.front.now) }
@@ -42,7 +75,7 @@ fn lesser_step(stage: &Stage, part: Part, guess: Option<u64>, from: u64, found: 
     let Some(guess) = guess else {
         return found;
     };
-    if is_no_dearer(&found, guess) {
+    if wanted.most < guess || is_no_dearer(&found, guess) {
         return found;
     }
     let Some(longer) = stage.front.next(table, part) else {
@@ -51,7 +84,7 @@ fn lesser_step(stage: &Stage, part: Part, guess: Option<u64>, from: u64, found: 
     let Some(floor) = stack_after(table, homing, &longer, &stage.ahead.floors).floor else {
         return found;
     };
-    if floor < from || is_no_dearer(&found, floor) {
+    if floor < wanted.from || is_no_dearer(&found, floor) {
         return found;
     }
     if is_crowded(table, homing, &longer) || is_barred(table, &longer) {
@@ -61,7 +94,13 @@ fn lesser_step(stage: &Stage, part: Part, guess: Option<u64>, from: u64, found: 
 }
 
 /// Over the units of a part that ends at a point and has a fare.
-fn least_by_units(stage: &Stage, end: usize, entry: &Entry, from: u64, found: Step) -> Step
+fn least_by_units(
+    stage: &Stage,
+    end: usize,
+    entry: &Entry,
+    wanted: Wanted,
+    found: Step,
+) -> Step
     requires stage { IsStage stage.now.table.now stage.now.homing.now stage.now.front.now stage.now.ahead.now }
     requires within { end ≤ count stage.now.table.now.trip }
     requires bounds { IsInBounds entry.now }
@@ -78,13 +117,13 @@ fn least_by_units(stage: &Stage, end: usize, entry: &Entry, from: u64, found: St
             fare: entry.fare,
         };
         let guess = floor_with(stage.ahead, entry, part);
-        found = lesser_step(stage, part, guess, from, found);
+        found = lesser_step(stage, part, guess, wanted, found);
     }
     found
 }
 
 /// Over the entries of the span to a point.
-fn least_by_entries(stage: &Stage, end: usize, from: u64, found: Step) -> Step
+fn least_by_entries(stage: &Stage, end: usize, wanted: Wanted, found: Step) -> Step
     requires stage { IsStage stage.now.table.now stage.now.homing.now stage.now.front.now stage.now.ahead.now }
     requires rises { next_start stage.now.table.now.trip stage.now.front.now < end }
     requires within { end ≤ count stage.now.table.now.trip }
@@ -94,28 +133,59 @@ fn least_by_entries(stage: &Stage, end: usize, from: u64, found: Step) -> Step
     let start = stage.front.next_start(stage.table.trip());
     let mut found = found;
     for entry in stage.table.entries(start, end) {
-        found = least_by_units(stage, end, entry, from, found);
+        found = least_by_units(stage, end, entry, wanted, found);
+    }
+    found
+}
+
+/// Over the points where one more part may end.
+fn least_by_ends(stage: &Stage, wanted: Wanted, found: Step) -> Step
+    requires stage { IsStage stage.now.table.now stage.now.homing.now stage.now.front.now stage.now.ahead.now }
+    requires found { IfSome found (GoesFrom stage.now.table.now stage.now.front.now) }
+    ensures { IfSome result (GoesFrom stage.now.table.now stage.now.front.now) }
+{
+    let trip = stage.table.trip();
+    let mut found = found;
+    for end in (stage.front.next_start(trip) + 1..trip.count() + 1).rev() {
+        found = least_by_entries(stage, end, wanted, found);
     }
     found
 }
 
 /// Some first parts that one more follows, with the least floor that isn't below a number; nothing where none follows.
+/// Those that are no dearer than what they follow come first: mostly one is among them, and then no other is made.
 pub(crate) fn least_step(table: &Table, homing: &Homing, front: &Partial, from: u64) -> Step
     requires homing { AreHomingsOf table.now.edition table.now.trip homing.now }
     requires made { IsMadeWith table.now front.now }
     ensures { IfSome result (GoesFrom table.now front.now) }
 {
-    let trip = table.trip();
-    let ahead = ahead_of(table, homing, front, stack_of(table, homing, front));
+    let stack = stack_of(table, homing, front);
+    let wanted = Wanted::first(from, stack.floor);
+    let ahead = ahead_of(table, homing, front, stack);
     let stage = Stage {
         table,
         homing,
         front,
         ahead: &ahead,
     };
-    let mut found = None;
-    for end in (front.next_start(trip) + 1..trip.count() + 1).rev() {
-        found = least_by_entries(&stage, end, from, found);
+    let found = least_by_ends(&stage, wanted, None);
+    if is_no_dearer(&found, wanted.most) {
+        return found;
+    }
+    least_by_ends(&stage, wanted.then(), found)
+}
+
+/// Over the choices of a piece.
+fn least_by_choices(stage: &Stage, counts: &Counts, piece: Piece, wanted: Wanted, found: Step) -> Step
+    requires stage { IsStage stage.now.table.now stage.now.homing.now stage.now.front.now stage.now.ahead.now }
+    requires none { stage.now.front.now ≡ [] }
+    requires counts { AreCounts stage.now.table.now.edition stage.now.table.now.trip counts.now }
+    requires found { IfSome found (StartsIn stage.now.table.now piece) }
+    ensures { IfSome result (StartsIn stage.now.table.now piece) }
+{
+    let mut found = found;
+    for number in piece.first..piece.past.min(choices(stage.table)) {
+        found = lesser_start(stage, counts, piece, number, wanted, found);
     }
     found
 }
@@ -126,7 +196,9 @@ pub(crate) fn first_step(table: &Table, homing: &Homing, piece: Piece, from: u64
     ensures { IfSome result (StartsIn table.now piece) }
 {
     let none = Partial::new();
-    let ahead = ahead_of(table, homing, &none, stack_of(table, homing, &none));
+    let stack = stack_of(table, homing, &none);
+    let wanted = Wanted::first(from, stack.floor);
+    let ahead = ahead_of(table, homing, &none, stack);
     let stage = Stage {
         table,
         homing,
@@ -134,11 +206,11 @@ pub(crate) fn first_step(table: &Table, homing: &Homing, piece: Piece, from: u64
         ahead: &ahead,
     };
     let counts = counts_of(table);
-    let mut found = None;
-    for number in piece.first..piece.past.min(choices(table)) {
-        found = lesser_start(&stage, &counts, piece, number, from, found);
+    let found = least_by_choices(&stage, &counts, piece, wanted, None);
+    if is_no_dearer(&found, wanted.most) {
+        return found;
     }
-    found
+    least_by_choices(&stage, &counts, piece, wanted.then(), found)
 }
 
 /// The one with the lesser floor of what was found and the first part of a choice.
@@ -147,7 +219,7 @@ fn lesser_start(
     counts: &Counts,
     piece: Piece,
     number: u32,
-    from: u64,
+    wanted: Wanted,
     found: Step,
 ) -> Step
     requires stage { IsStage stage.now.table.now stage.now.homing.now stage.now.front.now stage.now.ahead.now }
@@ -171,7 +243,7 @@ fn lesser_start(
     let Some(guess) = floor_ahead(table, stage.ahead, stage.front, part) else {
         return found;
     };
-    if is_no_dearer(&found, guess) {
+    if wanted.most < guess || is_no_dearer(&found, guess) {
         return found;
     }
     let Some(first) = stage.front.next(table, part) else {
@@ -180,7 +252,7 @@ fn lesser_start(
     let Some(floor) = stack_of(table, homing, &first).floor else {
         return found;
     };
-    if floor < from || is_no_dearer(&found, floor) || is_crowded(table, homing, &first) {
+    if floor < wanted.from || is_no_dearer(&found, floor) || is_crowded(table, homing, &first) {
         return found;
     }
     Some((first, floor))
