@@ -11,11 +11,7 @@ use Rattle.fare_rules.proofs.NumberLemmas.{numbers_more}
 use Rattle.fare_units.specs.Walk.{IsFront, next_start}
 use Rattle.fare_units.proofs.NextLemmas.{front_part, front_start, front_unit, greatest_same, next_part, start_by}
 use Rattle.fare_units.proofs.StepLemmas.{end_before_next}
-
--- the greatest unit of some places and others is that of the ones or of the others
-pub greatest_append : (parts : List Part) (xs ys : List ℕ) → greatest_unit parts (xs ++ ys) ≡ max (greatest_unit parts xs) (greatest_unit parts ys)
-greatest_append parts [] ys = omega arith
-greatest_append parts (x ∷ xs) ys = rw (greatest_append parts xs ys) (omega arith)
+use Rattle.fare_units.proofs.UnitLemmas.{greatest_append}
 
 only_end : (most : ℕ) (part : Part) (j : ℕ) → part.end ≤ most → (get_or (part ∷ []) j no_part).end ≤ most
 only_end most part zero h = h

@@ -1,5 +1,5 @@
 -- Units that are numbered in order each have a part, and parts that cover a trip go on within it.
-use Rattle.std.proofs.Common.{◌≡◌, ℕ, zero, suc, ◌+◌, ◌-◌, ◌<◌, ◌≤◌, Bool, true, false, max, List, [], ◌∷◌, length, get_or, filter, None, refl, ap, subst, sym, ◌∙◌, inl, inr, arith}
+use Rattle.std.proofs.Common.{◌≡◌, ℕ, zero, suc, ◌+◌, ◌-◌, ◌<◌, ◌≤◌, Bool, true, false, max, List, [], ◌∷◌, ◌++◌, length, get_or, filter, None, refl, ap, subst, sym, ◌∙◌, inl, inr, arith}
 use Rattle.std.specs.List.{list_any}
 use Rattle.std.proofs.lemmas.Bool.{cases_lt, ltb-false, eq-eqb}
 use Rattle.std.proofs.lemmas.List.{get_or_past}
@@ -13,7 +13,11 @@ use Rattle.fare_rules.proofs.NumberLemmas.{numbers_more, find_none, any_kept_non
 use Rattle.fare_rules.proofs.CoverLemmas.{IsCover, cover, both_false}
 use Rattle.fare_rules.proofs.LawfulLemmas.{kept_from_unbroken}
 use Rattle.fare_units.specs.Advance.{Advances}
-use Rattle.fare_units.proofs.FrontLemmas.{greatest_append}
+
+-- the greatest unit of some places and others is that of the ones or of the others
+pub greatest_append : (parts : List Part) (xs ys : List ℕ) → greatest_unit parts (xs ++ ys) ≡ max (greatest_unit parts xs) (greatest_unit parts ys)
+greatest_append parts [] ys = omega arith
+greatest_append parts (x ∷ xs) ys = rw (greatest_append parts xs ys) (omega arith)
 
 -- among places up to one, each unit number from 1 to the greatest has a part
 found_up_to : (parts : List Part) → misnumbered parts ≡ None → (n unit : ℕ) → n ≤ length parts → 1 ≤ unit → unit ≤ greatest_unit parts (numbers 1 (n + 1)) → (k : ℕ) × (1 ≤ k) × (k ≤ n) × (unit_of parts k ≡ unit)

@@ -1,11 +1,8 @@
 ghost use Rattle.std.specs.Prelude.{◌≡◌, ◌≤◌, ◌<◌, ◌++◌, ◌∷◌, [], ◌↔◌, List, IsOk, IfErr, OnOk, OnErr, length, take};
 
-use fare_codes::MOST_SECTORS;
+use crate::limits::MOST_PARTS;
 use fare_rules::Part;
 use std::marker::Model;
-
-/// How many parts a construction holds at most: one for each sector of a trip.
-pub const MOST_PARTS: usize = MOST_SECTORS;
 
 /// What stands in the room that no part takes.
 const BLANK: Part = Part {
@@ -24,7 +21,7 @@ pub struct Construction {
 impl Model for Construction {
     ghost use Rattle.std.specs.Prelude.{◌≤◌, List, take};
     ghost use Rattle.fare_rules.specs.declared.part.Part.{Part};
-    ghost use Rattle.fare_units.specs.declared.construction.TheConstants.{MOST_PARTS};
+    ghost use Rattle.fare_units.specs.declared.limits.TheConstants.{MOST_PARTS};
 
     ghost Value = { List Part };
 

@@ -12,6 +12,7 @@
 
 mod best;
 mod construction;
+mod limits;
 mod parts;
 mod prices;
 mod rules;
@@ -19,7 +20,8 @@ mod rules;
 pub use best::order::earlier;
 pub use best::plain::{is_fruitless, plain_best};
 pub use best::quoter::{PlainQuoter, Quoter};
-pub use construction::{Construction, MOST_PARTS};
+pub use construction::Construction;
+pub use limits::MOST_PARTS;
 pub use fare_rules::{Broken, Part, UnitKind, UnitSheet};
 pub use parts::countries::{country, is_same_country, lie_together};
 pub use parts::direction::{is_back, priced_back};

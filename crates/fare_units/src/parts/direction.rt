@@ -5,7 +5,7 @@ ghost use Rattle.fare_rules.specs.Direction.{heads_home, goes_back, priced_back,
 ghost use Rattle.fare_rules.specs.Shape.{lie_together};
 ghost use Rattle.fare_units.specs.Advance.{Advances, EndsWithin};
 
-use crate::construction::MOST_PARTS;
+use crate::limits::MOST_PARTS;
 use crate::parts::countries::lie_together;
 use crate::parts::fares::is_hr;
 use crate::parts::own::{last_of, origin, own};

@@ -5,7 +5,7 @@ ghost use Rattle.fare_rules.specs.Construction.{own, first_of, last_of, origin};
 ghost use Rattle.fare_units.specs.Advance.{EndsWithin};
 ghost use Rattle.fare_units.specs.Places.{ArePlaces};
 
-use crate::construction::MOST_PARTS;
+use crate::limits::MOST_PARTS;
 use crate::parts::places::{start_city, unit_of};
 use arrayvec::ArrayVec;
 use fare_codes::City;

@@ -12,7 +12,7 @@ ghost use Rattle.fare_units.specs.Advance.{Advances};
 ghost use Rattle.fare_units.specs.Places.{IsPlace, ArePlaces};
 ghost use Rattle.fare_units.specs.Turning.{is_left_out, greatest_without};
 
-use crate::construction::MOST_PARTS;
+use crate::limits::MOST_PARTS;
 use crate::parts::fares::fare_of;
 use crate::parts::own::{last_of, origin, own};
 use crate::parts::places::{end_of, start_of};

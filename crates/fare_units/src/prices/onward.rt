@@ -9,7 +9,7 @@ ghost use Rattle.fare_units.specs.Advance.{Advances, EndsWithin};
 ghost use Rattle.fare_units.specs.Onward.{is_shut_unit, must_go_on, is_in_city, is_in_country, may_come_home};
 ghost use Rattle.fare_units.specs.Onward.{is_stranded, is_homeward};
 
-use crate::construction::MOST_PARTS;
+use crate::limits::MOST_PARTS;
 use crate::parts::countries::lie_together;
 use crate::parts::direction::heads_home;
 use crate::parts::own::{origin, own};

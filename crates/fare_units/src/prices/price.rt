@@ -14,7 +14,7 @@ ghost use Rattle.fare_units.specs.Known.{IsOf};
 ghost use Rattle.fare_units.specs.Places.{IsPlace, ArePlaces};
 ghost use Rattle.fare_units.specs.Shut.{lacks_amount};
 
-use crate::construction::MOST_PARTS;
+use crate::limits::MOST_PARTS;
 use crate::parts::direction::is_back_in;
 use crate::parts::fares::{fare_of, holds_ow, is_ow};
 use crate::parts::own::{first_of, own};

@@ -5,7 +5,8 @@ ghost use Rattle.fare_rules.specs.Lawful.{first_broken, lawful_price};
 ghost use Rattle.fare_units.specs.Advance.{Advances, MeetsFirstThree};
 ghost use Rattle.fare_units.specs.Known.{IsOf};
 
-use crate::construction::{Construction, MOST_PARTS};
+use crate::construction::Construction;
+use crate::limits::MOST_PARTS;
 use crate::prices::price::price;
 use crate::rules::lawful::first_broken;
 use fare_component::Table;

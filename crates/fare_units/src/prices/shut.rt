@@ -6,7 +6,7 @@ ghost use Rattle.fare_units.specs.Advance.{Advances, EndsWithin};
 ghost use Rattle.fare_units.specs.Barred.{is_untimely};
 ghost use Rattle.fare_units.specs.Shut.{is_shut, shut_price, is_priceless};
 
-use crate::construction::MOST_PARTS;
+use crate::limits::MOST_PARTS;
 use crate::parts::fares::holds_ow;
 use crate::parts::own::own;
 use crate::prices::price::{MOST_UNIT_PRICE, lacks_amount, unit_price};

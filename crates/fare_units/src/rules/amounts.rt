@@ -6,7 +6,7 @@ ghost use Rattle.fare_units.specs.Advance.{Advances};
 ghost use Rattle.fare_units.specs.Breaks.{is_unpriced};
 ghost use Rattle.fare_units.specs.Places.{IsPlace};
 
-use crate::construction::MOST_PARTS;
+use crate::limits::MOST_PARTS;
 use crate::parts::direction::is_back;
 use crate::parts::places::{end_of, part_at, start_of};
 use crate::rules::first::first_that;

@@ -6,7 +6,7 @@ ghost use Rattle.fare_rules.specs.UnitRules.{are_unit_mates, are_end_mates, is_m
 ghost use Rattle.fare_rules.specs.UnitRules.{clashed};
 ghost use Rattle.fare_units.specs.Barred.{is_uncombined};
 
-use crate::construction::MOST_PARTS;
+use crate::limits::MOST_PARTS;
 use crate::parts::fares::fare_of;
 use crate::parts::places::is_same_unit;
 use crate::rules::first::first_that;

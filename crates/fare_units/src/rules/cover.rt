@@ -4,7 +4,7 @@ ghost use Rattle.std.specs.Prelude.{◌≡◌, ◌≤◌, length, find};
 ghost use Rattle.fare_rules.specs.Construction.{places, is_misended, ends_early, uncovered, is_misnumbered};
 ghost use Rattle.fare_rules.specs.Construction.{misnumbered, is_unfiled, unfiled};
 
-use crate::construction::MOST_PARTS;
+use crate::limits::MOST_PARTS;
 use crate::parts::fares::fare_of;
 use crate::parts::places::{end_of, greatest_below, start_of, unit_of};
 use crate::rules::first::first_that;

@@ -3,7 +3,7 @@
 ghost use Rattle.std.specs.Prelude.{◌≡◌, ◌<◌, ◌≤◌, length};
 ghost use Rattle.fare_rules.specs.Shape.{is_same_unit, is_begun_before, is_straddled, is_crossed, crossed};
 
-use crate::construction::MOST_PARTS;
+use crate::limits::MOST_PARTS;
 use crate::parts::places::is_same_unit;
 use crate::rules::first::first_that;
 use fare_rules::Part;

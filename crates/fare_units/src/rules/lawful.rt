@@ -9,7 +9,7 @@ ghost use Rattle.fare_units.specs.Known.{IsOf};
 ghost use Rattle.fare_rules.specs.Lawful.{broken_at, first_broken};
 ghost use Rattle.fare_rules.specs.Rule.{number_of};
 
-use crate::construction::MOST_PARTS;
+use crate::limits::MOST_PARTS;
 use crate::rules::amounts::unpriced;
 use crate::rules::combine::clashed;
 use crate::rules::cover::{misnumbered, uncovered, unfiled};

@@ -11,7 +11,7 @@ ghost use Rattle.fare_units.specs.Advance.{Advances};
 ghost use Rattle.fare_units.specs.Places.{IsPlace};
 ghost use Rattle.fare_units.specs.Tests.{fare_passes, fare_fails, span_breaks, part_breaks};
 
-use crate::construction::MOST_PARTS;
+use crate::limits::MOST_PARTS;
 use crate::parts::direction::is_back;
 use crate::parts::fares::fare_of;
 use crate::parts::places::{end_of, start_of};

@@ -5,7 +5,7 @@ ghost use Rattle.fare_rules.specs.Construction.{units};
 ghost use Rattle.fare_units.specs.Advance.{Advances};
 ghost use Rattle.fare_units.specs.Tests.{unit_breaks};
 
-use crate::construction::MOST_PARTS;
+use crate::limits::MOST_PARTS;
 use crate::parts::own::own;
 use crate::parts::places::greatest_unit;
 use crate::rules::combine::is_misfitted_in;
