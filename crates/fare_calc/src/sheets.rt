@@ -2,8 +2,8 @@
 
 ghost use Rattle.std.specs.Prelude.{◌≡◌, ◌<◌, ◌≤◌, None, All, IfSome, length};
 ghost use Rattle.fare_rules.specs.Lawful.{first_broken};
-ghost use Rattle.fare_units.specs.Advance.{Advances};
-ghost use Rattle.fare_units.specs.Places.{IsPlace};
+ghost use Rattle.fare_lawful.specs.Advance.{Advances};
+ghost use Rattle.fare_lawful.specs.Places.{IsPlace};
 ghost use Rattle.fare_calc.specs.LineOf.{FitsLine};
 ghost use Rattle.fare_calc.specs.PartSheets.{part_sheets, sheet_of_part};
 ghost use Rattle.fare_calc.specs.UnitSheets.{FitsUnit, unit_sheets};

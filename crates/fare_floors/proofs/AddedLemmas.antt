@@ -7,7 +7,7 @@ use Rattle.fare_tariff.specs.Tariff.{Tariff}
 use Rattle.fare_rules.specs.declared.part.Part.{Part}
 use Rattle.fare_rules.specs.Construction.{is_own, own, unit_of}
 use Rattle.fare_rules.specs.UnitPrice.{unit_price, unit_sheet}
-use Rattle.fare_units.specs.Shut.{has_gap_before, is_shut}
+use Rattle.fare_lawful.specs.Shut.{has_gap_before, is_shut}
 use Rattle.fare_units.proofs.NextLemmas.{next_part}
 use Rattle.fare_units.proofs.ShutLemmas.{shut_has_parts}
 use Rattle.fare_floors.specs.Costs.{part_least, unit_floor, unit_least}

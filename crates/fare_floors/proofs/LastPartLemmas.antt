@@ -21,7 +21,7 @@ use Rattle.fare_rules.specs.Best.{IsLawful}
 use Rattle.fare_rules.proofs.LawfulLemmas.{kept}
 use Rattle.fare_rules.proofs.MemberLemmas.{Member, member_numbers}
 use Rattle.fare_rules.proofs.NumberLemmas.{find_none}
-use Rattle.fare_units.specs.Barred.{is_uncombined}
+use Rattle.fare_lawful.specs.Barred.{is_uncombined}
 use Rattle.fare_units.proofs.NextLemmas.{front_start, front_unit, next_part}
 use Rattle.fare_bounds.specs.Covers.{rest_at}
 use Rattle.fare_homing.specs.Homing.{IsUpTo}

@@ -23,7 +23,7 @@ use Rattle.fare_rules.proofs.LawfulLemmas.{kept}
 use Rattle.fare_rules.proofs.MemberLemmas.{Member, member_numbers}
 use Rattle.fare_rules.proofs.NumberLemmas.{find_none}
 use Rattle.fare_units.specs.Onward.{must_go_on, is_in_city, is_in_country, points_behind, may_come_home}
-use Rattle.fare_units.specs.Shut.{is_shut, has_gap_before}
+use Rattle.fare_lawful.specs.Shut.{is_shut, has_gap_before}
 use Rattle.fare_floors.specs.Ending.{is_priced_back, needs_more}
 use Rattle.fare_floors.specs.Stays.{is_outside}
 use Rattle.fare_floors.proofs.ChainLemmas.{chained_front}

@@ -16,7 +16,7 @@ use Rattle.fare_rules.specs.Shape.{is_chained}
 use Rattle.fare_rules.specs.Best.{IsLawful}
 use Rattle.fare_rules.proofs.MemberLemmas.{Member, member_filter, member_numbers}
 use Rattle.fare_units.specs.Onward.{is_shut_unit, must_go_on, may_come_home, is_stranded}
-use Rattle.fare_units.specs.Shut.{is_shut}
+use Rattle.fare_lawful.specs.Shut.{is_shut}
 use Rattle.fare_units.proofs.NextLemmas.{front_unit, next_part, next_numbered}
 use Rattle.fare_floors.specs.Floors.{HasNoCompletion}
 use Rattle.fare_floors.specs.Ending.{is_priced_back, needs_more}

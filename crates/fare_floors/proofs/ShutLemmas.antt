@@ -21,7 +21,7 @@ use Rattle.fare_rules.proofs.AmountLemmas.{amount_of_part}
 use Rattle.fare_rules.proofs.LawfulLemmas.{kept}
 use Rattle.fare_rules.proofs.MemberLemmas.{Member}
 use Rattle.fare_rules.proofs.NumberLemmas.{find_none}
-use Rattle.fare_units.specs.Shut.{is_shut, has_gap_before, has_no_amount, lacks_amount, is_priceless}
+use Rattle.fare_lawful.specs.Shut.{is_shut, has_gap_before, has_no_amount, lacks_amount, is_priceless}
 use Rattle.fare_units.specs.Walk.{is_fruitless}
 use Rattle.fare_units.proofs.NextLemmas.{front_unit, next_part, next_numbered, next_fruitful}
 use Rattle.fare_units.proofs.ShutLemmas.{shut_has_parts}

@@ -8,7 +8,7 @@ use Rattle.fare_rules.specs.Construction.{own, is_own, first_of, start_of, end_o
 use Rattle.fare_rules.specs.Numbers.{numbers}
 use Rattle.fare_rules.proofs.MemberLemmas.{Member}
 use Rattle.fare_rules.proofs.NumberLemmas.{numbers_next, numbers_none}
-use Rattle.fare_units.specs.Advance.{Advances}
+use Rattle.fare_lawful.specs.Advance.{Advances}
 use Rattle.fare_bounds.specs.Covers.{lesser, rest_at}
 use Rattle.fare_homing.specs.declared.homing.Homing.{Homing}
 use Rattle.fare_homing.specs.Homing.{closing_by, homing_at}

@@ -9,7 +9,7 @@ use Rattle.fare_rules.specs.declared.part.Part.{Part}
 use Rattle.fare_rules.specs.Construction.{end_of, is_own, last_of, start_of, unit_of}
 use Rattle.fare_rules.specs.Numbers.{numbers}
 use Rattle.fare_rules.specs.UnitRules.{stay, allows_stay_of, forbids_stay}
-use Rattle.fare_units.specs.Advance.{Advances}
+use Rattle.fare_lawful.specs.Advance.{Advances}
 use Rattle.fare_units.proofs.NextLemmas.{front_start}
 use Rattle.fare_floors.specs.Stays.{is_outside}
 use Rattle.fare_floors.proofs.SameLemmas.{AreFirst, any_eq, fare_same, last_member}

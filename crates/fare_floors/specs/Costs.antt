@@ -9,7 +9,7 @@ use Rattle.fare_rules.specs.Shape.{is_ow}
 use Rattle.fare_component.specs.declared.table.entry.Entry.{Entry}
 use Rattle.fare_component.specs.Table.{entry_of}
 use Rattle.fare_rules.specs.UnitPrice.{part_cost, unit_price}
-use Rattle.fare_units.specs.Shut.{is_shut}
+use Rattle.fare_lawful.specs.Shut.{is_shut}
 use Rattle.fare_bounds.specs.Covers.{least_cost}
 use Rattle.fare_floors.specs.declared.costs.TheConstants.{MOST_UNITS}
 

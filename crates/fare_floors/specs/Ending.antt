@@ -7,7 +7,7 @@ use Rattle.fare_rules.specs.ComponentAmount.{component_amount}
 use Rattle.fare_rules.specs.Construction.{last_of, start_of, end_of, part_at}
 use Rattle.fare_component.specs.declared.table.entry.Entry.{Entry}
 use Rattle.fare_units.specs.Onward.{must_go_on}
-use Rattle.fare_units.specs.Shut.{is_shut}
+use Rattle.fare_lawful.specs.Shut.{is_shut}
 use Rattle.fare_floors.specs.Stays.{is_outside}
 
 -- an entry has an amount, priced back or not

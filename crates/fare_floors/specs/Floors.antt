@@ -6,7 +6,7 @@ use Rattle.fare_tariff.specs.Tariff.{Tariff}
 use Rattle.fare_rules.specs.declared.part.Part.{Part}
 use Rattle.fare_rules.specs.Completion.{IsCompletion}
 use Rattle.fare_rules.specs.Construction.{greatest_unit, places, own}
-use Rattle.fare_units.specs.Shut.{is_shut}
+use Rattle.fare_lawful.specs.Shut.{is_shut}
 use Rattle.fare_units.specs.Walk.{IsFront, next_start}
 use Rattle.fare_component.specs.Table.{Pricing}
 

@@ -12,8 +12,8 @@ use Rattle.fare_rules.specs.Construction.{end_of, first_of, own, start_of}
 use Rattle.fare_rules.specs.UnitRules.{part_day}
 use Rattle.fare_component.specs.declared.table.entry.Entry.{Entry}
 use Rattle.fare_component.specs.Table.{Pricing, entries_of}
-use Rattle.fare_units.specs.Barred.{is_uncombined}
-use Rattle.fare_units.specs.declared.limits.TheConstants.{MOST_PARTS}
+use Rattle.fare_lawful.specs.Barred.{is_uncombined}
+use Rattle.fare_lawful.specs.declared.limits.TheConstants.{MOST_PARTS}
 use Rattle.fare_bounds.specs.Covers.{rest_at}
 use Rattle.fare_homing.specs.Homing.{IsUpTo, back_cost}
 use Rattle.fare_floors.specs.Stays.{forbids_any}

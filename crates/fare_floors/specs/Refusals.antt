@@ -8,7 +8,7 @@ use Rattle.fare_rules.specs.ComponentAmount.{component_amount}
 use Rattle.fare_rules.specs.Construction.{own, start_of, end_of, part_at}
 use Rattle.fare_rules.specs.Shape.{is_chained}
 use Rattle.fare_units.specs.Onward.{is_stranded, is_homeward}
-use Rattle.fare_units.specs.Shut.{is_priceless}
+use Rattle.fare_lawful.specs.Shut.{is_priceless}
 use Rattle.fare_units.specs.Walk.{is_fruitless}
 use Rattle.fare_floors.specs.Ending.{needs_more}
 

@@ -4,8 +4,8 @@ ghost use Rattle.std.specs.Prelude.{◌≡◌, ℕ, ◌+◌, ◌*◌, ◌<◌, �
 ghost use Rattle.fare_trip.specs.Itinerary.{count};
 ghost use Rattle.fare_rules.specs.Construction.{greatest_unit, places};
 ghost use Rattle.fare_component.specs.Table.{IsInBounds};
-ghost use Rattle.fare_units.specs.Advance.{Advances};
-ghost use Rattle.fare_units.specs.Places.{IsPlace};
+ghost use Rattle.fare_lawful.specs.Advance.{Advances};
+ghost use Rattle.fare_lawful.specs.Places.{IsPlace};
 ghost use Rattle.fare_bounds.specs.Covers.{least_cost};
 ghost use Rattle.fare_rules.specs.Numbers.{numbers};
 ghost use Rattle.fare_floors.specs.Costs.{AreFloorsBefore, AreUnitFloors};

@@ -4,7 +4,7 @@ ghost use Rattle.std.specs.Prelude.{◌≡◌, ◌<◌, ◌≤◌, length, is_so
 ghost use Rattle.fare_trip.specs.Itinerary.{count};
 ghost use Rattle.fare_rules.specs.ComponentAmount.{component_amount};
 ghost use Rattle.fare_rules.specs.Construction.{last_of, own};
-ghost use Rattle.fare_units.specs.Advance.{Advances};
+ghost use Rattle.fare_lawful.specs.Advance.{Advances};
 ghost use Rattle.fare_floors.specs.Ending.{is_priced, is_priced_back, needs_more};
 
 use crate::places::last_place;

@@ -3,8 +3,8 @@
 ghost use Rattle.std.specs.Prelude.{◌≡◌, ◌≤◌, length, is_some};
 ghost use Rattle.fare_rules.specs.Construction.{own};
 ghost use Rattle.fare_rules.specs.Shape.{follows, is_chained};
-ghost use Rattle.fare_units.specs.Advance.{Advances};
-ghost use Rattle.fare_units.specs.Places.{IsPlace};
+ghost use Rattle.fare_lawful.specs.Advance.{Advances};
+ghost use Rattle.fare_lawful.specs.Places.{IsPlace};
 ghost use Rattle.fare_floors.specs.Floors.{IsMadeWith};
 ghost use Rattle.fare_floors.specs.Refusals.{onward_amount, is_worthless, is_broken_off, is_hopeless};
 

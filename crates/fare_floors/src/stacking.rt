@@ -5,7 +5,7 @@ ghost use Rattle.std.specs.Prelude.{◌≡◌, ℕ, ◌+◌, ◌-◌, ◌≤◌,
 ghost use Rattle.fare_trip.specs.Itinerary.{count};
 ghost use Rattle.fare_bounds.specs.Covers.{rest_at};
 ghost use Rattle.fare_rules.specs.Construction.{end_of, first_of, greatest_unit, own, places};
-ghost use Rattle.fare_units.specs.Advance.{Advances};
+ghost use Rattle.fare_lawful.specs.Advance.{Advances};
 ghost use Rattle.fare_floors.specs.Floors.{IsMadeWith};
 ghost use Rattle.fare_homing.specs.Homing.{closing_by, homing_at};
 ghost use Rattle.fare_homing.specs.Rows.{AreHomingsOf, begun_from, closing_from, jaw_from};

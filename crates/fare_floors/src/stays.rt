@@ -3,7 +3,7 @@
 ghost use Rattle.std.specs.Prelude.{◌≡◌, ◌≤◌, length};
 ghost use Rattle.fare_rules.specs.Construction.{own};
 ghost use Rattle.fare_rules.specs.UnitRules.{forbids_stay, part_day};
-ghost use Rattle.fare_units.specs.Advance.{Advances};
+ghost use Rattle.fare_lawful.specs.Advance.{Advances};
 ghost use Rattle.fare_floors.specs.Stays.{forbids_any, is_outside};
 
 use crate::places::{first_place, last_place};

@@ -13,9 +13,9 @@ use Rattle.fare_rules.specs.Construction.{no_part, start_of, end_of, begin_after
 use Rattle.fare_rules.specs.Lawful.{broken_at, at_rule, breaks, first_broken, lawful_price, unless_broken}
 use Rattle.fare_rules.specs.UnitPrice.{price}
 use Rattle.fare_rules.proofs.CoverLemmas.{begins_later}
-use Rattle.fare_units.specs.Advance.{EndsWithin, Advances, MeetsFirstThree}
+use Rattle.fare_lawful.specs.Advance.{EndsWithin, Advances, MeetsFirstThree}
 use Rattle.fare_units.proofs.NextLemmas.{front_part, front_start}
-use Rattle.fare_units.proofs.UnitLemmas.{advances_of_cover}
+use Rattle.fare_lawful.proofs.UnitLemmas.{advances_of_cover}
 
 -- where Cover is broken it is the first rule that is
 covered : (place : Option ℕ) (later : List (Option Broken)) (cost : ℕ) → ForErr (unless_broken (first_given (at_rule 1 place ∷ later)) cost) (λ broken. 3 < broken.rule) → place ≡ None

@@ -11,7 +11,7 @@ use Rattle.fare_rules.proofs.NumberLemmas.{numbers_more}
 use Rattle.fare_units.specs.Walk.{IsFront, next_start}
 use Rattle.fare_units.proofs.NextLemmas.{front_part, front_start, front_unit, greatest_same, next_part, start_by}
 use Rattle.fare_units.proofs.StepLemmas.{end_before_next}
-use Rattle.fare_units.proofs.UnitLemmas.{greatest_append}
+use Rattle.fare_lawful.proofs.UnitLemmas.{greatest_append}
 
 only_end : (most : ℕ) (part : Part) (j : ℕ) → part.end ≤ most → (get_or (part ∷ []) j no_part).end ≤ most
 only_end most part zero h = h

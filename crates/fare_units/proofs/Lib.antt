@@ -1,7 +1,4 @@
-pub mod Ranges
-pub mod OwnLemmas
 pub mod OrderLemmas
-pub mod ShapeLemmas
 pub mod WalkLemmas
 pub mod AloneLemmas
 pub mod NextLemmas
@@ -9,9 +6,7 @@ pub mod StepLemmas
 pub mod FrontLemmas
 pub mod CircleSteps
 pub mod PriceSteps
-pub mod UnitLemmas
 pub mod PricedLemmas
 pub mod ShutLemmas
-pub mod AmountLemmas
 pub mod FirstParts
 pub mod SingleLemmas

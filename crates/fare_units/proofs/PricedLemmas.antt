@@ -6,8 +6,8 @@ use Rattle.fare_rules.specs.declared.broken.Broken.{Broken}
 use Rattle.fare_rules.specs.declared.part.Part.{Part}
 use Rattle.fare_rules.specs.Lawful.{first_broken, lawful_price, unless_broken}
 use Rattle.fare_rules.specs.UnitPrice.{price}
-use Rattle.fare_units.specs.Advance.{Advances}
-use Rattle.fare_units.proofs.UnitLemmas.{advances_of_unbroken}
+use Rattle.fare_lawful.specs.Advance.{Advances}
+use Rattle.fare_lawful.proofs.UnitLemmas.{advances_of_unbroken}
 
 -- where a price is answered nothing was found broken
 unbroken_when_priced : (broken : Option Broken) (cost found : ℕ) → unless_broken broken cost ≡ Ok found → broken ≡ None

@@ -4,7 +4,7 @@ use Rattle.fare_trip.specs.Itinerary.{Itinerary}
 use Rattle.fare_tariff.specs.Tariff.{Tariff}
 use Rattle.fare_rules.specs.declared.part.Part.{Part}
 use Rattle.fare_rules.specs.Shape.{closes}
-use Rattle.fare_units.specs.Shut.{is_shut}
+use Rattle.fare_lawful.specs.Shut.{is_shut}
 
 true_false : true ≡ false → ⊥
 true_false e = cc

@@ -5,13 +5,6 @@ pub use Rattle.fare_rules.specs.UnitPrice
 pub use Rattle.fare_rules.specs.Lawful
 pub use Rattle.fare_rules.specs.Order
 pub use Rattle.fare_rules.specs.Best
-pub mod Advance
-pub mod Places
-pub mod Tests
-pub mod Breaks
 pub mod Turning
-pub mod Shut
-pub mod Barred
 pub mod Onward
-pub mod Known
 pub mod Walk

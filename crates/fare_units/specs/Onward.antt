@@ -9,7 +9,7 @@ use Rattle.fare_rules.specs.Numbers.{numbers}
 use Rattle.fare_rules.specs.Construction.{own, origin, end_of, unit_of}
 use Rattle.fare_rules.specs.Direction.{heads_home}
 use Rattle.fare_rules.specs.Shape.{is_open_jaw, lie_together}
-use Rattle.fare_units.specs.Shut.{is_shut}
+use Rattle.fare_lawful.specs.Shut.{is_shut}
 
 -- no part can come to a unit any more: it is shut
 abbrev pub is_shut_unit : Tariff → Itinerary → List Part → ℕ → Bool

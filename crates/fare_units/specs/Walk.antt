@@ -11,7 +11,7 @@ use Rattle.fare_rules.specs.ComponentAmount.{component_amount}
 use Rattle.fare_rules.specs.Construction.{start_of, end_of, greatest_unit, places}
 use Rattle.fare_rules.specs.Order.{is_before}
 use Rattle.fare_rules.specs.Shape.{is_same_unit, is_ow, is_crossed}
-use Rattle.fare_units.specs.Advance.{Advances}
+use Rattle.fare_lawful.specs.Advance.{Advances}
 
 -- a list with its price is not before the best that was found
 abbrev pub IsBound : List Part → ℕ → Option (List Part × ℕ) → Type 0

@@ -1,6 +1,6 @@
 ghost use Rattle.std.specs.Prelude.{◌≡◌, ◌≤◌, ◌<◌, ◌++◌, ◌∷◌, [], ◌↔◌, List, IsOk, IfErr, OnOk, OnErr, length, take};
 
-use crate::limits::MOST_PARTS;
+use fare_lawful::MOST_PARTS;
 use fare_rules::Part;
 use std::marker::Model;
 
@@ -21,7 +21,7 @@ pub struct Construction {
 impl Model for Construction {
     ghost use Rattle.std.specs.Prelude.{◌≤◌, List, take};
     ghost use Rattle.fare_rules.specs.declared.part.Part.{Part};
-    ghost use Rattle.fare_units.specs.declared.limits.TheConstants.{MOST_PARTS};
+    ghost use Rattle.fare_lawful.specs.declared.limits.TheConstants.{MOST_PARTS};
 
     ghost Value = { List Part };
 

@@ -10,11 +10,9 @@ ghost use Rattle.fare_units.specs.Walk.{TakesBetter, next_start, may_serve, is_m
 
 use crate::best::order::earlier;
 use crate::construction::Construction;
-use crate::parts::fares::is_ow;
-use crate::parts::places::{end_of, greatest_unit, is_same_unit, start_of};
 use crate::prices::priced::lawful_price;
-use crate::rules::crossing::is_crossed;
 use fare_component::applicable;
+use fare_lawful::{end_of, greatest_unit, is_crossed, is_ow, is_same_unit, start_of};
 use fare_rules::Part;
 use fare_tariff::Edition;
 use fare_trip::Trip;

@@ -8,16 +8,13 @@ ghost use Rattle.fare_rules.specs.Span.{stopovers};
 ghost use Rattle.fare_rules.specs.Construction.{own};
 ghost use Rattle.fare_rules.specs.Circle.{holds_sector, is_own_sector, own_sectors, reference_from_origin};
 ghost use Rattle.fare_rules.specs.Circle.{circle_reference, unit_circle_minimum, circle_minimum, twice};
-ghost use Rattle.fare_units.specs.Advance.{Advances};
-ghost use Rattle.fare_units.specs.Places.{IsPlace, ArePlaces};
+ghost use Rattle.fare_lawful.specs.Advance.{Advances};
+ghost use Rattle.fare_lawful.specs.Places.{IsPlace, ArePlaces};
 ghost use Rattle.fare_units.specs.Turning.{is_left_out, greatest_without};
 
-use crate::limits::MOST_PARTS;
-use crate::parts::fares::fare_of;
-use crate::parts::own::{last_of, origin, own};
-use crate::parts::places::{end_of, start_of};
 use arrayvec::ArrayVec;
 use fare_codes::{MOST_SECTORS, Nuc, greater};
+use fare_lawful::{MOST_PARTS, end_of, fare_of, last_of, origin, own, start_of};
 use fare_points::{indicator_of, reference};
 use fare_rules::Part;
 use fare_tariff::{Edition, FareRec};
@@ -59,7 +56,7 @@ fn is_own_sector(trip: &Trip, parts: &[Part], own: &[usize], number: usize) -> b
 }
 
 /// A unit's own sectors up to a point.
-#[tactic(auto, using(crate::proofs::Ranges::filter_more, crate::proofs::Ranges::filter_over, crate::proofs::Ranges::filter_all), unfolding(fare_rules::specs::Circle::own_sectors))]
+#[tactic(auto, using(fare_lawful::proofs::Ranges::filter_more, fare_lawful::proofs::Ranges::filter_over, fare_lawful::proofs::Ranges::filter_all), unfolding(fare_rules::specs::Circle::own_sectors))]
 fn own_sectors(trip: &Trip, parts: &[Part], own: &[usize], i: usize) -> ArrayVec<usize, MOST_PARTS>
     requires few_sectors { i ≤ MOST_SECTORS }
     ensures { result.items ≡ own_sectors trip.now parts.now own.now i }
@@ -181,7 +178,7 @@ fn greatest_without(unit: &Unit, left_out: Option<usize>, k: usize) -> Option<Nu
 }
 
 /// The greatest reference of the parts of some places, of which the end of one may be left out.
-#[tactic(auto, using(crate::proofs::CircleSteps::greatest_left, crate::proofs::CircleSteps::greatest_done, crate::proofs::OwnLemmas::place_at))]
+#[tactic(auto, using(crate::proofs::CircleSteps::greatest_left, crate::proofs::CircleSteps::greatest_done, fare_lawful::proofs::OwnLemmas::place_at))]
 fn greatest_in_all(unit: &Unit, left_out: Option<usize>) -> Option<Nuc>
     requires advances { Advances unit.now.trip.now unit.now.parts.now }
     requires places { ArePlaces unit.now.parts.now unit.now.own.now }

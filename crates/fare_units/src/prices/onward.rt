@@ -5,18 +5,15 @@ ghost use Rattle.std.specs.List.{list_any};
 ghost use Rattle.fare_trip.specs.Itinerary.{count};
 ghost use Rattle.fare_rules.specs.Construction.{own};
 ghost use Rattle.fare_rules.specs.Numbers.{numbers};
-ghost use Rattle.fare_units.specs.Advance.{Advances, EndsWithin};
+ghost use Rattle.fare_lawful.specs.Advance.{Advances, EndsWithin};
 ghost use Rattle.fare_units.specs.Onward.{is_shut_unit, must_go_on, is_in_city, is_in_country, may_come_home};
 ghost use Rattle.fare_units.specs.Onward.{is_stranded, is_homeward};
 
-use crate::limits::MOST_PARTS;
-use crate::parts::countries::lie_together;
-use crate::parts::direction::heads_home;
-use crate::parts::own::{origin, own};
-use crate::parts::places::{end_of, unit_of};
 use crate::prices::shut::is_shut;
-use crate::rules::shape::is_open_jaw;
 use fare_codes::City;
+use fare_lawful::{
+    MOST_PARTS, end_of, heads_home, is_open_jaw, lie_together, origin, own, unit_of,
+};
 use fare_rules::Part;
 use fare_tariff::Edition;
 use fare_trip::Trip;

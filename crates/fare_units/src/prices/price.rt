@@ -9,20 +9,18 @@ ghost use Rattle.fare_rules.specs.UnitPrice.{unit_kind, part_backhaul, unit_mini
 ghost use Rattle.fare_rules.specs.UnitPrice.{sheet_of_kind, unit_sheet, unit_price, price};
 ghost use Rattle.fare_rules.specs.ComponentAmount.{component_amount};
 ghost use Rattle.fare_component.specs.Usable.{IsAmount};
-ghost use Rattle.fare_units.specs.Advance.{Advances};
-ghost use Rattle.fare_units.specs.Known.{IsOf};
-ghost use Rattle.fare_units.specs.Places.{IsPlace, ArePlaces};
-ghost use Rattle.fare_units.specs.Shut.{lacks_amount};
+ghost use Rattle.fare_lawful.specs.Advance.{Advances};
+ghost use Rattle.fare_lawful.specs.Known.{IsOf};
+ghost use Rattle.fare_lawful.specs.Places.{IsPlace, ArePlaces};
+ghost use Rattle.fare_lawful.specs.Shut.{lacks_amount};
 
-use crate::limits::MOST_PARTS;
-use crate::parts::direction::is_back_in;
-use crate::parts::fares::{fare_of, holds_ow, is_ow};
-use crate::parts::own::{first_of, own};
-use crate::parts::places::{end_of, greatest_unit, part_at, start_of};
 use crate::prices::circle::unit_circle_minimum;
-use crate::rules::shape::{closes, is_open_jaw};
 use fare_codes::Nuc;
 use fare_component::{Table, applicable};
+use fare_lawful::{
+    MOST_PARTS, closes, end_of, fare_of, first_of, greatest_unit, holds_ow, is_back_in,
+    is_open_jaw, is_ow, own, part_at, start_of,
+};
 use fare_points::backhaul;
 use fare_rules::{Amount, MOST_AMOUNT, Part, UnitKind, UnitSheet};
 use fare_tariff::Edition;
@@ -110,7 +108,7 @@ fn part_cost(
 }
 
 /// Whether some part of a unit has no amount in its direction.
-#[tactic(auto, using(crate::proofs::PriceSteps::lacks_next, crate::proofs::PriceSteps::lacks_past, crate::proofs::PriceSteps::lacks_done, crate::proofs::OwnLemmas::place_at))]
+#[tactic(auto, using(crate::proofs::PriceSteps::lacks_next, crate::proofs::PriceSteps::lacks_past, crate::proofs::PriceSteps::lacks_done, fare_lawful::proofs::OwnLemmas::place_at))]
 pub(crate) fn lacks_amount(
     edition: &Edition,
     trip: &Trip,
@@ -132,7 +130,7 @@ pub(crate) fn lacks_amount(
 }
 
 /// The sum of the amounts of a unit.
-#[tactic(auto, using(crate::proofs::PriceSteps::sum_left, crate::proofs::PriceSteps::sum_done, crate::proofs::OwnLemmas::place_at), unfolding(fare_rules::specs::UnitPrice::unit_sum))]
+#[tactic(auto, using(crate::proofs::PriceSteps::sum_left, crate::proofs::PriceSteps::sum_done, fare_lawful::proofs::OwnLemmas::place_at), unfolding(fare_rules::specs::UnitPrice::unit_sum))]
 fn unit_sum(
     edition: &Edition,
     trip: &Trip,
@@ -155,7 +153,7 @@ fn unit_sum(
 }
 
 /// Whether a unit has exactly two parts, of equal amounts.
-#[tactic(auto, using(crate::proofs::PriceSteps::two_equal, crate::proofs::PriceSteps::others_unequal, crate::proofs::OwnLemmas::place_at))]
+#[tactic(auto, using(crate::proofs::PriceSteps::two_equal, crate::proofs::PriceSteps::others_unequal, fare_lawful::proofs::OwnLemmas::place_at))]
 fn are_two_equal(
     edition: &Edition,
     trip: &Trip,
@@ -236,7 +234,7 @@ fn part_backhaul(edition: &Edition, trip: &Trip, parts: &[Part], k: usize) -> Op
 }
 
 /// The minimum of a unit by its kind: the backhaul minimum one way, the circle minimum of a circle trip, and else none.
-#[tactic(auto, using(crate::proofs::OwnLemmas::first_is_place), unfolding(fare_rules::specs::UnitPrice::unit_minimum))]
+#[tactic(auto, using(fare_lawful::proofs::OwnLemmas::first_is_place), unfolding(fare_rules::specs::UnitPrice::unit_minimum))]
 fn unit_minimum(
     edition: &Edition,
     trip: &Trip,
@@ -378,7 +376,7 @@ pub(crate) fn unit_price(
 }
 
 /// The price of a construction whose units are numbered in order: the sum of the prices of its units.
-#[tactic(auto, using(fare_rules::proofs::NumberLemmas::sum_next, fare_rules::proofs::NumberLemmas::sum_done, crate::proofs::UnitLemmas::unit_has_parts), unfolding(fare_rules::specs::UnitPrice::price))]
+#[tactic(auto, using(fare_rules::proofs::NumberLemmas::sum_next, fare_rules::proofs::NumberLemmas::sum_done, fare_lawful::proofs::UnitLemmas::unit_has_parts), unfolding(fare_rules::specs::UnitPrice::price))]
 pub(crate) fn price(edition: &Edition, trip: &Trip, known: Option<&Table>, parts: &[Part]) -> u64
     requires few { length parts.now ≤ MOST_PARTS }
     requires advances { Advances trip.now parts.now }

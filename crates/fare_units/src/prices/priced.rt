@@ -2,21 +2,20 @@
 
 ghost use Rattle.std.specs.Prelude.{◌≡◌, ◌<◌, ◌≤◌, Ok, None, IfSome, length, take};
 ghost use Rattle.fare_rules.specs.Lawful.{first_broken, lawful_price};
-ghost use Rattle.fare_units.specs.Advance.{Advances, MeetsFirstThree};
-ghost use Rattle.fare_units.specs.Known.{IsOf};
+ghost use Rattle.fare_lawful.specs.Advance.{Advances, MeetsFirstThree};
+ghost use Rattle.fare_lawful.specs.Known.{IsOf};
 
 use crate::construction::Construction;
-use crate::limits::MOST_PARTS;
 use crate::prices::price::price;
-use crate::rules::lawful::first_broken;
 use fare_component::Table;
+use fare_lawful::{MOST_PARTS, first_broken};
 use fare_rules::{Broken, PRICE_LIMIT, Part, edition_is_valid, price_is_bounded};
 use fare_tariff::Edition;
 use fare_trip::Trip;
 
 /// The price of a lawful construction, or the first rule that it breaks; the amounts are those of a table, where there
 /// is one.
-#[tactic(auto, using(crate::proofs::UnitLemmas::advances_of_unbroken, crate::proofs::UnitLemmas::numbered_of_unbroken), unfolding(fare_rules::specs::Lawful::lawful_price))]
+#[tactic(auto, using(fare_lawful::proofs::UnitLemmas::advances_of_unbroken, fare_lawful::proofs::UnitLemmas::numbered_of_unbroken), unfolding(fare_rules::specs::Lawful::lawful_price))]
 fn lawful_price_with(
     edition: &Edition,
     trip: &Trip,

@@ -6,15 +6,14 @@ ghost use Rattle.fare_rules.specs.Lawful.{first_broken};
 ghost use Rattle.fare_rules.specs.UnitPrice.{unit_sheet};
 
 use crate::construction::Construction;
-use crate::parts::own::own;
-use crate::parts::places::greatest_unit;
 use crate::prices::price::{MOST_UNIT_PRICE, sheet_of};
+use fare_lawful::{greatest_unit, own};
 use fare_rules::UnitSheet;
 use fare_tariff::Edition;
 use fare_trip::Trip;
 
 /// The kind of a unit of a lawful construction, the sum of its amounts, its minimum where there is one, and its price.
-#[tactic(auto, using(crate::proofs::UnitLemmas::advances_of_unbroken, crate::proofs::UnitLemmas::numbered_of_unbroken, crate::proofs::UnitLemmas::unit_has_parts))]
+#[tactic(auto, using(fare_lawful::proofs::UnitLemmas::advances_of_unbroken, fare_lawful::proofs::UnitLemmas::numbered_of_unbroken, fare_lawful::proofs::UnitLemmas::unit_has_parts))]
 pub fn unit_sheet(edition: &Edition, trip: &Trip, c: &Construction, unit: u8) -> UnitSheet
     requires lawful { first_broken edition.now trip.now c.now ≡ None }
     requires from_one { 1 ≤ unit }

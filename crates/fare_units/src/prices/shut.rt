@@ -2,23 +2,19 @@
 //! stay is allowed.
 
 ghost use Rattle.std.specs.Prelude.{◌≡◌, ◌≤◌, IfSome, length};
-ghost use Rattle.fare_units.specs.Advance.{Advances, EndsWithin};
-ghost use Rattle.fare_units.specs.Barred.{is_untimely};
-ghost use Rattle.fare_units.specs.Shut.{is_shut, shut_price, is_priceless};
+ghost use Rattle.fare_lawful.specs.Advance.{Advances, EndsWithin};
+ghost use Rattle.fare_lawful.specs.Barred.{is_untimely};
+ghost use Rattle.fare_lawful.specs.Shut.{is_shut, shut_price, is_priceless};
 
-use crate::limits::MOST_PARTS;
-use crate::parts::fares::holds_ow;
-use crate::parts::own::own;
 use crate::prices::price::{MOST_UNIT_PRICE, lacks_amount, unit_price};
-use crate::rules::shape::{closes, has_gap_before};
-use crate::rules::stays::is_mistimed_in;
 use fare_component::Table;
+use fare_lawful::{MOST_PARTS, closes, has_gap_before, holds_ow, is_mistimed_in, own};
 use fare_rules::Part;
 use fare_tariff::Edition;
 use fare_trip::Trip;
 
 /// Whether a unit is shut: it holds a one way fare, or closes, or is an open jaw whose gap lies before its second part.
-#[tactic(auto, unfolding(crate::specs::Shut::is_shut))]
+#[tactic(auto, unfolding(fare_lawful::specs::Shut::is_shut))]
 pub(crate) fn is_shut(edition: &Edition, trip: &Trip, parts: &[Part], own: &[usize]) -> bool
     requires ends { EndsWithin trip.now parts.now }
     ensures { result ≡ is_shut edition.now trip.now parts.now own.now }
@@ -61,7 +57,7 @@ pub fn is_priceless(table: &Table, parts: &[Part], unit: usize) -> bool
 
 /// Whether a unit of the first parts of a construction is shut, and yet its stay is outside the rule of one of its
 /// parts.
-#[tactic(auto, unfolding(crate::specs::Barred::is_untimely))]
+#[tactic(auto, unfolding(fare_lawful::specs::Barred::is_untimely))]
 pub fn is_untimely(edition: &Edition, trip: &Trip, parts: &[Part], unit: usize) -> bool
     requires few { length parts.now ≤ MOST_PARTS }
     requires advances { Advances trip.now parts.now }

@@ -4,7 +4,7 @@ use Rattle.fare_trip.specs.Itinerary.{Itinerary}
 use Rattle.fare_tariff.specs.Tariff.{Tariff}
 use Rattle.fare_rules.specs.declared.part.Part.{Part}
 use Rattle.fare_units.specs.Onward.{is_shut_unit, is_stranded}
-use Rattle.fare_units.specs.Shut.{is_priceless}
+use Rattle.fare_lawful.specs.Shut.{is_priceless}
 use Rattle.fare_units.specs.Walk.{is_fruitless}
 use Rattle.fare_floors.specs.Floors.{HasNoCompletion, may_follow}
 use Rattle.fare_floors.specs.Refusals.{is_hopeless, is_worthless, is_broken_off}

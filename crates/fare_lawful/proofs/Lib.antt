@@ -1,0 +1,5 @@
+pub mod Ranges
+pub mod OwnLemmas
+pub mod ShapeLemmas
+pub mod UnitLemmas
+pub mod AmountLemmas
