@@ -14,8 +14,7 @@ use Rattle.fare_rules.specs.ComponentAmount.{span_surcharge, is_applicable, is_a
 use Rattle.fare_rules.specs.Indicator.{indicator}
 use Rattle.fare_rules.specs.Span.{holds_surface}
 use Rattle.fare_rules.specs.Terms.{stops_hold, transfers_hold, advance_holds}
-use Rattle.fare_rules.specs.UnitPrice.{at_least, one_way_price}
-use Rattle.fare_component.specs.Table.{single_price}
+use Rattle.fare_rules.specs.UnitPrice.{at_least}
 use Rattle.fare_component.specs.Usable.{is_for_span, is_usable}
 
 -- the amount by whether the fare is usable, by the surcharge and by whether that is allowed
@@ -116,12 +115,3 @@ pub at_least_bound : (amount limit : ℕ) (minimum : Option ℕ) → amount < li
     → at_least amount minimum < limit
 at_least_bound amount limit None ha hm = ha
 at_least_bound amount limit (Some minimum) ha hm = omega arith
-
--- a fare that has no amount priced out has no price as a unit of its own
-pub no_single_there : (tariff : Tariff) (trip : Itinerary) (a b number : ℕ) (fare : FareRecord)
-    → fare_at tariff number ≡ Some fare → is_for_span tariff trip a b false fare ≡ false
-    → single_price tariff trip a b number ≡ None
-unfolding one_way_price component_amount
-no_single_there tariff trip a b number fare filed none =
-    let amount = unsuitable tariff trip a b false fare none in
-    rw (filed, filed, amount) (elim (cases_Bool (is_half_round_trip fare)) [ inl t ↦ rw t refl | inr f ↦ rw f refl ])

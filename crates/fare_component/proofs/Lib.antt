@@ -5,6 +5,7 @@ pub mod ColumnLemmas
 pub mod Counts
 pub mod CursorLemmas
 pub mod EntryLemmas
+pub mod SingleLemmas
 pub mod GreatestLemmas
 pub mod LawLemmas
 pub mod OwnLemmas

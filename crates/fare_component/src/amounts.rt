@@ -7,7 +7,8 @@ ghost use Rattle.fare_rules.specs.ComponentAmount.{is_allowed, amount_from, fare
 ghost use Rattle.fare_component.specs.Usable.{IsAmount};
 
 use crate::component::Component;
-use crate::conditions::{is_allowed, span_surcharge};
+use crate::conditions::surcharges::span_surcharge;
+use crate::conditions::terms::is_allowed;
 use crate::usable::is_usable;
 use fare_codes::{FARE_LIMIT, MOST_SURCHARGE, Nuc, surcharged};
 use fare_points::higher;

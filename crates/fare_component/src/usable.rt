@@ -8,12 +8,13 @@ ghost use Rattle.fare_component.specs.Spans.{IsSpan};
 ghost use Rattle.fare_component.specs.Usable.{is_for_span, is_usable};
 
 use crate::component::Component;
-use crate::conditions::{
-    advance_holds, covers_cabins, covers_carriers, has_carrier, has_indicator, has_rank,
-    holds_surface, in_season, may_be_priced, repeats_city, runs_between, stops_hold,
-    transfers_hold,
+use crate::conditions::fares::{
+    covers_cabins, covers_carriers, has_carrier, has_indicator, has_rank, in_season,
+    may_be_priced, runs_between,
 };
-use crate::table::Span;
+use crate::conditions::spans::{holds_surface, repeats_city};
+use crate::conditions::terms::{advance_holds, stops_hold, transfers_hold};
+use crate::table::span::Span;
 use fare_tariff::{Edition, FareRec};
 use fare_trip::Trip;
 

@@ -7,7 +7,7 @@ ghost use Rattle.fare_rules.specs.ComponentAmount.{span_surcharge, mileage_holds
 ghost use Rattle.fare_rules.specs.Mileage.{surcharge_of};
 
 use crate::conditions::terms::is_allowed;
-use crate::table::Priced;
+use crate::table::priced::Priced;
 use fare_codes::{Indicator, MOST_SURCHARGE};
 use fare_mileage::{Mileage, mileage, mileage_by};
 use fare_points::indicator;

@@ -8,7 +8,7 @@ ghost use Rattle.fare_rules.specs.ComponentAmount.{is_allowed};
 ghost use Rattle.fare_component.specs.Spans.{IsSpan};
 
 use crate::conditions::spans::{stopovers, transfers};
-use crate::table::Span;
+use crate::table::span::Span;
 use fare_tariff::{Edition, FareRec, Terms};
 use fare_trip::Trip;
 

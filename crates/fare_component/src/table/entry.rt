@@ -165,7 +165,7 @@ fn out_by(priced: &Priced, forms: &mut Forms, tried: &Candidate) -> Result<Out, 
 }
 
 /// What a fare costs for a span where it is priced out; nothing where it isn't for the span.
-#[tactic(auto, using(crate::proofs::AmountLemmas::unsuitable, crate::proofs::AmountLemmas::no_single_there))]
+#[tactic(auto, using(crate::proofs::AmountLemmas::unsuitable, crate::proofs::SingleLemmas::no_single_there))]
 fn out_of(priced: &Priced, forms: &mut Forms, tried: &Candidate) -> Result<Out, NoMemory>
     requires forms { AreFormsFor priced.now tried.now forms.old.items.items }
     requires tried { IsCandidate priced.now tried.now }

@@ -7,7 +7,8 @@ ghost use Rattle.fare_rules.specs.Span.{holds_surface};
 ghost use Rattle.fare_rules.specs.ComponentAmount.{repeats_city, span_surcharge};
 ghost use Rattle.fare_component.specs.Spans.{IsSpan};
 
-use crate::conditions::{greatest_rank, one_carrier, stopovers, transfers};
+use crate::conditions::fares::{greatest_rank, one_carrier};
+use crate::conditions::spans::{stopovers, transfers};
 use crate::table::priced::Priced;
 use fare_codes::{Carrier, Indicator, MOST_SURCHARGE};
 
