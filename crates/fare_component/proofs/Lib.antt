@@ -1,8 +1,6 @@
 pub mod AmongLemmas
-pub mod AmountLemmas
 pub mod CandidateLemmas
 pub mod ColumnLemmas
-pub mod Counts
 pub mod CursorLemmas
 pub mod EntryLemmas
 pub mod SingleLemmas
@@ -11,7 +9,6 @@ pub mod LawLemmas
 pub mod OwnLemmas
 pub mod ReachLemmas
 pub mod ReferenceLemmas
-pub mod SpanLemmas
 pub mod TableLemmas
 pub mod WalkLemmas
 pub mod WorkedEntries

@@ -31,7 +31,7 @@ use Rattle.fare_rules.specs.Reference.{amount_on, every_carrier, key_by, referen
 use Rattle.fare_rules.specs.Span.{first_day}
 use Rattle.fare_component.specs.declared.table.references.Form.{Form}
 use Rattle.fare_component.specs.References.{IsOfForm, IsReference}
-use Rattle.fare_component.specs.Usable.{is_for_span}
+use Rattle.fare_conditions.specs.Usable.{is_for_span}
 use Rattle.fare_component.proofs.ReferenceLemmas.{is_moulded, moulded}
 
 same_bytes : (a : List ℕ) → bytes_eq a a ≡ true

@@ -8,8 +8,8 @@ use Rattle.fare_tariff.specs.Lookup.{fare_at}
 use Rattle.fare_rules.specs.ComponentAmount.{component_amount, is_half_round_trip}
 use Rattle.fare_rules.specs.UnitPrice.{one_way_price}
 use Rattle.fare_component.specs.Table.{single_price}
-use Rattle.fare_component.specs.Usable.{is_for_span}
-use Rattle.fare_component.proofs.AmountLemmas.{unsuitable}
+use Rattle.fare_conditions.specs.Usable.{is_for_span}
+use Rattle.fare_conditions.proofs.AmountLemmas.{unsuitable}
 
 -- a fare that has no amount priced out has no price as a unit of its own
 pub no_single_there : (tariff : Tariff) (trip : Itinerary) (a b number : ℕ) (fare : FareRecord)

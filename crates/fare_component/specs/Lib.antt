@@ -5,8 +5,5 @@ pub use Rattle.fare_rules.specs.Terms
 pub use Rattle.fare_rules.specs.ComponentAmount
 pub mod Candidates
 pub mod References
-pub mod Shared
-pub mod Spans
 pub mod Table
 pub mod Tried
-pub mod Usable

@@ -13,7 +13,7 @@ use Rattle.fare_rules.specs.UnitPrice.{one_way_price}
 use Rattle.fare_rules.specs.Numbers.{numbers}
 use Rattle.fare_rules.specs.Completion.{record_numbers}
 use Rattle.fare_component.specs.declared.table.entry.Entry.{Entry}
-use Rattle.fare_component.specs.Usable.{IsAmount}
+use Rattle.fare_conditions.specs.Usable.{IsAmount}
 
 -- what a table is of: an edition, and a trip that is priced in it
 pub record Pricing : Type 0 where

@@ -6,12 +6,12 @@ use Rattle.fare_rules.specs.declared.amount.Amount.{Amount}
 use Rattle.fare_rules.specs.ComponentAmount.{fare_amount}
 use Rattle.fare_component.specs.declared.table.entry.Candidate.{Candidate}
 use Rattle.fare_component.specs.declared.table.entry.Out.{Out}
-use Rattle.fare_component.specs.declared.table.priced.Priced.{Priced}
+use Rattle.fare_conditions.specs.declared.priced.Priced.{Priced}
 use Rattle.fare_component.specs.declared.table.references.References.{References}
 use Rattle.fare_component.specs.References.{AreForms, AreReferencesFrom}
-use Rattle.fare_component.specs.Spans.{IsSpan}
+use Rattle.fare_conditions.specs.Spans.{IsSpan}
 use Rattle.fare_component.specs.Table.{single_price}
-use Rattle.fare_component.specs.Usable.{IsAmount, is_for_span}
+use Rattle.fare_conditions.specs.Usable.{IsAmount, is_for_span}
 
 -- a candidate is a fare that its number files, and a span that fares may be tried for
 pub record IsCandidate (priced : Priced) (tried : Candidate) : Type 0 where

@@ -1,12 +1,9 @@
 //! The table of a trip in an edition: what each fare costs for each span, computed once.
 //!
-//! - `indicators`: the indicators of all spans and the mileages of all sectors;
-//! - `priced`: the trip in its edition, with these;
 //! - `references`, `forms`: the references of fares between the points, each looked up once;
 //! - `columns`: the greatest of them to a point, kept for the components from earlier points;
 //! - `reaches`: the greatest of all, kept for longer components from the same point;
 //! - `bases`, `backhauls`: the base and the backhaul minimum of a fare by them;
-//! - `span`: what a span asks of every fare;
 //! - `entry`: one fare of a span;
 //! - `cursor`, `candidates`: the fares between two cities, in record order;
 //! - `entries`, `row`: all entries of a span, and of all spans from a point.
@@ -17,7 +14,7 @@ ghost use Rattle.fare_trip.specs.Itinerary.{count};
 ghost use Rattle.fare_rules.specs.Numbers.{numbers};
 ghost use Rattle.fare_rules.specs.ComponentAmount.{component_amount};
 ghost use Rattle.fare_component.specs.Table.{IsInBounds, entries_of, entry_at, row_of, single_price};
-ghost use Rattle.fare_component.specs.Usable.{IsAmount};
+ghost use Rattle.fare_conditions.specs.Usable.{IsAmount};
 
 mod backhauls;
 mod bases;
@@ -27,25 +24,20 @@ mod cursor;
 mod entries;
 mod entry;
 mod forms;
-mod indicators;
-mod priced;
 mod reaches;
 mod references;
 mod row;
-mod span;
 
 pub use entries::MOST_ENTRIES;
 pub use entry::Entry;
 use fare_codes::{FARE_LIMIT, Nuc};
+use fare_conditions::{Priced, all_indicators};
 use fare_outside::NoMemory;
 use fare_rules::Amount;
 use fare_tariff::Edition;
 use fare_trip::Trip;
 use forms::Forms;
-use indicators::all_indicators;
-pub(crate) use priced::Priced;
 use row::Row;
-pub(crate) use span::Span;
 use std::alloc::Global;
 use std::marker::Model;
 

@@ -6,10 +6,10 @@ ghost use Rattle.fare_rules.specs.Backhaul.{backhaul};
 ghost use Rattle.fare_component.specs.References.{AreReferencesFrom, IsOfForm};
 
 use crate::table::bases::amount_of_fare;
-use crate::table::priced::Priced;
 use crate::table::reaches::go_to;
 use crate::table::references::References;
 use fare_codes::{FARE_LIMIT, Nuc};
+use fare_conditions::Priced;
 use fare_points::minimum_above;
 use fare_tariff::FareRec;
 

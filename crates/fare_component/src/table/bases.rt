@@ -5,12 +5,11 @@ ghost use Rattle.fare_trip.specs.Itinerary.{count};
 ghost use Rattle.fare_rules.specs.Base.{base, compared_pairs, greatest_amount};
 ghost use Rattle.fare_component.specs.References.{AreReferencesFrom, IsOfForm};
 
-use crate::component::Component;
 use crate::table::columns::greatest_to;
-use crate::table::priced::Priced;
 use crate::table::reaches::go_to;
 use crate::table::references::References;
 use fare_codes::{FARE_LIMIT, Nuc};
+use fare_conditions::{Component, Priced};
 use fare_tariff::FareRec;
 
 /// The amount of a fare, which is below the limit of all fares.

@@ -8,9 +8,9 @@ ghost use Rattle.fare_component.specs.declared.table.references.Form.{Form};
 ghost use Rattle.fare_component.specs.References.{AreReferences, IsColumn, greatest_to, reference_of};
 
 use crate::table::entry::at_least;
-use crate::table::priced::Priced;
 use crate::table::references::{Column, References};
 use fare_codes::{FARE_LIMIT, Nuc};
+use fare_conditions::Priced;
 
 /// The column to a point that serves those from another on: the one that is kept, where it begins there or later, else
 /// an empty one.

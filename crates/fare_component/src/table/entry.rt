@@ -1,22 +1,19 @@
 ghost use Rattle.std.specs.Prelude.{◌≡◌, ◌*◌, ◌<◌, IfOk, IfSome, OnOk, Some, false, true};
 ghost use Rattle.fare_rules.specs.UnitPrice.{at_least};
 ghost use Rattle.fare_component.specs.References.{AreForms, IsOfForm};
-ghost use Rattle.fare_component.specs.Spans.{IsSpan};
+ghost use Rattle.fare_conditions.specs.Spans.{IsSpan};
 ghost use Rattle.fare_component.specs.Table.{IsInBounds, amount_of, entry_of, single_price};
 ghost use Rattle.fare_component.specs.Tried.{AreFormsFor, AreReferencesFor, IsCandidate, IsOut, cost_of, suits};
-ghost use Rattle.fare_component.specs.Usable.{IsAmount};
+ghost use Rattle.fare_conditions.specs.Usable.{IsAmount};
 
-use crate::amounts::amount_from;
-use crate::component::Component;
-use crate::conditions::{is_half_round_trip, terms_allow};
 use crate::table::backhauls::backhaul_by;
 use crate::table::bases::base_by;
 use crate::table::forms::Forms;
-use crate::table::priced::Priced;
 use crate::table::references::References;
-use crate::table::span::Span;
-use crate::usable::suits_span;
 use fare_codes::{FARE_LIMIT, Nuc};
+use fare_conditions::{
+    Component, Priced, Span, amount_from, is_half_round_trip, suits_span, terms_allow,
+};
 use fare_outside::NoMemory;
 use fare_rules::Amount;
 use fare_tariff::{FareRec, fare_of_a_day_is_one};
@@ -87,7 +84,7 @@ fn learn(priced: &Priced, known: &mut References, tried: &Candidate, back: bool)
 }
 
 /// The amount of a fare for a span that it is for, by the references of its form.
-#[tactic(auto, using(crate::proofs::AmountLemmas::refused, crate::proofs::AmountLemmas::granted, crate::proofs::ReferenceLemmas::terms_of_form))]
+#[tactic(auto, using(fare_conditions::proofs::AmountLemmas::refused, fare_conditions::proofs::AmountLemmas::granted, crate::proofs::ReferenceLemmas::terms_of_form))]
 fn amount_by(
     priced: &Priced,
     known: &mut References,
@@ -119,7 +116,7 @@ fn amount_by(
 
 /// The price of a fare for a span as a unit of its own, where its amount priced out is this; nothing for a half round
 /// trip.
-#[tactic(auto, using(crate::proofs::AmountLemmas::at_least_bound), unfolding(fare_rules::specs::UnitPrice::one_way_price, fare_rules::specs::ComponentAmount::component_amount))]
+#[tactic(auto, using(fare_conditions::proofs::AmountLemmas::at_least_bound), unfolding(fare_rules::specs::UnitPrice::one_way_price, fare_rules::specs::ComponentAmount::component_amount))]
 fn single_price(
     priced: &Priced,
     known: &mut References,
@@ -165,7 +162,7 @@ fn out_by(priced: &Priced, forms: &mut Forms, tried: &Candidate) -> Result<Out, 
 }
 
 /// What a fare costs for a span where it is priced out; nothing where it isn't for the span.
-#[tactic(auto, using(crate::proofs::AmountLemmas::unsuitable, crate::proofs::SingleLemmas::no_single_there))]
+#[tactic(auto, using(fare_conditions::proofs::AmountLemmas::unsuitable, crate::proofs::SingleLemmas::no_single_there))]
 fn out_of(priced: &Priced, forms: &mut Forms, tried: &Candidate) -> Result<Out, NoMemory>
     requires forms { AreFormsFor priced.now tried.now forms.old.items.items }
     requires tried { IsCandidate priced.now tried.now }
@@ -182,7 +179,7 @@ fn out_of(priced: &Priced, forms: &mut Forms, tried: &Candidate) -> Result<Out, 
 }
 
 /// The amount of a fare for a span where it is priced back; nothing where it isn't for the span.
-#[tactic(auto, using(crate::proofs::AmountLemmas::unsuitable))]
+#[tactic(auto, using(fare_conditions::proofs::AmountLemmas::unsuitable))]
 fn back_of(
     priced: &Priced,
     forms: &mut Forms,

@@ -6,8 +6,8 @@ ghost use Rattle.fare_tariff.specs.Tariff.{Tariff};
 ghost use Rattle.fare_component.specs.declared.table.references.References.{References};
 ghost use Rattle.fare_component.specs.References.{AreForms, IsOfForm};
 
-use crate::table::priced::Priced;
 use crate::table::references::{References, is_of_form};
+use fare_conditions::Priced;
 use fare_outside::NoMemory;
 use fare_tariff::FareRec;
 use fare_trip::Trip;

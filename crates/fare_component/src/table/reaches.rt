@@ -7,9 +7,9 @@ ghost use Rattle.fare_rules.specs.UnitPrice.{at_least};
 ghost use Rattle.fare_component.specs.References.{AreReferences, greatest_inner, to_stop};
 
 use crate::table::columns::greatest_to;
-use crate::table::priced::Priced;
 use crate::table::references::{Reach, References};
 use fare_codes::{FARE_LIMIT, Nuc};
+use fare_conditions::Priced;
 
 /// The reference from the start of a component to a point, where that is a stopover.
 fn reference_to_stopover(priced: &Priced, known: &mut References, a: usize, j: usize) -> Option<Nuc>

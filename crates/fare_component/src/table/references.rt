@@ -8,9 +8,8 @@ ghost use Rattle.fare_rules.specs.Terms.{terms_of_fare};
 ghost use Rattle.fare_component.specs.declared.table.references.Form.{Form};
 ghost use Rattle.fare_component.specs.References.{AreReferences, IsOfForm, IsReach, IsReference, kept_at, reference_of};
 
-use crate::conditions::terms_of_fare;
-use crate::table::priced::Priced;
 use fare_codes::{Day, FARE_LIMIT, Nuc, RuleId};
+use fare_conditions::{Priced, terms_of_fare};
 use fare_points::reference;
 use fare_rules::MOST_POINTS;
 use fare_tariff::{Edition, FareRec, Terms};

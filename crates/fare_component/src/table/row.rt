@@ -5,7 +5,7 @@ ghost use Rattle.fare_component.specs.Table.{IsInBounds, row_of};
 use crate::table::entries::{Entries, MOST_ENTRIES, entries_of};
 use crate::table::entry::Entry;
 use crate::table::forms::Forms;
-use crate::table::priced::Priced;
+use fare_conditions::Priced;
 use fare_outside::NoMemory;
 use std::alloc::Global;
 use std::marker::Model;

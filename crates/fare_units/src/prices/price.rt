@@ -8,7 +8,7 @@ ghost use Rattle.fare_rules.specs.UnitPrice.{part_amount, part_cost, unit_sum, a
 ghost use Rattle.fare_rules.specs.UnitPrice.{unit_kind, part_backhaul, unit_minimum, at_least, sheet_from};
 ghost use Rattle.fare_rules.specs.UnitPrice.{sheet_of_kind, unit_sheet, unit_price, price};
 ghost use Rattle.fare_rules.specs.ComponentAmount.{component_amount};
-ghost use Rattle.fare_component.specs.Usable.{IsAmount};
+ghost use Rattle.fare_conditions.specs.Usable.{IsAmount};
 ghost use Rattle.fare_lawful.specs.Advance.{Advances};
 ghost use Rattle.fare_lawful.specs.Known.{IsOf};
 ghost use Rattle.fare_lawful.specs.Places.{IsPlace, ArePlaces};

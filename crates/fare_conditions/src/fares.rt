@@ -8,7 +8,7 @@ ghost use Rattle.fare_rules.specs.Span.{sectors};
 ghost use Rattle.fare_rules.specs.ComponentAmount.{is_filed_between, runs_between, is_half_round_trip, may_be_priced};
 ghost use Rattle.fare_rules.specs.ComponentAmount.{has_indicator, rank, covers_cabin, covers_cabins, is_carried_by};
 ghost use Rattle.fare_rules.specs.ComponentAmount.{covers_carriers, in_season};
-ghost use Rattle.fare_component.specs.Spans.{IsGreatestRank, IsOneCarrier, is_carrier};
+ghost use Rattle.fare_conditions.specs.Spans.{IsGreatestRank, IsOneCarrier, is_carrier};
 
 use fare_codes::{Cabin, Carrier, City, Kind};
 use fare_points::{every_carrier, indicator};
@@ -37,7 +37,7 @@ pub fn runs_between(trip: &Trip, a: usize, b: usize, back: bool, fare: &FareRec)
 }
 
 /// Whether a fare is a half round trip, and not one way.
-pub(crate) fn is_half_round_trip(fare: &FareRec) -> bool
+pub fn is_half_round_trip(fare: &FareRec) -> bool
     ensures { result ≡ is_half_round_trip fare.now }
 {
     matches!(fare.kind, Kind::HR)

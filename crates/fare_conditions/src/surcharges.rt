@@ -6,8 +6,8 @@ ghost use Rattle.fare_rules.specs.Indicator.{indicator};
 ghost use Rattle.fare_rules.specs.ComponentAmount.{span_surcharge, mileage_holds, excess_holds};
 ghost use Rattle.fare_rules.specs.Mileage.{surcharge_of};
 
-use crate::conditions::terms::is_allowed;
-use crate::table::priced::Priced;
+use crate::priced::Priced;
+use crate::terms::is_allowed;
 use fare_codes::{Indicator, MOST_SURCHARGE};
 use fare_mileage::{Mileage, mileage, mileage_by};
 use fare_points::indicator;
@@ -28,7 +28,7 @@ fn surcharge_of(mileage: Mileage) -> Option<u32>
 /// The surcharge that the mileage of a span asks for, in hundredths of the base, where it lets a fare be used and the
 /// span's indicator is this; by the mileages of the sectors that were looked up once.
 #[tactic(auto, unfolding(fare_rules::specs::ComponentAmount::span_surcharge))]
-pub(crate) fn surcharge_by(priced: &Priced, a: usize, b: usize, ind: Indicator) -> Option<u32>
+pub fn surcharge_by(priced: &Priced, a: usize, b: usize, ind: Indicator) -> Option<u32>
     requires rises { a < b }
     requires within { b ≤ count priced.now.trip.now }
     requires indicator { ind ≡ indicator priced.now.edition.now priced.now.trip.now a b }

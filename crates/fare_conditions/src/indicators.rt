@@ -1,6 +1,6 @@
 ghost use Rattle.fare_trip.specs.Itinerary.{count};
 ghost use Rattle.fare_mileage.specs.Miles.{AreInRange, AreMiles};
-ghost use Rattle.fare_component.specs.Shared.{AreIndicators};
+ghost use Rattle.fare_conditions.specs.Shared.{AreIndicators};
 
 use fare_codes::Indicator;
 use fare_mileage::miles_between;
@@ -12,13 +12,13 @@ use fare_trip::Trip;
 /// The global indicators of all spans of a trip, by the points where they begin and end, and the ticketed point
 /// mileages of its sectors, by their numbers.
 #[derive(Drop)]
-pub(crate) struct Indicators {
-    pub(crate) rows: [[Indicator; MOST_POINTS]; MOST_POINTS],
-    pub(crate) miles: [Option<u32>; MOST_POINTS],
+pub struct Indicators {
+    pub rows: [[Indicator; MOST_POINTS]; MOST_POINTS],
+    pub miles: [Option<u32>; MOST_POINTS],
 }
 
 /// The indicators of all spans and the mileages of all sectors.
-pub(crate) fn all_indicators(edition: &Edition, trip: &Trip) -> Indicators
+pub fn all_indicators(edition: &Edition, trip: &Trip) -> Indicators
     ensures indicators { AreIndicators edition.now trip.now result.rows }
     ensures miles { AreMiles edition.now trip.now 0 (count trip.now) result.miles }
     ensures in_range { AreInRange result.miles }

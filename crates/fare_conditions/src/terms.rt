@@ -5,15 +5,15 @@ ghost use Rattle.fare_trip.specs.Itinerary.{count};
 ghost use Rattle.fare_rules.specs.Terms.{allows_surcharge, terms_of_fare, stops_hold, transfers_hold, advance_days};
 ghost use Rattle.fare_rules.specs.Terms.{advance_holds};
 ghost use Rattle.fare_rules.specs.ComponentAmount.{is_allowed};
-ghost use Rattle.fare_component.specs.Spans.{IsSpan};
+ghost use Rattle.fare_conditions.specs.Spans.{IsSpan};
 
-use crate::conditions::spans::{stopovers, transfers};
-use crate::table::span::Span;
+use crate::span::Span;
+use crate::spans::{stopovers, transfers};
 use fare_tariff::{Edition, FareRec, Terms};
 use fare_trip::Trip;
 
 /// The terms of a fare.
-pub(crate) fn terms_of_fare(edition: &Edition, fare: &FareRec) -> Option<Terms>
+pub fn terms_of_fare(edition: &Edition, fare: &FareRec) -> Option<Terms>
     ensures { result ≡ terms_of_fare edition.now fare.now }
 {
     edition.terms(fare.rule)
@@ -90,7 +90,7 @@ pub(crate) fn is_allowed(edition: &Edition, fare: &FareRec, surcharge: Option<u3
 
 /// Whether the terms of a fare's rule, which are these, hold for a span and allow its surcharge.
 #[tactic(auto, unfolding(fare_rules::specs::Terms::stops_hold, fare_rules::specs::Terms::transfers_hold, fare_rules::specs::Terms::advance_holds))]
-pub(crate) fn terms_allow(
+pub fn terms_allow(
     edition: &Edition,
     trip: &Trip,
     fare: &FareRec,

@@ -4,9 +4,9 @@ ghost use Rattle.std.specs.Prelude.{◌<◌};
 
 /// A span that a fare is priced for, out or back.
 #[derive(Clone, Copy)]
-pub(crate) struct Component {
-    pub(crate) a: usize,
-    pub(crate) b: usize,
-    pub(crate) back: bool,
+pub struct Component {
+    pub a: usize,
+    pub b: usize,
+    pub back: bool,
     ghost rises: { a < b },
 }

@@ -10,7 +10,7 @@ use Rattle.fare_codes.specs.declared.limits.TheConstants.{MOST_SURCHARGE}
 use Rattle.fare_rules.specs.Indicator.{indicator}
 use Rattle.fare_rules.specs.Span.{holds_surface, sectors, stopovers, transfers}
 use Rattle.fare_rules.specs.ComponentAmount.{covers_cabin, is_carried_by, rank, repeats_city, span_surcharge}
-use Rattle.fare_component.specs.declared.table.span.Span.{Span}
+use Rattle.fare_conditions.specs.declared.span.Span.{Span}
 
 -- the one carrier of some sectors, where they have one, is a carrier
 abbrev pub is_carrier : Option Carrier → Carrier → Bool

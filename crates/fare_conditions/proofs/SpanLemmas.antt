@@ -11,7 +11,7 @@ use Rattle.fare_rules.specs.Numbers.{numbers}
 use Rattle.fare_rules.specs.Span.{sectors}
 use Rattle.fare_rules.specs.ComponentAmount.{covers_cabin, is_carried_by, rank}
 use Rattle.fare_rules.proofs.NumberLemmas.{all_next, all_done}
-use Rattle.fare_component.specs.Spans.{IsOneCarrier}
+use Rattle.fare_conditions.specs.Spans.{IsOneCarrier}
 
 -- the greater of two numbers is at most a third where both are
 at_most_max : (x y most : ℕ) → nat_le (max x y) most ≡ (nat_le x most && nat_le y most)

@@ -1,7 +1,7 @@
 -- the rows have the indicators of the spans that begin before this point
 use Rattle.std.proofs.Common.{◌≡◌, length}
 use Rattle.fare_rules.specs.declared.limits.TheConstants.{MOST_POINTS}
-use Rattle.fare_component.specs.Shared.{AreIndicatorsBefore}
+use Rattle.fare_conditions.specs.Shared.{AreIndicatorsBefore}
 use Rattle.fare_component.proofs.table.indicators.all_indicators.Given as goal
 
 abbrev pub invariant-loop-i : goal.invariant-loop-i

@@ -15,7 +15,7 @@ use Rattle.fare_rules.specs.Indicator.{indicator}
 use Rattle.fare_rules.specs.Span.{holds_surface}
 use Rattle.fare_rules.specs.Terms.{stops_hold, transfers_hold, advance_holds}
 use Rattle.fare_rules.specs.UnitPrice.{at_least}
-use Rattle.fare_component.specs.Usable.{is_for_span, is_usable}
+use Rattle.fare_conditions.specs.Usable.{is_for_span, is_usable}
 
 -- the amount by whether the fare is usable, by the surcharge and by whether that is allowed
 by_tests : (tariff : Tariff) (trip : Itinerary) (a b : ℕ) (back : Bool) (fare : FareRecord) (usable : Bool)

@@ -4,11 +4,11 @@ ghost use Rattle.std.specs.Prelude.{◌≡◌, ◌<◌, ◌≤◌, IfSome, if◌
 ghost use Rattle.fare_trip.specs.Itinerary.{count};
 ghost use Rattle.fare_rules.specs.Base.{base};
 ghost use Rattle.fare_rules.specs.ComponentAmount.{is_allowed, amount_from, fare_amount, component_amount};
-ghost use Rattle.fare_component.specs.Usable.{IsAmount};
+ghost use Rattle.fare_conditions.specs.Usable.{IsAmount};
 
 use crate::component::Component;
-use crate::conditions::surcharges::span_surcharge;
-use crate::conditions::terms::is_allowed;
+use crate::surcharges::span_surcharge;
+use crate::terms::is_allowed;
 use crate::usable::is_usable;
 use fare_codes::{FARE_LIMIT, MOST_SURCHARGE, Nuc, surcharged};
 use fare_points::higher;
@@ -31,7 +31,7 @@ fn base(edition: &Edition, trip: &Trip, component: Component, fare: &FareRec) ->
 
 /// A base with a surcharge, rounded down.
 #[tactic(auto, unfolding(fare_codes::specs::Amounts::surcharged))]
-pub(crate) fn amount_from(base: Nuc, step: u32) -> Amount
+pub fn amount_from(base: Nuc, step: u32) -> Amount
     requires low { base < FARE_LIMIT }
     requires step { step ≤ MOST_SURCHARGE }
     ensures value { result ≡ amount_from base step }

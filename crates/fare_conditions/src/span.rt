@@ -5,29 +5,29 @@ ghost use Rattle.fare_trip.specs.Itinerary.{count};
 ghost use Rattle.fare_rules.specs.Indicator.{indicator};
 ghost use Rattle.fare_rules.specs.Span.{holds_surface};
 ghost use Rattle.fare_rules.specs.ComponentAmount.{repeats_city, span_surcharge};
-ghost use Rattle.fare_component.specs.Spans.{IsSpan};
+ghost use Rattle.fare_conditions.specs.Spans.{IsSpan};
 
-use crate::conditions::fares::{greatest_rank, one_carrier};
-use crate::conditions::spans::{stopovers, transfers};
-use crate::table::priced::Priced;
+use crate::fares::{greatest_rank, one_carrier};
+use crate::priced::Priced;
+use crate::spans::{stopovers, transfers};
 use fare_codes::{Carrier, Indicator, MOST_SURCHARGE};
 
 /// What a span, from a point to another, asks of a fare: its indicator, the surcharge of its mileage, its stopovers and
 /// transfers, the greatest rank of its cabins, and the carrier of all its sectors, where they have one.
 #[derive(Clone, Copy)]
-pub(crate) struct Span {
-    pub(crate) a: usize,
-    pub(crate) b: usize,
-    pub(crate) ind: Indicator,
-    pub(crate) step: u32,
-    pub(crate) stops: u32,
-    pub(crate) transfers: u32,
-    pub(crate) rank: u32,
-    pub(crate) carrier: Option<Carrier>,
+pub struct Span {
+    pub a: usize,
+    pub b: usize,
+    pub ind: Indicator,
+    pub step: u32,
+    pub stops: u32,
+    pub transfers: u32,
+    pub rank: u32,
+    pub carrier: Option<Carrier>,
 }
 
 /// What a span with an indicator and a surcharge asks of a fare.
-pub(crate) fn span_of(priced: &Priced, a: usize, b: usize, ind: Indicator, step: u32) -> Span
+pub fn span_of(priced: &Priced, a: usize, b: usize, ind: Indicator, step: u32) -> Span
     requires rises { a < b }
     requires within { b ≤ count priced.now.trip.now }
     requires plain { (not (holds_surface priced.now.trip.now a b)

@@ -4,22 +4,22 @@ ghost use Rattle.std.specs.Prelude.{◌≡◌, ◌≤◌, ◌&&◌, not};
 ghost use Rattle.fare_trip.specs.Itinerary.{count};
 ghost use Rattle.fare_rules.specs.Span.{holds_surface};
 ghost use Rattle.fare_rules.specs.ComponentAmount.{repeats_city};
-ghost use Rattle.fare_component.specs.Spans.{IsSpan};
-ghost use Rattle.fare_component.specs.Usable.{is_for_span, is_usable};
+ghost use Rattle.fare_conditions.specs.Spans.{IsSpan};
+ghost use Rattle.fare_conditions.specs.Usable.{is_for_span, is_usable};
 
 use crate::component::Component;
-use crate::conditions::fares::{
-    covers_cabins, covers_carriers, has_carrier, has_indicator, has_rank, in_season,
-    may_be_priced, runs_between,
+use crate::fares::{
+    covers_cabins, covers_carriers, has_carrier, has_indicator, has_rank, in_season, may_be_priced,
+    runs_between,
 };
-use crate::conditions::spans::{holds_surface, repeats_city};
-use crate::conditions::terms::{advance_holds, stops_hold, transfers_hold};
-use crate::table::span::Span;
+use crate::span::Span;
+use crate::spans::{holds_surface, repeats_city};
+use crate::terms::{advance_holds, stops_hold, transfers_hold};
 use fare_tariff::{Edition, FareRec};
 use fare_trip::Trip;
 
 /// Whether a span can be a component: it holds no surface sector and no city twice.
-pub(crate) fn is_plain(trip: &Trip, a: usize, b: usize) -> bool
+pub fn is_plain(trip: &Trip, a: usize, b: usize) -> bool
     requires within { b ≤ count trip.now }
     ensures { result ≡ (not (holds_surface trip.now a b) && not (repeats_city trip.now a b)) }
 {
@@ -63,13 +63,7 @@ pub(crate) fn is_usable(
 
 /// Whether a fare is for a span, by what the span asks of fares.
 #[tactic(auto, using(crate::proofs::AmountLemmas::is_for_plain_span))]
-pub(crate) fn suits_span(
-    edition: &Edition,
-    trip: &Trip,
-    span: &Span,
-    fare: &FareRec,
-    back: bool,
-) -> bool
+pub fn suits_span(edition: &Edition, trip: &Trip, span: &Span, fare: &FareRec, back: bool) -> bool
     requires { IsSpan edition.now trip.now span.now }
     ensures { result ≡ is_for_span edition.now trip.now span.now.a span.now.b back fare.now }
 {
