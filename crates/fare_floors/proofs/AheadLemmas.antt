@@ -28,7 +28,8 @@ use Rattle.fare_floors.specs.Costs.{AreUnitFloors, or_nothing, part_least, true_
 use Rattle.fare_floors.specs.Floors.{IsFloorAnswer}
 use Rattle.fare_floors.specs.Joining.{is_stuck}
 use Rattle.fare_homing.specs.Ceiling.{IsWithin}
-use Rattle.fare_homing.specs.Homing.{IsUpTo, closing_by, homing_at, is_same_city, may_end_at}
+use Rattle.fare_homing.specs.Costs.{IsUpTo, is_same_city}
+use Rattle.fare_homing.specs.Homing.{closing_by, homing_at, may_end_at}
 use Rattle.fare_homing.specs.Rows.{begun_from, cell, closing_from, jaw_from, AreHomingsOf}
 use Rattle.fare_floors.specs.Stack.{AreOver, IsOver, IsOverOpen, has_more, may_come_to}
 use Rattle.fare_floors.specs.Barring.{left_of}

@@ -24,7 +24,8 @@ use Rattle.fare_units.proofs.NextLemmas.{front_unit, greatest_same}
 use Rattle.fare_component.specs.Table.{entries_of}
 use Rattle.fare_homing.specs.declared.ceiling.Ceiling.{Ceiling}
 use Rattle.fare_homing.specs.Ceiling.{IsCeiling, IsWithin, below_ceiling}
-use Rattle.fare_homing.specs.Homing.{IsUpTo, closing_by, homing_at, is_same_city, may_end_at, may_go_on, back_cost, between_cost, heads_to}
+use Rattle.fare_homing.specs.Costs.{IsUpTo, is_same_city, back_cost, between_cost, heads_to}
+use Rattle.fare_homing.specs.Homing.{closing_by, homing_at, may_end_at, may_go_on}
 use Rattle.fare_homing.specs.HomingRows.{IsLast, IsPart}
 use Rattle.fare_homing.specs.Owed.{IsOwed}
 use Rattle.fare_homing.specs.Barred.{is_barred}

@@ -27,7 +27,8 @@ use Rattle.fare_floors.specs.Costs.{part_least, true_cost, units_floor}
 use Rattle.fare_homing.specs.Floor.{capped_sum}
 use Rattle.fare_homing.specs.declared.ceiling.Ceiling.{Ceiling}
 use Rattle.fare_homing.specs.Ceiling.{IsWithin}
-use Rattle.fare_homing.specs.Homing.{IsUpTo, closing_by, homing_at}
+use Rattle.fare_homing.specs.Costs.{IsUpTo}
+use Rattle.fare_homing.specs.Homing.{closing_by, homing_at}
 use Rattle.fare_floors.specs.Ending.{needs_more}
 use Rattle.fare_floors.specs.Floors.{IsFloorAnswer}
 use Rattle.fare_floors.specs.Joining.{is_blocked, is_stuck, may_join}

@@ -8,7 +8,8 @@ use Rattle.fare_rules.specs.declared.part.Part.{Part}
 use Rattle.fare_rules.specs.Construction.{start_of, end_of, own, first_of, last_of, part_at, unit_of}
 use Rattle.fare_homing.specs.declared.ceiling.Ceiling.{Ceiling}
 use Rattle.fare_homing.specs.Barred.{is_barred}
-use Rattle.fare_homing.specs.Homing.{IsUpTo, closing_by, homing_at, is_same_city}
+use Rattle.fare_homing.specs.Costs.{IsUpTo, is_same_city}
+use Rattle.fare_homing.specs.Homing.{closing_by, homing_at}
 use Rattle.fare_homing.specs.HomingRows.{AreHomings, AreRests}
 use Rattle.fare_floors.specs.Costs.{true_cost}
 use Rattle.fare_floors.specs.Stack.{goes_on, has_more, stand_of, IsOver, LastsBy}

@@ -1,25 +1,18 @@
 -- What is behind each point by what is barred, as it is put together.
-use Rattle.std.proofs.Common.{◌≡◌, ℕ, Bool, true, false, not, ◌||◌, List, [], ◌∷◌, refl, ap, subst, inl, inr}
+use Rattle.std.proofs.Common.{◌≡◌, ℕ, Bool, true, false, not, ◌||◌, List, [], ◌∷◌, refl, subst, inl, inr}
 use Rattle.std.specs.Prelude.{Option, Some, None, ◌⊎◌}
 use Rattle.std.specs.List.{list_all, list_any}
 use Rattle.std.proofs.lemmas.Bool.{and_parts, cases_Bool}
-use Rattle.std.proofs.lemmas.Slice.Eq.{bytes_eq-Decides}
 use Rattle.fare_codes.specs.declared.rule_id.RuleId.{RuleId}
 use Rattle.fare_tariff.specs.Record.{FareRecord}
 use Rattle.fare_tariff.specs.Tariff.{Tariff}
 use Rattle.fare_tariff.specs.Lookup.{ends_ok, fare_at}
-use Rattle.fare_homing.specs.Barred.{IsStep, has_this_rule, is_among, is_of_rule, same_rule}
+use Rattle.fare_homing.specs.Barred.{IsStep, has_this_rule, is_among, is_of_rule}
 use Rattle.fare_homing.specs.Barring.{may_bar}
+use Rattle.fare_homing.proofs.RuleLemmas.{same_rule_is}
 
 false_true : false ≡ true → ⊥
 false_true e = cc
-
--- rules that are told to be the same are
-pub same_rule_is : (one other : Option RuleId) → same_rule one other ≡ true → one ≡ other
-same_rule_is None None e = refl
-same_rule_is None (Some other) e = absurd (false_true e)
-same_rule_is (Some id) None e = absurd (false_true e)
-same_rule_is (Some id) (Some other) e = ap Some ((bytes_eq-Decides id other).0 e)
 
 module _ (tariff : Tariff) (before : List ℕ) (rule : Option RuleId) where
   abbrev MayBar : Option RuleId → Type 0

@@ -16,56 +16,16 @@ use Rattle.fare_bounds.specs.Covers.{lesser, rest_at}
 use Rattle.fare_homing.specs.declared.ceiling.Ceiling.{Ceiling}
 use Rattle.fare_homing.specs.Barred.{unless_barred}
 use Rattle.fare_homing.specs.Ceiling.{below_ceiling}
-use Rattle.fare_homing.specs.Homing.{IsUpTo, back_cost, between_cost, first_cost, heads_to, homing_at, is_same_city}
+use Rattle.fare_homing.specs.Costs.{IsUpTo, back_cost, between_cost, first_cost, heads_to, is_same_city}
+use Rattle.fare_homing.specs.Homing.{homing_at}
 use Rattle.fare_homing.specs.HomingRows.{AreClosings, AreJaws, AreNext, AreWholes, IsBetween, IsPart, IsUnderBoth}
 use Rattle.fare_homing.specs.Floor.{added}
 use Rattle.fare_homing.specs.Least.{IsUnderEach}
-use Rattle.fare_homing.specs.Rows.{country_at, heads_in, AreCountries}
+use Rattle.fare_homing.specs.Countries.{country_at, heads_in, AreCountries}
 use Rattle.fare_homing.proofs.ReachLemmas.{added_up, up_first, up_more, up_second}
 
 true_false : true ≡ false → ⊥
 true_false e = cc
-
-pub none_at : {A : Type 0} (n i : ℕ) → slice_index_or {A = Option A} (replicate n None) i None ≡ None
-none_at zero i = refl
-none_at (suc n) zero = refl
-none_at (suc n) (suc i) = none_at n i
-
--- a number that stands in a row stands before its end
-pub stands_before : (row : List (Option ℕ)) (j y : ℕ) → IsUpTo y (rest_at row j) → j < length row
-stands_before row j y up = elim (cases_lt j (length row)) [
-  | inl less ↦ less
-  | inr past ↦ absurd (none-some up.0 (sym (get_past row j past) ∙ up.1))
-]
-  where
-    get_past : (xs : List (Option ℕ)) (k : ℕ) → length xs ≤ k → slice_index_or xs k None ≡ None
-    get_past [] k past = refl
-    get_past (x ∷ xs) zero past = absurd (omega arith)
-    get_past (x ∷ xs) (suc k) past = get_past xs k (omega arith)
-
--- a number that isn't there is up to nothing
-pub not_there : (x : Option ℕ) (n : ℕ) → is_some x ≡ false → IsUpTo n x → ⊥
-not_there None n none up = none-some up.0 up.1
-not_there (Some y) n none up = true_false none
-
--- the sum of two numbers is no more than what both are up to
-pub both_up : (a b found : Option ℕ) → found ≡ added a b → (x y : ℕ) → IsUpTo x a → IsUpTo y b → IsUpTo (x + y) found
-both_up a b found is x y up more =
-    let low : up.0 ≤ x = up.2 in
-    let rest : more.0 ≤ y = more.2 in
-    up_more (up.0 + more.0) (x + y) found (omega arith) (added_up a b found is up.0 more.0 up.1 more.1)
-
--- the lesser of a least number and a sum is up to either
-pub lesser_sum : (least a b found : Option ℕ) → found ≡ lesser least (added a b) → (x y : ℕ) → IsUpTo x a → IsUpTo y b → IsUpTo (x + y) found
-lesser_sum least a b found is x y up more = subst (IsUpTo (x + y)) (sym is) (up_second least (added a b) (x + y) (both_up a b (added a b) refl x y up more))
-
-pub lesser_kept : (least here found : Option ℕ) → found ≡ lesser least here → (most : ℕ) → IsUpTo most least → IsUpTo most found
-lesser_kept least here found is most up = subst (IsUpTo most) (sym is) (up_first least here most up)
-
--- whether a part between heads home is told by the countries of the trip's points
-pub heads_same : (tariff : Tariff) (trip : Itinerary) (countries : List (Option Country)) (a b home : ℕ) → AreCountries tariff trip countries → a ≤ count trip → b ≤ count trip → home ≤ count trip
-    → heads_to tariff trip a b home ≡ heads_in countries a b home
-heads_same tariff trip countries a b home are low mid high = rw (sym (are a low), sym (are b mid), sym (are home high)) refl
 
 module _ (tariff : Tariff) (trip : Itinerary) where
   -- a part behind a point ends behind it, and within the trip
@@ -93,11 +53,6 @@ module _ (tariff : Tariff) (trip : Itinerary) where
       by_way : (way : Bool) → IsPart tariff trip (between_cost way) a b x → IsUpTo x (if way then last else first)
       by_way true p = backs x p
       by_way false p = outs x p
-
--- whether a last part may begin at a point of a trip is told by the countries of its points
-pub lies_there : (tariff : Tariff) (trip : Itinerary) (countries : List (Option Country)) (a b : ℕ) → AreCountries tariff trip countries → a ≤ count trip → b ≤ count trip
-    → lie_together tariff (point trip a) (point trip b) ≡ is_same_country (country_at countries a) (country_at countries b)
-lies_there tariff trip countries a b are low high = rw (sym (are a low), sym (are b high)) refl
 
 -- numbers are under the same by rows that are the same behind a point
 pub wholes_same : (tariff : Tariff) (trip : Itinerary) (barred : List ℕ) (begun jaw new_begun new_jaw : ℕ → ℕ → ℕ → Option ℕ) (i : ℕ) (whole new : ℕ → Option ℕ) → ((b j : ℕ) → i < b → new_begun b b j ≡ begun b b j)

@@ -6,7 +6,7 @@ use Rattle.std.proofs.lemmas.List.Elements.{Contains-push_cases}
 use Rattle.fare_component.specs.declared.table.entry.Entry.{Entry}
 use Rattle.fare_bounds.specs.Covers.{lesser}
 use Rattle.fare_homing.specs.Floor.{capped}
-use Rattle.fare_homing.specs.Homing.{IsUpTo}
+use Rattle.fare_homing.specs.Costs.{IsUpTo}
 use Rattle.fare_homing.specs.Least.{IsUnderEach}
 use Rattle.fare_homing.proofs.ReachLemmas.{up_first, up_second}
 

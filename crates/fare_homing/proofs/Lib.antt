@@ -1,4 +1,7 @@
 pub mod ReachLemmas
+pub mod FloorLemmas
+pub mod CountryLemmas
+pub mod RuleLemmas
 pub mod LeastLemmas
 pub mod HomingRowLemmas
 pub mod UnderLemmas
@@ -10,3 +13,4 @@ pub mod BarringLemmas
 pub mod LinkLemmas
 pub mod OwedLemmas
 pub mod ThreeLemmas
+pub mod BetweenLemmas

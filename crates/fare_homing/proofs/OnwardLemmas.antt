@@ -12,7 +12,7 @@ use Rattle.fare_bounds.specs.Covers.{rest_at}
 use Rattle.fare_homing.specs.declared.onward.Onward.{Onward}
 use Rattle.fare_homing.specs.declared.onward.Onwards.{Onwards}
 use Rattle.fare_homing.specs.Barred.{is_among, is_barred, is_of_rule, unless_barred}
-use Rattle.fare_homing.specs.Homing.{first_cost, single_cost}
+use Rattle.fare_homing.specs.Costs.{first_cost, single_cost}
 use Rattle.fare_homing.specs.HomingRows.{AreRests}
 use Rattle.fare_homing.specs.Onward.{AreOnwards, HasRests, next_by, no_onward, onward_at}
 use Rattle.fare_homing.specs.Pairs.{HasPair, are_mates, days_between}

@@ -5,8 +5,8 @@ use Rattle.std.proofs.lemmas.Bool.{both_ways, cases_Bool, cases_eq}
 use Rattle.std.proofs.lemmas.List.{get_or-set_same, get_or-set_other}
 use Rattle.fare_trip.specs.Itinerary.{Itinerary}
 use Rattle.fare_bounds.specs.Covers.{lesser, rest_at}
-use Rattle.fare_homing.specs.Homing.{IsUpTo, is_same_city}
-use Rattle.fare_homing.proofs.HomingRowLemmas.{lesser_kept}
+use Rattle.fare_homing.specs.Costs.{IsUpTo, is_same_city}
+use Rattle.fare_homing.proofs.FloorLemmas.{lesser_kept}
 use Rattle.fare_homing.proofs.ReachLemmas.{up_second}
 
 -- the numbers of a row are no more than they were, and before a point no more than a number wherever the city comes again

@@ -5,7 +5,7 @@ use Rattle.std.proofs.lemmas.Bool.{cases_eq}
 use Rattle.std.proofs.lemmas.Option.{none-some, same_Some}
 use Rattle.std.proofs.lemmas.List.{get_or-set_same, get_or-set_other}
 use Rattle.fare_bounds.specs.Covers.{lesser, rest_at}
-use Rattle.fare_homing.specs.Homing.{IsUpTo}
+use Rattle.fare_homing.specs.Costs.{IsUpTo}
 use Rattle.fare_homing.specs.Floor.{added, capped, greater}
 
 -- the lesser of two amounts is no more than either

@@ -9,7 +9,8 @@ use Rattle.fare_component.specs.Table.{entries_of}
 use Rattle.fare_homing.specs.declared.ceiling.Ceiling.{Ceiling}
 use Rattle.fare_homing.specs.Barred.{is_barred, unless_barred}
 use Rattle.fare_homing.specs.Ceiling.{below_ceiling}
-use Rattle.fare_homing.specs.Homing.{IsUpTo, single_cost, first_cost, between_cost, back_cost, closing_by, heads_to, may_end_at, is_same_city, homing_at}
+use Rattle.fare_homing.specs.Costs.{IsUpTo, single_cost, first_cost, between_cost, back_cost, heads_to, is_same_city}
+use Rattle.fare_homing.specs.Homing.{closing_by, may_end_at, homing_at}
 use Rattle.fare_homing.specs.HomingRows.{AreHomings, AreRests, IsBetween, IsLast, IsPart, IsSecond}
 use Rattle.fare_homing.specs.Pairs.{HasPair}
 use Rattle.fare_homing.specs.Threes.{IsOneOfThree}

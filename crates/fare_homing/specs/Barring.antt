@@ -6,7 +6,7 @@ use Rattle.fare_tariff.specs.Record.{FareRecord}
 use Rattle.fare_tariff.specs.Tariff.{Tariff}
 use Rattle.fare_tariff.specs.Lookup.{ends_ok}
 use Rattle.fare_homing.specs.declared.onward.Onward.{Onward}
-use Rattle.fare_homing.specs.declared.onward.TheConstants.{MOST_RULES, MOST_SETS}
+use Rattle.fare_homing.specs.declared.limits.TheConstants.{MOST_RULES, MOST_SETS}
 use Rattle.fare_homing.specs.Barred.{is_among}
 use Rattle.fare_homing.specs.Onward.{HasRests, no_onward}
 

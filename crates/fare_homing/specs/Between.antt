@@ -7,7 +7,7 @@ use Rattle.fare_homing.specs.declared.between.Between.{Between}
 use Rattle.fare_homing.specs.declared.ceiling.Ceiling.{Ceiling}
 use Rattle.fare_homing.specs.Barred.{unless_barred}
 use Rattle.fare_homing.specs.Ceiling.{below_ceiling}
-use Rattle.fare_homing.specs.Homing.{between_cost}
+use Rattle.fare_homing.specs.Costs.{between_cost}
 
 -- what a part between costs with an entry, unless its fare has the rule of one of some, and where it isn't too dear for a
 -- ceiling

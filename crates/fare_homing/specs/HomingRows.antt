@@ -8,8 +8,10 @@ use Rattle.fare_component.specs.Table.{entries_of}
 use Rattle.fare_homing.specs.declared.ceiling.Ceiling.{Ceiling}
 use Rattle.fare_homing.specs.Barred.{unless_barred}
 use Rattle.fare_homing.specs.Ceiling.{below_ceiling}
-use Rattle.fare_homing.specs.Homing.{single_cost, first_cost, between_cost, back_cost, heads_to, may_end_at}
-use Rattle.fare_homing.specs.Homing.{IsUpTo, homing_at, is_same_city, may_go_on}
+use Rattle.fare_homing.specs.Costs.{single_cost, first_cost, between_cost, back_cost, heads_to}
+use Rattle.fare_homing.specs.Homing.{may_end_at}
+use Rattle.fare_homing.specs.Costs.{IsUpTo, is_same_city}
+use Rattle.fare_homing.specs.Homing.{homing_at, may_go_on}
 use Rattle.fare_homing.specs.Least.{IsCost}
 use Rattle.fare_homing.specs.Owed.{IsOwed}
 use Rattle.fare_homing.specs.Pairs.{HasPair}

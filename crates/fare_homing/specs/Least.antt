@@ -1,7 +1,7 @@
 -- Least: what one of some entries costs, and numbers that are no more.
 use Rattle.std.specs.Prelude.{◌≡◌, ℕ, List, Option, Some, Contains}
 use Rattle.fare_component.specs.declared.table.entry.Entry.{Entry}
-use Rattle.fare_homing.specs.Homing.{IsUpTo}
+use Rattle.fare_homing.specs.Costs.{IsUpTo}
 
 -- what one of some entries costs
 pub record IsCost (cost_of : Entry → Option ℕ) (entries : List Entry) (cost : ℕ) : Type 0 where

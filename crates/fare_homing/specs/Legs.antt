@@ -9,7 +9,7 @@ use Rattle.fare_bounds.specs.Covers.{rest_at}
 use Rattle.fare_homing.specs.declared.legs.Least.{Least}
 use Rattle.fare_homing.specs.declared.legs.LegRows.{LegRows}
 use Rattle.fare_homing.specs.Barred.{unless_barred}
-use Rattle.fare_homing.specs.Homing.{single_cost, first_cost, back_cost}
+use Rattle.fare_homing.specs.Costs.{single_cost, first_cost, back_cost}
 use Rattle.fare_homing.specs.Least.{IsUnderEach}
 
 -- numbers are no more than what a part costs with some entries, by what it is in its unit, unless its fare is barred

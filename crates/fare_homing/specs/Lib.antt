@@ -4,6 +4,8 @@ pub mod Barred
 pub mod Barring
 pub mod Between
 pub mod Ceiling
+pub mod Countries
+pub mod Costs
 pub mod Floor
 pub mod Homing
 pub mod Least

@@ -11,7 +11,7 @@ use Rattle.fare_rules.specs.Reference.{reference}
 use Rattle.fare_rules.specs.Span.{first_day}
 use Rattle.fare_component.specs.declared.table.entry.Entry.{Entry}
 use Rattle.fare_component.specs.Table.{entries_of}
-use Rattle.fare_homing.specs.Homing.{IsUpTo, first_cost, is_same_city}
+use Rattle.fare_homing.specs.Costs.{IsUpTo, first_cost, is_same_city}
 
 -- the reference for a fare from the city where a span begins to the one where it ends
 abbrev pub reference_of : Tariff → Itinerary → ℕ → ℕ → FareRecord → Option Nuc

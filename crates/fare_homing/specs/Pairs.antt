@@ -9,7 +9,7 @@ use Rattle.fare_rules.specs.UnitRules.{allows_stay_of, rules_pass}
 use Rattle.fare_component.specs.declared.table.entry.Entry.{Entry}
 use Rattle.fare_component.specs.Table.{Pricing, entries_of}
 use Rattle.fare_homing.specs.Barred.{is_barred}
-use Rattle.fare_homing.specs.Homing.{IsUpTo, back_cost, first_cost}
+use Rattle.fare_homing.specs.Costs.{IsUpTo, back_cost, first_cost}
 
 -- the days from the sector behind a point to that behind another
 abbrev pub days_between : Itinerary → ℕ → ℕ → ℕ

@@ -1,14 +1,12 @@
 -- Rows: the numbers of homing by two points of a trip.
-use Rattle.std.specs.Prelude.{◌≡◌, ℕ, ◌≤◌, Bool, not, ◌&&◌, List, [], Option, None, slice_index_or}
-use Rattle.fare_trip.specs.Itinerary.{Itinerary, count, point}
+use Rattle.std.specs.Prelude.{ℕ, List, [], Option, None, slice_index_or}
+use Rattle.fare_trip.specs.Itinerary.{Itinerary}
 use Rattle.fare_tariff.specs.Tariff.{Tariff}
-use Rattle.fare_codes.specs.declared.country.Country.{Country}
-use Rattle.fare_rules.specs.Indicator.{country}
-use Rattle.fare_rules.specs.Shape.{is_same_country}
 use Rattle.fare_bounds.specs.Covers.{rest_at}
 use Rattle.fare_homing.specs.declared.homing.Homing.{Homing}
 use Rattle.fare_homing.specs.declared.homing.Standing.{Standing}
 use Rattle.fare_homing.specs.Ceiling.{IsCeiling}
+use Rattle.fare_homing.specs.Countries.{AreCountries}
 use Rattle.fare_homing.specs.HomingRows.{AreHomings}
 use Rattle.fare_homing.specs.Lonely.{AreLonely}
 use Rattle.fare_homing.specs.Onward.{AreOnwards}
@@ -34,11 +32,6 @@ closing_from homing c i j = cell (slice_index_or homing.standing c no_standing).
 abbrev pub jaw_from : Homing → ℕ → ℕ → ℕ → Option ℕ
 jaw_from homing c i j = cell (slice_index_or homing.standing c no_standing).jaw i j
 
--- the countries of the points of a trip
-abbrev pub AreCountries : Tariff → Itinerary → List (Option Country) → Type 0
-AreCountries tariff trip countries =
-    (i : ℕ) → i ≤ count trip → slice_index_or countries i None ≡ country tariff (point trip i)
-
 -- the numbers of a trip are no more than what its parts cost under a ceiling that is one of it, its countries are those
 -- of its points, its lonely fares have rules that combine with no fare of their own, of none of its fares of two may one
 -- that has its rule be one of three in a unit, and its numbers by what is barred are no more either
@@ -50,13 +43,3 @@ pub record AreHomingsOf (tariff : Tariff) (trip : Itinerary) (homing : Homing) :
   pub onwards : AreOnwards tariff trip (begun_from homing) (jaw_from homing) homing.onwards
   pub ceiling : IsCeiling tariff trip homing.ceiling
   pub of_two : AreOfTwo tariff trip homing.of_two
-
--- the country of a point among those of a trip's points
-abbrev pub country_at : List (Option Country) → ℕ → Option Country
-country_at countries i = slice_index_or countries i None
-
--- by the countries of a trip's points, a part between two of them heads home in a unit that closes at another
-abbrev pub heads_in : List (Option Country) → ℕ → ℕ → ℕ → Bool
-heads_in countries a b home =
-    is_same_country (country_at countries b) (country_at countries home)
-    && not (is_same_country (country_at countries a) (country_at countries home))

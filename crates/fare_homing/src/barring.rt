@@ -8,7 +8,8 @@ ghost use Rattle.fare_homing.specs.Onward.{AreOnwards, HasRests, onward_at};
 ghost use Rattle.fare_homing.specs.Rows.{begun_from, jaw_from, AreHomingsOf};
 
 use crate::homing::Homing;
-use crate::onward::{MOST_RULES, MOST_SETS, Onward, Onwards};
+use crate::limits::{MOST_RULES, MOST_SETS};
+use crate::onward::{Onward, Onwards};
 use crate::rests::rests_without;
 use crate::rule_sets::{RuleSets, rule_sets};
 use crate::steps::is_step;

@@ -4,14 +4,15 @@ ghost use Rattle.std.specs.Prelude.{◌≡◌, ℕ, ◌+◌, ◌<◌, ◌≤◌,
 ghost use Rattle.fare_trip.specs.Itinerary.{count};
 ghost use Rattle.fare_bounds.specs.Covers.{rest_at};
 ghost use Rattle.fare_component.specs.Table.{entries_of};
-ghost use Rattle.fare_homing.specs.Homing.{IsUpTo, between_cost, is_same_city};
+ghost use Rattle.fare_homing.specs.Costs.{IsUpTo, between_cost, is_same_city};
 ghost use Rattle.fare_homing.specs.HomingRows.{IsBetween};
 ghost use Rattle.fare_homing.specs.Least.{IsUnderEach};
 ghost use Rattle.fare_rules.specs.Shape.{is_same_country};
 ghost use Rattle.fare_rules.specs.Construction.{begin_after};
 ghost use Rattle.fare_homing.specs.Legs.{AreLegsBehind, AreLegsOf};
 ghost use Rattle.fare_homing.specs.Between.{cost_within};
-ghost use Rattle.fare_homing.specs.Rows.{closing_from, country_at, heads_in, AreCountries};
+ghost use Rattle.fare_homing.specs.Rows.{closing_from};
+ghost use Rattle.fare_homing.specs.Countries.{country_at, heads_in, AreCountries};
 ghost use Rattle.fare_homing.specs.Threes.{AreOfTwo};
 
 use crate::barred::{is_barred, unless};

@@ -3,7 +3,7 @@
 ghost use Rattle.std.specs.Prelude.{◌≡◌, ◌<◌, ◌≤◌, IfSome, Some, slice_index_or};
 ghost use Rattle.fare_trip.specs.Itinerary.{count, point};
 ghost use Rattle.fare_bounds.specs.Covers.{rest_at};
-ghost use Rattle.fare_homing.specs.Homing.{are_near};
+ghost use Rattle.fare_homing.specs.Costs.{are_near};
 ghost use Rattle.fare_homing.specs.Rows.{cell, begun_from, closing_from, jaw_from, no_standing, AreHomingsOf};
 
 use crate::between::{lie_together, start_at};
@@ -12,7 +12,8 @@ use crate::floor::{Floor, NOTHING, number_at};
 use crate::legs::legs_behind;
 use crate::lonely::{MOST_LONELY, lonely_fares};
 use crate::nearness::countries_of;
-use crate::onward::{MOST_RULES, Onwards, without_barred};
+use crate::limits::MOST_RULES;
+use crate::onward::{Onwards, without_barred};
 use crate::reaching::least_onward;
 use crate::standing::standing_at;
 use crate::threes::fares_of_two;

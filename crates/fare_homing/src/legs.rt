@@ -4,7 +4,7 @@ ghost use Rattle.std.specs.Prelude.{◌≡◌, ◌≤◌, ◌++◌, ◌∷◌, [
 ghost use Rattle.fare_trip.specs.Itinerary.{count};
 ghost use Rattle.fare_component.specs.declared.table.entry.Entry.{Entry};
 ghost use Rattle.fare_bounds.specs.Covers.{hundredths_of};
-ghost use Rattle.fare_homing.specs.Homing.{half_cost, single_cost};
+ghost use Rattle.fare_homing.specs.Costs.{half_cost, single_cost};
 ghost use Rattle.fare_homing.specs.Legs.{AreLeastOf, AreLegsBehind, AreLegsOf};
 
 use crate::barred::{is_barred, unless};

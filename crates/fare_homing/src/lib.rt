@@ -31,6 +31,7 @@ mod ceiling;
 mod floor;
 mod homing;
 mod legs;
+mod limits;
 mod lonely;
 mod nearness;
 mod onward;
@@ -50,7 +51,8 @@ pub use floor::{Floor, GREATEST_FLOOR, NOTHING, added, greater, lesser, number_a
 pub use homing::{
     Homing, Standing, begun_from, cell, closing_from, homing_of, jaw_from, lie_near, remake,
 };
+pub use limits::{MOST_RULES, MOST_SETS};
 pub use lonely::{MOST_LONELY, is_rule_of, rule_at};
 pub use nearness::are_near;
-pub use onward::{MOST_RULES, MOST_SETS, Onward, Onwards, next_set};
+pub use onward::{Onward, Onwards, next_set};
 pub use pairs::day_behind;

@@ -2,8 +2,8 @@
 
 ghost use Rattle.std.specs.Prelude.{◌≡◌, ◌≤◌};
 ghost use Rattle.fare_trip.specs.Itinerary.{count};
-ghost use Rattle.fare_homing.specs.Homing.{are_near};
-ghost use Rattle.fare_homing.specs.Rows.{AreCountries};
+ghost use Rattle.fare_homing.specs.Costs.{are_near};
+ghost use Rattle.fare_homing.specs.Countries.{AreCountries};
 
 use fare_codes::{City, Country};
 use fare_component::Table;

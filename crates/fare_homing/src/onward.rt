@@ -11,16 +11,10 @@ ghost use Rattle.fare_homing.specs.Onward.{AreOnwards, next_by, next_set, no_onw
 
 use crate::barred::is_of_rule;
 use crate::floor::Floor;
+use crate::limits::{MOST_RULES, MOST_SETS};
 use fare_codes::RuleId;
 use fare_rules::MOST_POINTS;
 use fare_tariff::Edition;
-
-/// How many rules are told apart, of which the free one is one; a fare of a further one bars nothing, and is never
-/// barred.
-pub const MOST_RULES: usize = 16;
-
-/// How many sets of barred rules are told apart.
-pub const MOST_SETS: usize = 64;
 
 /// What is behind each point of a trip at least where no unit is open, and some fares are barred.
 #[derive(Clone, Copy)]

@@ -6,7 +6,7 @@ ghost use Rattle.fare_trip.specs.Itinerary.{count};
 ghost use Rattle.fare_rules.specs.Indicator.{indicator};
 ghost use Rattle.fare_bounds.specs.Covers.{rest_at};
 ghost use Rattle.fare_component.specs.Table.{entries_of};
-ghost use Rattle.fare_homing.specs.Homing.{IsUpTo, is_same_city};
+ghost use Rattle.fare_homing.specs.Costs.{IsUpTo, is_same_city};
 ghost use Rattle.fare_homing.specs.Least.{IsUnderEach};
 ghost use Rattle.fare_homing.specs.Owed.{AreOwed, owed_above, owed_by, reference_over};
 

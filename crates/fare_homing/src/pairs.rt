@@ -10,7 +10,7 @@ ghost use Rattle.fare_component.specs.declared.table.entry.Entry.{Entry};
 ghost use Rattle.fare_component.specs.Table.{entries_of};
 ghost use Rattle.fare_homing.specs.Pairs.{HasPair, IsUnderPair, IsUnderPairsAt, IsUnderPairsFrom};
 ghost use Rattle.fare_homing.specs.Pairs.{IsUnderPairsOf, are_mates, days_between, may_pair};
-ghost use Rattle.fare_homing.specs.Homing.{IsKeptBy, IsUpTo};
+ghost use Rattle.fare_homing.specs.Costs.{IsKeptBy, IsUpTo};
 
 use crate::barred::is_barred;
 use crate::legs::half_cost;

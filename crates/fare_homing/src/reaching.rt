@@ -2,7 +2,7 @@
 
 ghost use Rattle.std.specs.Prelude.{◌≡◌, ℕ, ◌+◌, ◌<◌, ◌≤◌};
 ghost use Rattle.fare_bounds.specs.Covers.{rest_at};
-ghost use Rattle.fare_homing.specs.Homing.{IsUpTo};
+ghost use Rattle.fare_homing.specs.Costs.{IsUpTo};
 ghost use Rattle.fare_homing.specs.HomingRows.{IsUnderBoth};
 ghost use Rattle.fare_homing.specs.Rows.{cell};
 

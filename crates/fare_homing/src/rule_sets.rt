@@ -3,7 +3,7 @@
 ghost use Rattle.std.specs.Prelude.{◌<◌};
 
 use crate::barred::is_among;
-use crate::onward::{MOST_RULES, MOST_SETS};
+use crate::limits::{MOST_RULES, MOST_SETS};
 use fare_component::Table;
 use fare_tariff::Edition;
 

@@ -5,11 +5,13 @@ ghost use Rattle.std.specs.Prelude.{◌≡◌, ℕ, ◌<◌, ◌≤◌, [], true
 ghost use Rattle.fare_trip.specs.Itinerary.{count};
 ghost use Rattle.fare_rules.specs.Construction.{begin_after};
 ghost use Rattle.fare_bounds.specs.Covers.{rest_at};
-ghost use Rattle.fare_homing.specs.Homing.{IsUpTo, is_same_city, may_go_on};
+ghost use Rattle.fare_homing.specs.Costs.{IsUpTo, is_same_city};
+ghost use Rattle.fare_homing.specs.Homing.{may_go_on};
 ghost use Rattle.fare_homing.specs.HomingRows.{AreClosings, AreJaws, AreNext, IsLast, IsSecond};
 ghost use Rattle.fare_homing.specs.Legs.{AreLegsBehind, AreLegsOf};
 ghost use Rattle.fare_homing.specs.Owed.{AreOwed};
-ghost use Rattle.fare_homing.specs.Rows.{cell, closing_from, AreCountries};
+ghost use Rattle.fare_homing.specs.Rows.{cell, closing_from};
+ghost use Rattle.fare_homing.specs.Countries.{AreCountries};
 ghost use Rattle.fare_homing.specs.Threes.{AreOfTwo};
 
 use crate::between::{Start, lie_together, start_at, with_between};

@@ -10,7 +10,7 @@ ghost use Rattle.fare_homing.specs.Barred.{is_barred};
 ghost use Rattle.fare_homing.specs.Threes.{are_combined, is_of_three, may_follow, may_precede, AreAllRules, AreOfTwo};
 
 use crate::barred::is_barred;
-use crate::onward::MOST_RULES;
+use crate::limits::MOST_RULES;
 use crate::rule_sets::rules_of;
 use fare_component::Table;
 use fare_tariff::Edition;

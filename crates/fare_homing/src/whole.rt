@@ -5,11 +5,13 @@ ghost use Rattle.fare_trip.specs.Itinerary.{count};
 ghost use Rattle.fare_rules.specs.Construction.{begin_after};
 ghost use Rattle.fare_bounds.specs.Covers.{rest_at};
 ghost use Rattle.fare_homing.specs.Barred.{unless_barred};
-ghost use Rattle.fare_homing.specs.Homing.{IsUpTo, first_cost, homing_at, may_end_at, single_cost};
+ghost use Rattle.fare_homing.specs.Costs.{IsUpTo, first_cost, single_cost};
+ghost use Rattle.fare_homing.specs.Homing.{homing_at, may_end_at};
 ghost use Rattle.fare_homing.specs.HomingRows.{AreWholes, IsPart};
 ghost use Rattle.fare_homing.specs.Legs.{AreLegsOf};
 ghost use Rattle.fare_homing.specs.Pairs.{HasPair};
-ghost use Rattle.fare_homing.specs.Rows.{begun_from, jaw_from, AreCountries};
+ghost use Rattle.fare_homing.specs.Rows.{begun_from, jaw_from};
+ghost use Rattle.fare_homing.specs.Countries.{AreCountries};
 
 use crate::between::{Start, lie_together};
 use crate::floor::{Floor, NOTHING, added, lesser, number_at};

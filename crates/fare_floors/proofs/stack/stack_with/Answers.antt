@@ -3,7 +3,7 @@ use Rattle.std.proofs.lemmas.Bool.{cases_Bool}
 use Rattle.fare_rules.specs.declared.part.Part.{Part}
 use Rattle.fare_rules.specs.Completion.{IsCompletion}
 use Rattle.fare_homing.specs.Ceiling.{IsWithin}
-use Rattle.fare_homing.specs.Homing.{IsUpTo}
+use Rattle.fare_homing.specs.Costs.{IsUpTo}
 use Rattle.fare_floors.proofs.DearLemmas.{over_is_beyond}
 use Rattle.std.specs.Prelude.{Some, option_map, slice_index_or, sum_by}
 use Rattle.fare_homing.specs.Floor.{capped_sum}

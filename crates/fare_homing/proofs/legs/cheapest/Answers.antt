@@ -3,7 +3,7 @@ use Rattle.std.specs.Prelude.{None}
 use Rattle.std.proofs.lemmas.List.{take_all, take_more}
 use Rattle.fare_component.specs.declared.table.entry.Entry.{Entry}
 use Rattle.fare_homing.specs.Barred.{unless_barred}
-use Rattle.fare_homing.specs.Homing.{single_cost, first_cost, back_cost}
+use Rattle.fare_homing.specs.Costs.{single_cost, first_cost, back_cost}
 use Rattle.fare_homing.specs.Legs.{AreLeastOf}
 use Rattle.fare_homing.proofs.LeastLemmas.{cost_none}
 use Rattle.fare_homing.proofs.legs.cheapest.Goals as goal

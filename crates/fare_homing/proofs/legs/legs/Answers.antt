@@ -4,7 +4,7 @@ use Rattle.fare_trip.specs.Itinerary.{count}
 use Rattle.fare_tariff.specs.Tariff.{Tariff}
 use Rattle.fare_component.specs.declared.table.entry.Entry.{Entry}
 use Rattle.fare_homing.specs.Barred.{unless_barred}
-use Rattle.fare_homing.specs.Homing.{single_cost, first_cost, back_cost}
+use Rattle.fare_homing.specs.Costs.{single_cost, first_cost, back_cost}
 use Rattle.fare_homing.specs.Legs.{AreLeastOf}
 use Rattle.fare_homing.proofs.LegLemmas.{legs_all, legs_first, legs_more}
 use Rattle.fare_component.specs.Table.{entries_of}

@@ -1,7 +1,7 @@
 -- the numbers are known of the parts that end before this point
 use Rattle.std.proofs.Common.{◌≡◌, length}
 use Rattle.fare_homing.specs.Barred.{unless_barred}
-use Rattle.fare_homing.specs.Homing.{single_cost, first_cost, back_cost}
+use Rattle.fare_homing.specs.Costs.{single_cost, first_cost, back_cost}
 use Rattle.fare_homing.proofs.LegLemmas.{AreLegsBefore}
 use Rattle.fare_homing.proofs.legs.legs.Given as goal
 

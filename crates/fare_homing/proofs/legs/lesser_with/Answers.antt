@@ -2,7 +2,7 @@ use Rattle.std.proofs.Common.{◌≡◌, refl, ◌∙◌, ap}
 use Rattle.std.specs.Prelude.{option_map}
 use Rattle.fare_homing.specs.Barred.{unless_barred}
 use Rattle.fare_homing.specs.Floor.{capped}
-use Rattle.fare_homing.specs.Homing.{single_cost, first_cost, back_cost}
+use Rattle.fare_homing.specs.Costs.{single_cost, first_cost, back_cost}
 use Rattle.fare_homing.proofs.LeastLemmas.{cost_more}
 use Rattle.fare_homing.proofs.legs.lesser_with.Goals as goal
 

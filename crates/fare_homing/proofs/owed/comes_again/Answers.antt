@@ -1,6 +1,6 @@
 use Rattle.std.proofs.Common.{◌≡◌, ℕ, true, false, inl, inr, subst, sym, ◌∙◌, arith}
 use Rattle.std.proofs.lemmas.Bool.{cases_eq}
-use Rattle.fare_homing.specs.Homing.{is_same_city}
+use Rattle.fare_homing.specs.Costs.{is_same_city}
 use Rattle.fare_homing.proofs.owed.comes_again.Goals as goal
 
 pub loop-home-init : goal.loop-home-init

@@ -1,6 +1,6 @@
 -- none of the points so far is in the city
 use Rattle.std.proofs.Common.{◌≡◌, ℕ, ◌<◌, false}
-use Rattle.fare_homing.specs.Homing.{is_same_city}
+use Rattle.fare_homing.specs.Costs.{is_same_city}
 use Rattle.fare_homing.proofs.owed.comes_again.Given as goal
 
 abbrev pub invariant-loop-home : goal.invariant-loop-home

@@ -1,7 +1,7 @@
 use Rattle.std.proofs.Common.{rules, ◌≡◌, ℕ, ◌+◌, List, sym, subst, ◌∙◌, ap, arith}
 use Rattle.std.specs.Prelude.{Option}
 use Rattle.fare_bounds.specs.Covers.{lesser, rest_at}
-use Rattle.fare_homing.specs.Homing.{is_same_city}
+use Rattle.fare_homing.specs.Costs.{is_same_city}
 use Rattle.fare_homing.proofs.OwedLemmas.{IsLowered, lowered_here, lowered_over}
 use Rattle.fare_homing.proofs.owed.lowered_in.Goals.{then-is, else-is}
 use Rattle.fare_homing.proofs.owed.lowered_in.Goals as goal

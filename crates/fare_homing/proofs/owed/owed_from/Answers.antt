@@ -4,7 +4,7 @@ use Rattle.std.proofs.lemmas.Bool.{both_ways, cases_eq}
 use Rattle.fare_trip.specs.Itinerary.{count}
 use Rattle.fare_bounds.specs.Covers.{rest_at}
 use Rattle.fare_component.specs.Table.{entries_of}
-use Rattle.fare_homing.specs.Homing.{IsUpTo, is_same_city}
+use Rattle.fare_homing.specs.Costs.{IsUpTo, is_same_city}
 use Rattle.fare_homing.specs.Least.{IsCost}
 use Rattle.fare_homing.specs.Owed.{IsOwed, owed_by}
 use Rattle.fare_homing.proofs.owed.owed_from.Goals.{then-comes_again, else-comes_again}

@@ -2,7 +2,7 @@
 use Rattle.std.proofs.Common.{ℕ, ◌<◌, ◌≤◌}
 use Rattle.fare_trip.specs.Itinerary.{count}
 use Rattle.fare_bounds.specs.Covers.{rest_at}
-use Rattle.fare_homing.specs.Homing.{IsUpTo}
+use Rattle.fare_homing.specs.Costs.{IsUpTo}
 use Rattle.fare_homing.specs.Owed.{IsOwed}
 use Rattle.fare_homing.proofs.owed.owed_from.Given as goal
 

@@ -2,8 +2,8 @@ use Rattle.std.proofs.Common.{ℕ, ◌<◌, ◌≤◌, length-set, sym, ◌∙�
 use Rattle.std.specs.Prelude.{Option, Some}
 use Rattle.fare_bounds.specs.Covers.{rest_at}
 use Rattle.fare_homing.specs.Floor.{greater}
-use Rattle.fare_homing.specs.Homing.{IsUpTo}
-use Rattle.fare_homing.proofs.HomingRowLemmas.{stands_before}
+use Rattle.fare_homing.specs.Costs.{IsUpTo}
+use Rattle.fare_homing.proofs.FloorLemmas.{stands_before}
 use Rattle.fare_homing.proofs.ReachLemmas.{row_more}
 use Rattle.fare_homing.proofs.owed.raised.Goals as goal
 

@@ -1,7 +1,7 @@
 -- the numbers so far are no less than what is owed, and than what the part costs
 use Rattle.std.proofs.Common.{◌≡◌, ℕ, ◌<◌, ◌≤◌, length}
 use Rattle.fare_bounds.specs.Covers.{rest_at}
-use Rattle.fare_homing.specs.Homing.{IsUpTo}
+use Rattle.fare_homing.specs.Costs.{IsUpTo}
 use Rattle.fare_homing.proofs.owed.raised.Given as goal
 
 abbrev pub invariant-loop-home : goal.invariant-loop-home

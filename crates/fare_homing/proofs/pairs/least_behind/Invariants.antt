@@ -1,6 +1,6 @@
 -- under what the pairs cost whose last part begins before this point
 use Rattle.std.proofs.Common.{ℕ, ◌<◌, ◌≤◌}
-use Rattle.fare_homing.specs.Homing.{IsKeptBy}
+use Rattle.fare_homing.specs.Costs.{IsKeptBy}
 use Rattle.fare_homing.specs.Pairs.{IsUnderPairsAt}
 use Rattle.fare_homing.proofs.pairs.least_behind.Given as goal
 

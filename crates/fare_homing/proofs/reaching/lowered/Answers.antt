@@ -1,7 +1,7 @@
 use Rattle.std.proofs.Common.{ℕ, ◌+◌, ◌<◌, length-set, Option, refl, subst, sym, ◌∙◌, arith}
 use Rattle.fare_bounds.specs.Covers.{rest_at}
-use Rattle.fare_homing.specs.Homing.{IsUpTo}
-use Rattle.fare_homing.proofs.HomingRowLemmas.{lesser_kept, lesser_sum, stands_before}
+use Rattle.fare_homing.specs.Costs.{IsUpTo}
+use Rattle.fare_homing.proofs.FloorLemmas.{lesser_kept, lesser_sum, stands_before}
 use Rattle.fare_homing.proofs.ReachLemmas.{row_more}
 use Rattle.fare_homing.proofs.reaching.lowered.Goals as goal
 

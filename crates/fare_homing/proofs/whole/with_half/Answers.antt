@@ -1,6 +1,6 @@
 use Rattle.std.proofs.Common.{◌≡◌, ℕ, Option, sym, subst, ◌∙◌, arith}
 use Rattle.std.proofs.lemmas.Option.{same_Some}
-use Rattle.fare_homing.specs.Homing.{IsUpTo}
+use Rattle.fare_homing.specs.Costs.{IsUpTo}
 use Rattle.fare_homing.proofs.LeastLemmas.{capped_up}
 use Rattle.fare_homing.proofs.ReachLemmas.{up_second}
 use Rattle.fare_homing.proofs.whole.with_half.Goals as goal
