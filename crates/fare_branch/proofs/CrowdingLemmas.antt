@@ -25,7 +25,7 @@ use Rattle.fare_rules.proofs.NumberLemmas.{find_none}
 use Rattle.fare_units.proofs.AloneLemmas.{alone_in_unit}
 use Rattle.fare_component.specs.declared.table.entry.Entry.{Entry}
 use Rattle.fare_component.specs.Table.{entries_of}
-use Rattle.fare_homing.specs.Lonely.{AreLonely, has_rule, is_rule, is_rule_of, rule_at, suits_itself}
+use Rattle.fare_legs.specs.Lonely.{AreLonely, has_rule, is_rule, is_rule_of, rule_at, suits_itself}
 use Rattle.fare_branch.specs.Crowding.{AreNeeds, bars_rule, combines_with, leaves_fare, leaves_rule, left_count, may_come, taken, takes_rule}
 use Rattle.fare_floors.specs.Floors.{HasNoCompletion}
 use Rattle.fare_floors.proofs.CostLemmas.{unit_from_one}

@@ -12,7 +12,7 @@ use Rattle.fare_rules.specs.declared.part.Part.{Part}
 use Rattle.fare_rules.specs.Construction.{begin_after, fare_of, places}
 use Rattle.fare_component.specs.declared.table.entry.Entry.{Entry}
 use Rattle.fare_component.specs.Table.{entries_of}
-use Rattle.fare_homing.specs.Lonely.{is_rule_of, rule_at}
+use Rattle.fare_legs.specs.Lonely.{is_rule_of, rule_at}
 
 -- a fare, where there is one, combines end on end with a rule
 abbrev pub combines_with : Tariff → Option RuleId → Option FareRecord → Bool

@@ -27,15 +27,15 @@ use Rattle.fare_floors.specs.Ahead.{AreAhead, AreBehindHalf, IsBehindNext, IsHal
 use Rattle.fare_floors.specs.Costs.{AreUnitFloors, or_nothing, part_least, true_cost, units_floor}
 use Rattle.fare_floors.specs.Floors.{IsFloorAnswer}
 use Rattle.fare_floors.specs.Joining.{is_stuck}
-use Rattle.fare_homing.specs.Ceiling.{IsWithin}
-use Rattle.fare_homing.specs.Costs.{IsUpTo, is_same_city}
+use Rattle.fare_legs.specs.Ceiling.{IsWithin}
+use Rattle.fare_legs.specs.Costs.{IsUpTo, is_same_city}
 use Rattle.fare_homing.specs.Homing.{closing_by, homing_at, may_end_at}
 use Rattle.fare_homing.specs.Rows.{begun_from, cell, closing_from, jaw_from, AreHomingsOf}
 use Rattle.fare_floors.specs.Stack.{AreOver, IsOver, IsOverOpen, has_more, may_come_to}
 use Rattle.fare_floors.specs.Barring.{left_of}
 use Rattle.fare_floors.proofs.BarringLemmas.{left_is_behind}
 use Rattle.fare_floors.proofs.OverLemmas.{all_over, alone_behind, apart, behind_front, behind_next, comes_home_later, ComesHome, fewer, first_by, last_behind, last_by, last_may, more_now, none_new, one_now, rises, within}
-use Rattle.fare_homing.proofs.ReachLemmas.{up_more}
+use Rattle.fare_legs.proofs.ReachLemmas.{up_more}
 use Rattle.fare_floors.proofs.ShutLemmas.{own_behind}
 use Rattle.fare_floors.proofs.StackFloorLemmas.{first_is, firsts, has_first_in, not_stuck, not_shut, spent_up, within_is_floor}
 use Rattle.fare_floors.proofs.StackLemmas.{begins_at, home_at, over_down}

@@ -21,8 +21,8 @@ use Rattle.fare_component.specs.Table.{Pricing}
 use Rattle.fare_bounds.specs.Covers.{rest_at}
 use Rattle.fare_homing.specs.declared.homing.Homing.{Homing}
 use Rattle.fare_homing.specs.declared.onward.Onwards.{Onwards}
-use Rattle.fare_homing.specs.declared.limits.TheConstants.{MOST_SETS}
-use Rattle.fare_homing.specs.Barred.{is_among, is_barred, is_like_one_of}
+use Rattle.fare_legs.specs.declared.limits.TheConstants.{MOST_SETS}
+use Rattle.fare_legs.specs.Barred.{is_among, is_barred, is_like_one_of}
 use Rattle.fare_homing.specs.Onward.{AreOnwards, next_with, onward_at}
 use Rattle.fare_homing.specs.Rows.{AreHomingsOf, begun_from, cell, closing_from, jaw_from}
 use Rattle.fare_floors.specs.Barring.{left_of, set_after}

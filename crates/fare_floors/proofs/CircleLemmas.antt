@@ -29,8 +29,8 @@ use Rattle.fare_rules.specs.UnitPrice.{are_two_equal, at_least, is_round_trip, p
 use Rattle.fare_rules.proofs.LawfulLemmas.{price_of_lawful}
 use Rattle.fare_rules.proofs.MemberLemmas.{Member, member_filter, member_numbers, member_right}
 use Rattle.fare_component.specs.declared.table.entry.Entry.{Entry}
-use Rattle.fare_homing.specs.declared.ceiling.Ceiling.{Ceiling}
-use Rattle.fare_homing.specs.Ceiling.{HasOneIndicator, IsCeiling, IsWithin, below_ceiling, is_above, is_too_dear, reference_home}
+use Rattle.fare_legs.specs.declared.ceiling.Ceiling.{Ceiling}
+use Rattle.fare_legs.specs.Ceiling.{HasOneIndicator, IsCeiling, IsWithin, below_ceiling, is_above, is_too_dear, reference_home}
 use Rattle.fare_floors.proofs.ShutLemmas.{any_at}
 use Rattle.fare_floors.proofs.SumLemmas.{kept_member}
 use Rattle.fare_floors.proofs.CostLemmas.{unit_from_one}

@@ -27,8 +27,8 @@ use Rattle.fare_rules.proofs.OneWayLemmas.{one_way_unit}
 use Rattle.fare_rules.proofs.MemberLemmas.{Member}
 use Rattle.fare_bounds.specs.Covers.{hundredths_of}
 use Rattle.fare_floors.specs.Costs.{or_nothing, fare_least, part_least, unit_least}
-use Rattle.fare_homing.specs.Costs.{IsUpTo}
-use Rattle.fare_homing.proofs.ReachLemmas.{lesser_first, lesser_second}
+use Rattle.fare_legs.specs.Costs.{IsUpTo}
+use Rattle.fare_legs.proofs.ReachLemmas.{lesser_first, lesser_second}
 use Rattle.fare_floors.proofs.SumLemmas.{sum_up_members, kept_member}
 
 true_false : true ≡ false → ⊥

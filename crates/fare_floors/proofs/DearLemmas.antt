@@ -11,8 +11,8 @@ use Rattle.fare_rules.specs.Construction.{end_of, first_of, greatest_unit, last_
 use Rattle.fare_rules.specs.Shape.{holds_ow}
 use Rattle.fare_rules.proofs.MemberLemmas.{Member}
 use Rattle.fare_units.proofs.NextLemmas.{front_part, front_start, front_unit}
-use Rattle.fare_homing.specs.declared.ceiling.Ceiling.{Ceiling}
-use Rattle.fare_homing.specs.Ceiling.{HasOneIndicator, IsCeiling, IsWithin, is_too_dear}
+use Rattle.fare_legs.specs.declared.ceiling.Ceiling.{Ceiling}
+use Rattle.fare_legs.specs.Ceiling.{HasOneIndicator, IsCeiling, IsWithin, is_too_dear}
 use Rattle.fare_floors.specs.Dear.{is_dear_between, is_over}
 use Rattle.fare_floors.specs.Ending.{needs_more}
 use Rattle.fare_floors.proofs.CircleLemmas.{turn_is_cheap}

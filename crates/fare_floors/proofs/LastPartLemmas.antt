@@ -24,7 +24,7 @@ use Rattle.fare_rules.proofs.NumberLemmas.{find_none}
 use Rattle.fare_lawful.specs.Barred.{is_uncombined}
 use Rattle.fare_units.proofs.NextLemmas.{front_start, front_unit, next_part}
 use Rattle.fare_bounds.specs.Covers.{rest_at}
-use Rattle.fare_homing.specs.Costs.{IsUpTo}
+use Rattle.fare_legs.specs.Costs.{IsUpTo}
 use Rattle.fare_floors.specs.LastParts.{may_be_last, stay_until}
 use Rattle.fare_floors.specs.Stack.{goes_on}
 use Rattle.fare_floors.specs.Stays.{forbids_any}

@@ -8,8 +8,8 @@ use Rattle.fare_rules.specs.Construction.{places, own, first_of, last_of, greate
 use Rattle.fare_component.specs.Table.{Pricing}
 use Rattle.fare_bounds.specs.Covers.{rest_at}
 use Rattle.fare_homing.specs.declared.homing.Homing.{Homing}
-use Rattle.fare_homing.specs.Costs.{IsUpTo}
-use Rattle.fare_homing.proofs.ReachLemmas.{up_more}
+use Rattle.fare_legs.specs.Costs.{IsUpTo}
+use Rattle.fare_legs.proofs.ReachLemmas.{up_more}
 use Rattle.fare_floors.specs.declared.stacking.Open.{Open}
 use Rattle.fare_floors.specs.Costs.{true_cost}
 use Rattle.fare_floors.specs.LastParts.{AreOverLasts}

@@ -22,25 +22,25 @@ use Rattle.fare_rules.proofs.LawfulLemmas.{kept}
 use Rattle.fare_rules.proofs.NumberLemmas.{any_next}
 use Rattle.fare_units.proofs.NextLemmas.{front_unit, greatest_same}
 use Rattle.fare_component.specs.Table.{entries_of}
-use Rattle.fare_homing.specs.declared.ceiling.Ceiling.{Ceiling}
-use Rattle.fare_homing.specs.Ceiling.{IsCeiling, IsWithin, below_ceiling}
-use Rattle.fare_homing.specs.Costs.{IsUpTo, is_same_city, back_cost, between_cost, heads_to}
+use Rattle.fare_legs.specs.declared.ceiling.Ceiling.{Ceiling}
+use Rattle.fare_legs.specs.Ceiling.{IsCeiling, IsWithin, below_ceiling}
+use Rattle.fare_legs.specs.Costs.{IsUpTo, is_same_city, back_cost, between_cost, heads_to}
 use Rattle.fare_homing.specs.Homing.{closing_by, homing_at, may_end_at, may_go_on}
 use Rattle.fare_homing.specs.HomingRows.{IsLast, IsPart}
-use Rattle.fare_homing.specs.Owed.{IsOwed}
-use Rattle.fare_homing.specs.Barred.{is_barred}
+use Rattle.fare_legs.specs.Owed.{IsOwed}
+use Rattle.fare_legs.specs.Barred.{is_barred}
 use Rattle.fare_floors.proofs.CircleLemmas.{below_every}
 use Rattle.fare_floors.proofs.CostLemmas.{member_place, unit_from_one}
 use Rattle.fare_floors.proofs.UnitLemmas.{all, own_has, unit_in, alone_in, holds_none}
 use Rattle.fare_floors.proofs.GoesOnLemmas.{first_member, going_on, goes_not, goes_on_from, on_same, none_above, home_behind, own_first, own_last, own_two, two_ends}
 use Rattle.fare_floors.proofs.NearLemmas.{EndsBy, unit_ends_by}
-use Rattle.fare_homing.specs.Pairs.{HasPair}
-use Rattle.fare_homing.specs.Threes.{IsOneOfThree}
+use Rattle.fare_legs.specs.Pairs.{HasPair}
+use Rattle.fare_legs.specs.Threes.{IsOneOfThree}
 use Rattle.fare_floors.proofs.PairLemmas.{pair_of, third_of}
 use Rattle.fare_floors.proofs.OnwardLemmas.{ends_rise, must_close_from, closed_whole, ends_home, either_left, either_right}
 use Rattle.fare_floors.specs.Costs.{true_cost}
 use Rattle.fare_floors.specs.Stack.{goes_on, has_more, own_to, stand_of, IsOver, LastsBy}
-use Rattle.fare_homing.proofs.ReachLemmas.{up_more}
+use Rattle.fare_legs.proofs.ReachLemmas.{up_more}
 use Rattle.fare_homing.proofs.UnderLemmas.{alone_free_under, alone_under, between_under, first_free_under, first_under, last_closes_under, last_jaw_under, nothing_free_left, second_closes_under}
 use Rattle.fare_floors.proofs.StackLemmas.{IsBehind, home_at, begins_at, lasts_more, AreSame, over_more, over_same, over_down, over_up, Opens, opens, from_open, step_over}
 use Rattle.fare_floors.proofs.ShutLemmas.{any_at, long_ends_at_home}

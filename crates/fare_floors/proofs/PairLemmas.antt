@@ -14,9 +14,9 @@ use Rattle.fare_rules.specs.Best.{IsLawful}
 use Rattle.fare_rules.proofs.LawfulLemmas.{kept}
 use Rattle.fare_rules.proofs.MemberLemmas.{Member, member_numbers}
 use Rattle.fare_rules.proofs.NumberLemmas.{find_none}
-use Rattle.fare_homing.specs.Barred.{is_barred}
-use Rattle.fare_homing.specs.Pairs.{HasPair, are_mates, days_between, may_pair}
-use Rattle.fare_homing.specs.Threes.{IsFlown, IsOneOfThree}
+use Rattle.fare_legs.specs.Barred.{is_barred}
+use Rattle.fare_legs.specs.Pairs.{HasPair, are_mates, days_between, may_pair}
+use Rattle.fare_legs.specs.Threes.{IsFlown, IsOneOfThree}
 use Rattle.fare_floors.specs.Costs.{true_cost}
 use Rattle.fare_floors.proofs.GoesOnLemmas.{first_member, last_member, not_so}
 use Rattle.fare_floors.proofs.ShutLemmas.{any_at, both_true}

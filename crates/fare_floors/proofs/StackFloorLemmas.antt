@@ -24,10 +24,10 @@ use Rattle.fare_bounds.specs.Covers.{rest_at}
 use Rattle.fare_homing.specs.declared.homing.Homing.{Homing}
 use Rattle.fare_floors.specs.declared.stacking.Open.{Open}
 use Rattle.fare_floors.specs.Costs.{part_least, true_cost, units_floor}
-use Rattle.fare_homing.specs.Floor.{capped_sum}
-use Rattle.fare_homing.specs.declared.ceiling.Ceiling.{Ceiling}
-use Rattle.fare_homing.specs.Ceiling.{IsWithin}
-use Rattle.fare_homing.specs.Costs.{IsUpTo}
+use Rattle.fare_legs.specs.Floor.{capped_sum}
+use Rattle.fare_legs.specs.declared.ceiling.Ceiling.{Ceiling}
+use Rattle.fare_legs.specs.Ceiling.{IsWithin}
+use Rattle.fare_legs.specs.Costs.{IsUpTo}
 use Rattle.fare_homing.specs.Homing.{closing_by, homing_at}
 use Rattle.fare_floors.specs.Ending.{needs_more}
 use Rattle.fare_floors.specs.Floors.{IsFloorAnswer}
@@ -43,7 +43,7 @@ use Rattle.fare_floors.proofs.OnwardLemmas.{EndsNear, ends_near, ends_rise, goes
 use Rattle.fare_floors.specs.Barring.{left_of}
 use Rattle.fare_floors.proofs.BarringLemmas.{left_is_behind}
 use Rattle.fare_floors.proofs.OverLemmas.{behind_is_over}
-use Rattle.fare_homing.proofs.ReachLemmas.{up_more}
+use Rattle.fare_legs.proofs.ReachLemmas.{up_more}
 use Rattle.fare_floors.proofs.SameLemmas.{AreFirst}
 use Rattle.fare_floors.proofs.ShutLemmas.{own_behind, own_in_two, own_are_first, shut_alone, both_true, floor_by}
 use Rattle.fare_floors.proofs.StandLemmas.{more_front, stand_front}

@@ -6,14 +6,14 @@ use Rattle.fare_trip.specs.Itinerary.{Itinerary, count}
 use Rattle.fare_tariff.specs.Tariff.{Tariff}
 use Rattle.fare_rules.specs.declared.part.Part.{Part}
 use Rattle.fare_rules.specs.Construction.{start_of, end_of, own, first_of, last_of, part_at, unit_of}
-use Rattle.fare_homing.specs.declared.ceiling.Ceiling.{Ceiling}
-use Rattle.fare_homing.specs.Barred.{is_barred}
-use Rattle.fare_homing.specs.Costs.{IsUpTo, is_same_city}
+use Rattle.fare_legs.specs.declared.ceiling.Ceiling.{Ceiling}
+use Rattle.fare_legs.specs.Barred.{is_barred}
+use Rattle.fare_legs.specs.Costs.{IsUpTo, is_same_city}
 use Rattle.fare_homing.specs.Homing.{closing_by, homing_at}
 use Rattle.fare_homing.specs.HomingRows.{AreHomings, AreRests}
 use Rattle.fare_floors.specs.Costs.{true_cost}
 use Rattle.fare_floors.specs.Stack.{goes_on, has_more, stand_of, IsOver, LastsBy}
-use Rattle.fare_homing.proofs.ReachLemmas.{up_more}
+use Rattle.fare_legs.proofs.ReachLemmas.{up_more}
 use Rattle.fare_homing.proofs.UnderLemmas.{nested_closes_under, nested_jaw_under, onward_free_under}
 
 true_false : true ≡ false → ⊥

@@ -14,7 +14,7 @@ use Rattle.fare_homing.specs.declared.homing.Homing.{Homing}
 use Rattle.fare_homing.specs.Homing.{closing_by, homing_at}
 use Rattle.fare_homing.specs.Rows.{begun_from, closing_from, jaw_from}
 use Rattle.fare_floors.specs.Stack.{IsUnderSum, IsUntilHome, IsOverOpen}
-use Rattle.fare_homing.proofs.ReachLemmas.{up_first, up_second, row_more}
+use Rattle.fare_legs.proofs.ReachLemmas.{up_first, up_second, row_more}
 use Rattle.fare_floors.proofs.SumLemmas.{kept_member}
 
 true_false : true ≡ false → ⊥

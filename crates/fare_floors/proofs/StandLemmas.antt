@@ -17,7 +17,7 @@ use Rattle.fare_rules.proofs.CoverLemmas.{same_end}
 use Rattle.fare_rules.proofs.MemberLemmas.{Member}
 use Rattle.fare_rules.proofs.NumberLemmas.{numbers_more}
 use Rattle.fare_units.proofs.NextLemmas.{front_unit}
-use Rattle.fare_homing.specs.Costs.{is_same_city}
+use Rattle.fare_legs.specs.Costs.{is_same_city}
 use Rattle.fare_homing.specs.Homing.{may_go_on}
 use Rattle.fare_floors.specs.Stack.{goes_on, has_more, own_to, stand_of}
 use Rattle.fare_floors.proofs.CostLemmas.{unit_from_one}

@@ -28,7 +28,7 @@ use Rattle.fare_component.specs.declared.table.entry.Entry.{Entry}
 use Rattle.fare_component.specs.Table.{entry_of, entries_of, has_amount, single_price}
 use Rattle.fare_component.proofs.LawLemmas.{amount_is_entry}
 use Rattle.fare_floors.specs.Costs.{is_second, or_nothing, part_least}
-use Rattle.fare_homing.specs.Costs.{first_cost, between_cost, back_cost, heads_to}
+use Rattle.fare_legs.specs.Costs.{first_cost, between_cost, back_cost, heads_to}
 use Rattle.fare_floors.proofs.CostLemmas.{not_half, half, at_least_up, one_way_least, half_part, member_place}
 use Rattle.fare_floors.proofs.GoesOnLemmas.{own_two}
 use Rattle.fare_floors.proofs.UnitLemmas.{all, own_has, alone_in, holds_none, single_there, single_not}

@@ -14,8 +14,8 @@ use Rattle.fare_homing.specs.declared.homing.Homing.{Homing}
 use Rattle.fare_floors.specs.Barring.{left_of}
 use Rattle.fare_floors.specs.Costs.{part_least, AreUnitFloors}
 use Rattle.fare_floors.specs.Floors.{IsMadeWith}
-use Rattle.fare_homing.specs.Ceiling.{IsWithin}
-use Rattle.fare_homing.specs.Costs.{IsUpTo}
+use Rattle.fare_legs.specs.Ceiling.{IsWithin}
+use Rattle.fare_legs.specs.Costs.{IsUpTo}
 use Rattle.fare_homing.specs.Homing.{may_end_at}
 use Rattle.fare_homing.specs.Rows.{begun_from, cell, closing_from, jaw_from, AreHomingsOf}
 use Rattle.fare_floors.specs.Stack.{AreHomes, IsOver, IsOverOpen}

@@ -4,8 +4,8 @@ use Rattle.fare_trip.specs.Itinerary.{Itinerary}
 use Rattle.fare_tariff.specs.Tariff.{Tariff}
 use Rattle.fare_rules.specs.declared.part.Part.{Part}
 use Rattle.fare_rules.specs.Construction.{end_of, first_of, own, part_at, start_of, unit_of}
-use Rattle.fare_homing.specs.declared.ceiling.Ceiling.{Ceiling}
-use Rattle.fare_homing.specs.Ceiling.{is_too_dear}
+use Rattle.fare_legs.specs.declared.ceiling.Ceiling.{Ceiling}
+use Rattle.fare_legs.specs.Ceiling.{is_too_dear}
 use Rattle.fare_floors.specs.Ending.{needs_more}
 
 -- a place has a part between the first and the last of its unit, which has more than one part and must have more, and its

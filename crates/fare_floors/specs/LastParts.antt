@@ -15,7 +15,7 @@ use Rattle.fare_component.specs.Table.{Pricing, entries_of}
 use Rattle.fare_lawful.specs.Barred.{is_uncombined}
 use Rattle.fare_lawful.specs.declared.limits.TheConstants.{MOST_PARTS}
 use Rattle.fare_bounds.specs.Covers.{rest_at}
-use Rattle.fare_homing.specs.Costs.{IsUpTo, back_cost}
+use Rattle.fare_legs.specs.Costs.{IsUpTo, back_cost}
 use Rattle.fare_floors.specs.Stays.{forbids_any}
 
 -- the stay of a unit of some parts whose last part begins at a point: the days from the first sector of its first part

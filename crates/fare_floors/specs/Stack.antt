@@ -16,8 +16,8 @@ use Rattle.fare_floors.specs.Barring.{left_of}
 use Rattle.fare_floors.specs.Costs.{true_cost, units_floor, AreUnitFloors}
 use Rattle.fare_floors.specs.Ending.{needs_more}
 use Rattle.fare_floors.specs.Floors.{IsFloorAnswer}
-use Rattle.fare_homing.specs.Ceiling.{IsWithin}
-use Rattle.fare_homing.specs.Costs.{IsUpTo, is_same_city}
+use Rattle.fare_legs.specs.Ceiling.{IsWithin}
+use Rattle.fare_legs.specs.Costs.{IsUpTo, is_same_city}
 use Rattle.fare_homing.specs.Homing.{closing_by, may_end_at, homing_at}
 use Rattle.fare_homing.specs.Rows.{begun_from, closing_from, jaw_from}
 

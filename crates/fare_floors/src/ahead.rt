@@ -11,7 +11,7 @@ ghost use Rattle.fare_units.specs.Walk.{next_start};
 ghost use Rattle.fare_floors.specs.Ahead.{AreAhead, AreBehindHalf, IsHalfRow, must_go_from};
 ghost use Rattle.fare_floors.specs.Costs.{or_nothing};
 ghost use Rattle.fare_floors.specs.Floors.{IsFloorAnswer, IsMadeWith};
-ghost use Rattle.fare_homing.specs.Costs.{IsUpTo};
+ghost use Rattle.fare_legs.specs.Costs.{IsUpTo};
 ghost use Rattle.fare_homing.specs.Rows.{cell, AreHomingsOf};
 ghost use Rattle.fare_floors.specs.Stack.{AreOver, IsStack};
 

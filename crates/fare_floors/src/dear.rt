@@ -4,7 +4,7 @@
 ghost use Rattle.std.specs.Prelude.{◌≡◌, ◌≤◌, length};
 ghost use Rattle.fare_floors.specs.Dear.{is_dear_between, is_over};
 ghost use Rattle.fare_floors.specs.Floors.{IsMadeWith};
-ghost use Rattle.fare_homing.specs.declared.ceiling.Ceiling.{Ceiling};
+ghost use Rattle.fare_legs.specs.declared.ceiling.Ceiling.{Ceiling};
 
 use crate::ending::needs_more;
 use crate::joining::part_count;

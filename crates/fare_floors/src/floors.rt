@@ -4,7 +4,7 @@ ghost use Rattle.std.specs.Prelude.{◌≡◌, ℕ, ◌+◌, IfSome, length, opt
 ghost use Rattle.fare_rules.specs.Construction.{end_of};
 ghost use Rattle.fare_rules.specs.UnitPrice.{price};
 ghost use Rattle.fare_bounds.specs.Covers.{AreRests, rest_at};
-ghost use Rattle.fare_homing.specs.Costs.{IsUpTo};
+ghost use Rattle.fare_legs.specs.Costs.{IsUpTo};
 ghost use Rattle.fare_floors.specs.Floors.{IsMadeWith, IsFloorAnswer, IsNoLess, HasNoOpenUnit};
 
 use crate::costs::units_floor;

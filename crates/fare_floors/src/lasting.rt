@@ -8,7 +8,7 @@ ghost use Rattle.fare_component.specs.declared.table.entry.Entry.{Entry};
 ghost use Rattle.fare_component.specs.Table.{IsInBounds, entries_of};
 ghost use Rattle.fare_rules.specs.Construction.{end_of, first_of, own, start_of};
 ghost use Rattle.fare_bounds.specs.Covers.{rest_at};
-ghost use Rattle.fare_homing.specs.Costs.{IsKeptBy, IsUpTo, back_cost};
+ghost use Rattle.fare_legs.specs.Costs.{IsKeptBy, IsUpTo, back_cost};
 ghost use Rattle.fare_floors.specs.Floors.{IsMadeWith};
 ghost use Rattle.fare_floors.specs.LastParts.{AreLasts, AreOverLasts, IsGoing, IsUnderLast, IsUnderLasts};
 ghost use Rattle.fare_floors.specs.LastParts.{may_be_last};

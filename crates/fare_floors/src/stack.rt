@@ -5,7 +5,7 @@ ghost use Rattle.std.specs.Prelude.{◌≡◌, ◌≤◌, length, None, option_m
 ghost use Rattle.fare_floors.specs.Costs.{AreFloorsBefore, AreUnitFloors};
 ghost use Rattle.fare_floors.specs.Floors.{IsMadeWith};
 ghost use Rattle.fare_floors.specs.Stack.{IsStack};
-ghost use Rattle.fare_homing.specs.Floor.{capped_sum};
+ghost use Rattle.fare_legs.specs.Floor.{capped_sum};
 ghost use Rattle.fare_homing.specs.Rows.{AreHomingsOf};
 
 use crate::costs::{MOST_UNITS, floors_after, floors_of, spent_on};

@@ -7,9 +7,9 @@ use Rattle.fare_codes.specs.declared.rule_id.RuleId.{RuleId}
 use Rattle.fare_tariff.specs.Record.{FareRecord}
 use Rattle.fare_tariff.specs.Tariff.{Tariff}
 use Rattle.fare_tariff.specs.Lookup.{ends_ok, fare_at}
-use Rattle.fare_homing.specs.Barred.{IsStep, has_this_rule, is_among, is_of_rule}
+use Rattle.fare_legs.specs.Barred.{IsStep, has_this_rule, is_among, is_of_rule}
 use Rattle.fare_homing.specs.Barring.{may_bar}
-use Rattle.fare_homing.proofs.RuleLemmas.{same_rule_is}
+use Rattle.fare_legs.proofs.RuleLemmas.{same_rule_is}
 
 false_true : false ≡ true → ⊥
 false_true e = cc

@@ -6,17 +6,17 @@ use Rattle.fare_trip.specs.Itinerary.{Itinerary, count}
 use Rattle.fare_tariff.specs.Tariff.{Tariff}
 use Rattle.fare_component.specs.declared.table.entry.Entry.{Entry}
 use Rattle.fare_component.specs.Table.{entries_of}
-use Rattle.fare_homing.specs.declared.ceiling.Ceiling.{Ceiling}
-use Rattle.fare_homing.specs.Barred.{is_barred}
+use Rattle.fare_legs.specs.declared.ceiling.Ceiling.{Ceiling}
+use Rattle.fare_legs.specs.Barred.{is_barred}
 use Rattle.fare_homing.specs.Between.{cost_within}
-use Rattle.fare_homing.specs.Ceiling.{below_ceiling}
-use Rattle.fare_homing.specs.Costs.{between_cost}
+use Rattle.fare_legs.specs.Ceiling.{below_ceiling}
+use Rattle.fare_legs.specs.Costs.{between_cost}
 use Rattle.fare_homing.specs.HomingRows.{IsBetween}
-use Rattle.fare_homing.specs.Least.{IsCost}
-use Rattle.fare_homing.specs.Countries.{heads_in, AreCountries}
-use Rattle.fare_homing.specs.Threes.{AreOfTwo}
-use Rattle.fare_homing.proofs.CountryLemmas.{heads_same}
-use Rattle.fare_homing.proofs.ThreeLemmas.{none_of_two}
+use Rattle.fare_legs.specs.Least.{IsCost}
+use Rattle.fare_legs.specs.Countries.{heads_in, AreCountries}
+use Rattle.fare_legs.specs.Threes.{AreOfTwo}
+use Rattle.fare_legs.proofs.CountryLemmas.{heads_same}
+use Rattle.fare_legs.proofs.ThreeLemmas.{none_of_two}
 
 -- what a part between costs is what it does with an entry that is looked at
 pub cost_is_within : (tariff : Tariff) (trip : Itinerary) (countries : List (Option Country)) (of_two : List ℕ) (ceiling : Option Ceiling) (a b home x : ℕ) (heads : Bool) → AreCountries tariff trip countries → a ≤ count trip → b ≤ count trip → home ≤ count trip

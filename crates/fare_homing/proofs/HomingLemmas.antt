@@ -8,7 +8,7 @@ use Rattle.fare_tariff.specs.Tariff.{Tariff}
 use Rattle.fare_bounds.specs.Covers.{rest_at}
 use Rattle.fare_homing.specs.declared.homing.Homing.{Homing}
 use Rattle.fare_homing.specs.declared.homing.Standing.{Standing}
-use Rattle.fare_homing.specs.Costs.{IsUpTo}
+use Rattle.fare_legs.specs.Costs.{IsUpTo}
 use Rattle.fare_homing.specs.HomingRows.{AreClosings, AreHomings, AreJaws, AreWholes, IsLast, IsOnward, IsSecond}
 use Rattle.fare_homing.specs.Rows.{begun_from, cell, closing_from, jaw_from, no_standing}
 use Rattle.fare_homing.proofs.HomingRowLemmas.{closings_same, jaws_same, wholes_same}

@@ -13,16 +13,16 @@ use Rattle.fare_component.specs.declared.table.entry.Entry.{Entry}
 use Rattle.fare_component.specs.Table.{entries_of}
 use Rattle.fare_component.proofs.LawLemmas.{entry_is_of_fare}
 use Rattle.fare_bounds.specs.Covers.{lesser, rest_at}
-use Rattle.fare_homing.specs.declared.ceiling.Ceiling.{Ceiling}
-use Rattle.fare_homing.specs.Barred.{unless_barred}
-use Rattle.fare_homing.specs.Ceiling.{below_ceiling}
-use Rattle.fare_homing.specs.Costs.{IsUpTo, back_cost, between_cost, first_cost, heads_to, is_same_city}
+use Rattle.fare_legs.specs.declared.ceiling.Ceiling.{Ceiling}
+use Rattle.fare_legs.specs.Barred.{unless_barred}
+use Rattle.fare_legs.specs.Ceiling.{below_ceiling}
+use Rattle.fare_legs.specs.Costs.{IsUpTo, back_cost, between_cost, first_cost, heads_to, is_same_city}
 use Rattle.fare_homing.specs.Homing.{homing_at}
 use Rattle.fare_homing.specs.HomingRows.{AreClosings, AreJaws, AreNext, AreWholes, IsBetween, IsPart, IsUnderBoth}
-use Rattle.fare_homing.specs.Floor.{added}
-use Rattle.fare_homing.specs.Least.{IsUnderEach}
-use Rattle.fare_homing.specs.Countries.{country_at, heads_in, AreCountries}
-use Rattle.fare_homing.proofs.ReachLemmas.{added_up, up_first, up_more, up_second}
+use Rattle.fare_legs.specs.Floor.{added}
+use Rattle.fare_legs.specs.Least.{IsUnderEach}
+use Rattle.fare_legs.specs.Countries.{country_at, heads_in, AreCountries}
+use Rattle.fare_legs.proofs.ReachLemmas.{added_up, up_first, up_more, up_second}
 
 true_false : true ≡ false → ⊥
 true_false e = cc

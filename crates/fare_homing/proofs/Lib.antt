@@ -1,16 +1,8 @@
-pub mod ReachLemmas
-pub mod FloorLemmas
-pub mod CountryLemmas
-pub mod RuleLemmas
-pub mod LeastLemmas
 pub mod HomingRowLemmas
 pub mod UnderLemmas
-pub mod LegLemmas
 pub mod HomingLemmas
 pub mod OnwardLemmas
 pub mod RestLemmas
 pub mod BarringLemmas
 pub mod LinkLemmas
-pub mod OwedLemmas
-pub mod ThreeLemmas
 pub mod BetweenLemmas

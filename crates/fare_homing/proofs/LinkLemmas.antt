@@ -10,11 +10,11 @@ use Rattle.fare_tariff.specs.Lookup.{fare_at}
 use Rattle.fare_bounds.specs.Covers.{rest_at}
 use Rattle.fare_homing.specs.declared.onward.Onward.{Onward}
 use Rattle.fare_homing.specs.declared.onward.Onwards.{Onwards}
-use Rattle.fare_homing.specs.Barred.{IsStep, has_this_rule, is_among, is_of_rule}
+use Rattle.fare_legs.specs.Barred.{IsStep, has_this_rule, is_among, is_of_rule}
 use Rattle.fare_homing.specs.Barring.{AreUnlinked}
 use Rattle.fare_homing.specs.HomingRows.{AreRests}
 use Rattle.fare_homing.specs.Onward.{AreOnwards, HasRests, next_at, next_by, no_onward, onward_at}
-use Rattle.fare_homing.proofs.RuleLemmas.{same_rule_is}
+use Rattle.fare_legs.proofs.RuleLemmas.{same_rule_is}
 use Rattle.fare_homing.proofs.OnwardLemmas.{weaker}
 
 false_true : false ≡ true → ⊥

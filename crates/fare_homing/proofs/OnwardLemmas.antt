@@ -11,11 +11,11 @@ use Rattle.fare_component.specs.declared.table.entry.Entry.{Entry}
 use Rattle.fare_bounds.specs.Covers.{rest_at}
 use Rattle.fare_homing.specs.declared.onward.Onward.{Onward}
 use Rattle.fare_homing.specs.declared.onward.Onwards.{Onwards}
-use Rattle.fare_homing.specs.Barred.{is_among, is_barred, is_of_rule, unless_barred}
-use Rattle.fare_homing.specs.Costs.{first_cost, single_cost}
+use Rattle.fare_legs.specs.Barred.{is_among, is_barred, is_of_rule, unless_barred}
+use Rattle.fare_legs.specs.Costs.{first_cost, single_cost}
 use Rattle.fare_homing.specs.HomingRows.{AreRests}
 use Rattle.fare_homing.specs.Onward.{AreOnwards, HasRests, next_by, no_onward, onward_at}
-use Rattle.fare_homing.specs.Pairs.{HasPair, are_mates, days_between}
+use Rattle.fare_legs.specs.Pairs.{HasPair, are_mates, days_between}
 
 true_false : true ≡ false → ⊥
 true_false e = cc

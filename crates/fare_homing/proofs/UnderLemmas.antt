@@ -6,14 +6,14 @@ use Rattle.fare_tariff.specs.Tariff.{Tariff}
 use Rattle.fare_rules.specs.Construction.{begin_after}
 use Rattle.fare_component.specs.declared.table.entry.Entry.{Entry}
 use Rattle.fare_component.specs.Table.{entries_of}
-use Rattle.fare_homing.specs.declared.ceiling.Ceiling.{Ceiling}
-use Rattle.fare_homing.specs.Barred.{is_barred, unless_barred}
-use Rattle.fare_homing.specs.Ceiling.{below_ceiling}
-use Rattle.fare_homing.specs.Costs.{IsUpTo, single_cost, first_cost, between_cost, back_cost, heads_to, is_same_city}
+use Rattle.fare_legs.specs.declared.ceiling.Ceiling.{Ceiling}
+use Rattle.fare_legs.specs.Barred.{is_barred, unless_barred}
+use Rattle.fare_legs.specs.Ceiling.{below_ceiling}
+use Rattle.fare_legs.specs.Costs.{IsUpTo, single_cost, first_cost, between_cost, back_cost, heads_to, is_same_city}
 use Rattle.fare_homing.specs.Homing.{closing_by, may_end_at, homing_at}
 use Rattle.fare_homing.specs.HomingRows.{AreHomings, AreRests, IsBetween, IsLast, IsPart, IsSecond}
-use Rattle.fare_homing.specs.Pairs.{HasPair}
-use Rattle.fare_homing.specs.Threes.{IsOneOfThree}
+use Rattle.fare_legs.specs.Pairs.{HasPair}
+use Rattle.fare_legs.specs.Threes.{IsOneOfThree}
 use Rattle.fare_homing.proofs.HomingRowLemmas.{part_after}
 
 module _ {tariff : Tariff} {trip : Itinerary} {ceiling : Option Ceiling} {begun closing jaw : ℕ → ℕ → ℕ → Option ℕ} {whole : ℕ → ℕ → Option ℕ} {left : ℕ → Option ℕ} (are : AreHomings tariff trip ceiling begun closing jaw whole left) where

@@ -6,8 +6,8 @@ use Rattle.fare_tariff.specs.Record.{FareRecord}
 use Rattle.fare_tariff.specs.Tariff.{Tariff}
 use Rattle.fare_tariff.specs.Lookup.{ends_ok}
 use Rattle.fare_homing.specs.declared.onward.Onward.{Onward}
-use Rattle.fare_homing.specs.declared.limits.TheConstants.{MOST_RULES, MOST_SETS}
-use Rattle.fare_homing.specs.Barred.{is_among}
+use Rattle.fare_legs.specs.declared.limits.TheConstants.{MOST_RULES, MOST_SETS}
+use Rattle.fare_legs.specs.Barred.{is_among}
 use Rattle.fare_homing.specs.Onward.{HasRests, no_onward}
 
 -- the rule of a fare, where that is there, may be barred behind a part of a rule: it was barred before that, or does not

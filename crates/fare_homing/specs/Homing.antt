@@ -2,7 +2,7 @@
 use Rattle.std.specs.Prelude.{ℕ, Bool, Option, if◌then◌else◌}
 use Rattle.fare_trip.specs.Itinerary.{Itinerary, point}
 use Rattle.fare_tariff.specs.Tariff.{Tariff}
-use Rattle.fare_homing.specs.Costs.{are_near, is_same_city}
+use Rattle.fare_legs.specs.Costs.{are_near, is_same_city}
 
 -- a unit that begins at a point may end at another: in the same city, or in its country as an open jaw
 abbrev pub may_end_at : Tariff → Itinerary → ℕ → ℕ → Bool

@@ -5,17 +5,17 @@ use Rattle.fare_tariff.specs.Tariff.{Tariff}
 use Rattle.fare_rules.specs.Construction.{begin_after}
 use Rattle.fare_component.specs.declared.table.entry.Entry.{Entry}
 use Rattle.fare_component.specs.Table.{entries_of}
-use Rattle.fare_homing.specs.declared.ceiling.Ceiling.{Ceiling}
-use Rattle.fare_homing.specs.Barred.{unless_barred}
-use Rattle.fare_homing.specs.Ceiling.{below_ceiling}
-use Rattle.fare_homing.specs.Costs.{single_cost, first_cost, between_cost, back_cost, heads_to}
+use Rattle.fare_legs.specs.declared.ceiling.Ceiling.{Ceiling}
+use Rattle.fare_legs.specs.Barred.{unless_barred}
+use Rattle.fare_legs.specs.Ceiling.{below_ceiling}
+use Rattle.fare_legs.specs.Costs.{single_cost, first_cost, between_cost, back_cost, heads_to}
 use Rattle.fare_homing.specs.Homing.{may_end_at}
-use Rattle.fare_homing.specs.Costs.{IsUpTo, is_same_city}
+use Rattle.fare_legs.specs.Costs.{IsUpTo, is_same_city}
 use Rattle.fare_homing.specs.Homing.{homing_at, may_go_on}
-use Rattle.fare_homing.specs.Least.{IsCost}
-use Rattle.fare_homing.specs.Owed.{IsOwed}
-use Rattle.fare_homing.specs.Pairs.{HasPair}
-use Rattle.fare_homing.specs.Threes.{IsOneOfThree}
+use Rattle.fare_legs.specs.Least.{IsCost}
+use Rattle.fare_legs.specs.Owed.{IsOwed}
+use Rattle.fare_legs.specs.Pairs.{HasPair}
+use Rattle.fare_legs.specs.Threes.{IsOneOfThree}
 
 -- what a part from a point to another costs, by what it is in its unit
 abbrev pub IsPart : Tariff → Itinerary → (Entry → Option ℕ) → ℕ → ℕ → ℕ → Type 0

@@ -8,8 +8,8 @@ use Rattle.fare_tariff.specs.Lookup.{fare_at}
 use Rattle.fare_bounds.specs.Covers.{rest_at}
 use Rattle.fare_homing.specs.declared.onward.Onward.{Onward}
 use Rattle.fare_homing.specs.declared.onward.Onwards.{Onwards}
-use Rattle.fare_homing.specs.declared.limits.TheConstants.{MOST_SETS}
-use Rattle.fare_homing.specs.Barred.{IsStep, is_among, is_of_rule}
+use Rattle.fare_legs.specs.declared.limits.TheConstants.{MOST_SETS}
+use Rattle.fare_legs.specs.Barred.{IsStep, is_among, is_of_rule}
 use Rattle.fare_homing.specs.HomingRows.{AreRests}
 
 -- no numbers

@@ -5,12 +5,12 @@ use Rattle.fare_tariff.specs.Tariff.{Tariff}
 use Rattle.fare_bounds.specs.Covers.{rest_at}
 use Rattle.fare_homing.specs.declared.homing.Homing.{Homing}
 use Rattle.fare_homing.specs.declared.homing.Standing.{Standing}
-use Rattle.fare_homing.specs.Ceiling.{IsCeiling}
-use Rattle.fare_homing.specs.Countries.{AreCountries}
+use Rattle.fare_legs.specs.Ceiling.{IsCeiling}
+use Rattle.fare_legs.specs.Countries.{AreCountries}
 use Rattle.fare_homing.specs.HomingRows.{AreHomings}
-use Rattle.fare_homing.specs.Lonely.{AreLonely}
+use Rattle.fare_legs.specs.Lonely.{AreLonely}
 use Rattle.fare_homing.specs.Onward.{AreOnwards}
-use Rattle.fare_homing.specs.Threes.{AreOfTwo}
+use Rattle.fare_legs.specs.Threes.{AreOfTwo}
 
 -- a number by its two points; none where there is no such row or place
 abbrev pub cell : List (List (Option ℕ)) → ℕ → ℕ → Option ℕ

@@ -2,19 +2,18 @@
 
 ghost use Rattle.std.specs.Prelude.{◌≡◌, ◌<◌, ℕ, true, IfSome, Option, replicate};
 ghost use Rattle.fare_trip.specs.Itinerary.{Itinerary};
-ghost use Rattle.fare_homing.specs.Barred.{IsStep};
+ghost use Rattle.fare_legs.specs.Barred.{IsStep};
 ghost use Rattle.fare_homing.specs.Barring.{AreUnlinked};
 ghost use Rattle.fare_homing.specs.Onward.{AreOnwards, HasRests, onward_at};
 ghost use Rattle.fare_homing.specs.Rows.{begun_from, jaw_from, AreHomingsOf};
 
 use crate::homing::Homing;
-use crate::limits::{MOST_RULES, MOST_SETS};
 use crate::onward::{Onward, Onwards};
 use crate::rests::rests_without;
-use crate::rule_sets::{RuleSets, rule_sets};
 use crate::steps::is_step;
 use fare_codes::RuleId;
 use fare_component::Table;
+use fare_legs::{MOST_RULES, MOST_SETS, RuleSets, rule_sets};
 use fare_tariff::Edition;
 
 /// What is behind each point where the rules of some fares are barred, which leads to the first place as yet.

@@ -4,27 +4,26 @@ ghost use Rattle.std.specs.Prelude.{◌≡◌, ℕ, ◌+◌, ◌<◌, ◌≤◌,
 ghost use Rattle.fare_trip.specs.Itinerary.{count};
 ghost use Rattle.fare_bounds.specs.Covers.{rest_at};
 ghost use Rattle.fare_component.specs.Table.{entries_of};
-ghost use Rattle.fare_homing.specs.Costs.{IsUpTo, between_cost, is_same_city};
+ghost use Rattle.fare_legs.specs.Costs.{IsUpTo, between_cost, is_same_city};
 ghost use Rattle.fare_homing.specs.HomingRows.{IsBetween};
-ghost use Rattle.fare_homing.specs.Least.{IsUnderEach};
+ghost use Rattle.fare_legs.specs.Least.{IsUnderEach};
 ghost use Rattle.fare_rules.specs.Shape.{is_same_country};
 ghost use Rattle.fare_rules.specs.Construction.{begin_after};
-ghost use Rattle.fare_homing.specs.Legs.{AreLegsBehind, AreLegsOf};
+ghost use Rattle.fare_legs.specs.Legs.{AreLegsBehind, AreLegsOf};
 ghost use Rattle.fare_homing.specs.Between.{cost_within};
 ghost use Rattle.fare_homing.specs.Rows.{closing_from};
-ghost use Rattle.fare_homing.specs.Countries.{country_at, heads_in, AreCountries};
-ghost use Rattle.fare_homing.specs.Threes.{AreOfTwo};
+ghost use Rattle.fare_legs.specs.Countries.{country_at, heads_in, AreCountries};
+ghost use Rattle.fare_legs.specs.Threes.{AreOfTwo};
 
-use crate::barred::{is_barred, unless};
-use crate::ceiling::is_too_dear;
-use crate::floor::{Floor, NOTHING, added, lesser, number_at};
 use crate::homing::{Homing, closing_from};
-use crate::legs::{LegRows, half_cost};
 use fare_bounds::begin_after;
 use fare_codes::Country;
 use fare_component::{Entry, Table};
+use fare_lawful::is_same_country;
+use fare_legs::{
+    Floor, LegRows, NOTHING, added, half_cost, is_barred, is_too_dear, lesser, number_at, unless,
+};
 use fare_rules::MOST_POINTS;
-use fare_units::is_same_country;
 
 /// A point where parts begin, with what they cost at least.
 #[derive(Clone, Copy)]

@@ -3,23 +3,20 @@
 ghost use Rattle.std.specs.Prelude.{◌≡◌, ◌<◌, ◌≤◌, IfSome, Some, slice_index_or};
 ghost use Rattle.fare_trip.specs.Itinerary.{count, point};
 ghost use Rattle.fare_bounds.specs.Covers.{rest_at};
-ghost use Rattle.fare_homing.specs.Costs.{are_near};
+ghost use Rattle.fare_legs.specs.Costs.{are_near};
 ghost use Rattle.fare_homing.specs.Rows.{cell, begun_from, closing_from, jaw_from, no_standing, AreHomingsOf};
 
 use crate::between::{lie_together, start_at};
-use crate::ceiling::{Ceiling, ceiling_of};
-use crate::floor::{Floor, NOTHING, number_at};
-use crate::legs::legs_behind;
-use crate::lonely::{MOST_LONELY, lonely_fares};
-use crate::nearness::countries_of;
-use crate::limits::MOST_RULES;
 use crate::onward::{Onwards, without_barred};
 use crate::reaching::least_onward;
 use crate::standing::standing_at;
-use crate::threes::fares_of_two;
 use crate::whole::wholes_at;
 use fare_codes::Country;
 use fare_component::Table;
+use fare_legs::{
+    Ceiling, Floor, MOST_LONELY, MOST_RULES, NOTHING, ceiling_of, countries_of, fares_of_two,
+    legs_behind, lonely_fares, number_at,
+};
 use fare_rules::MOST_POINTS;
 
 /// What is behind each point of a trip at least until a unit comes home that stands in the city of one point.

@@ -6,13 +6,11 @@ ghost use Rattle.fare_trip.specs.Itinerary.{Itinerary};
 ghost use Rattle.fare_tariff.specs.Tariff.{Tariff};
 ghost use Rattle.fare_bounds.specs.Covers.{rest_at};
 ghost use Rattle.fare_homing.specs.HomingRows.{AreRests};
-ghost use Rattle.fare_homing.specs.Barred.{is_of_rule};
+ghost use Rattle.fare_legs.specs.Barred.{is_of_rule};
 ghost use Rattle.fare_homing.specs.Onward.{AreOnwards, next_by, next_set, no_onward};
 
-use crate::barred::is_of_rule;
-use crate::floor::Floor;
-use crate::limits::{MOST_RULES, MOST_SETS};
 use fare_codes::RuleId;
+use fare_legs::{Floor, MOST_RULES, MOST_SETS, is_of_rule};
 use fare_rules::MOST_POINTS;
 use fare_tariff::Edition;
 

@@ -2,11 +2,11 @@
 
 ghost use Rattle.std.specs.Prelude.{◌≡◌, ℕ, ◌+◌, ◌<◌, ◌≤◌};
 ghost use Rattle.fare_bounds.specs.Covers.{rest_at};
-ghost use Rattle.fare_homing.specs.Costs.{IsUpTo};
+ghost use Rattle.fare_legs.specs.Costs.{IsUpTo};
 ghost use Rattle.fare_homing.specs.HomingRows.{IsUnderBoth};
 ghost use Rattle.fare_homing.specs.Rows.{cell};
 
-use crate::floor::{Floor, NOTHING, added, lesser, number_at};
+use fare_legs::{Floor, NOTHING, added, lesser, number_at};
 use fare_rules::MOST_POINTS;
 
 /// A row whose numbers are lowered to a step with what is behind it.

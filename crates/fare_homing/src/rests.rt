@@ -6,12 +6,11 @@ ghost use Rattle.fare_homing.specs.HomingRows.{AreRests};
 ghost use Rattle.fare_homing.specs.Rows.{begun_from, jaw_from, AreHomingsOf};
 
 use crate::between::start_at;
-use crate::floor::{Floor, NOTHING};
 use crate::homing::Homing;
-use crate::legs::legs_behind;
 use crate::reaching::least_onward;
 use crate::whole::wholes_at;
 use fare_component::Table;
+use fare_legs::{Floor, NOTHING, legs_behind};
 use fare_rules::MOST_POINTS;
 
 /// What is behind each point of a trip at least where no unit is open, and units that begin there have none of the

@@ -5,23 +5,21 @@ ghost use Rattle.std.specs.Prelude.{◌≡◌, ℕ, ◌<◌, ◌≤◌, [], true
 ghost use Rattle.fare_trip.specs.Itinerary.{count};
 ghost use Rattle.fare_rules.specs.Construction.{begin_after};
 ghost use Rattle.fare_bounds.specs.Covers.{rest_at};
-ghost use Rattle.fare_homing.specs.Costs.{IsUpTo, is_same_city};
+ghost use Rattle.fare_legs.specs.Costs.{IsUpTo, is_same_city};
 ghost use Rattle.fare_homing.specs.Homing.{may_go_on};
 ghost use Rattle.fare_homing.specs.HomingRows.{AreClosings, AreJaws, AreNext, IsLast, IsSecond};
-ghost use Rattle.fare_homing.specs.Legs.{AreLegsBehind, AreLegsOf};
-ghost use Rattle.fare_homing.specs.Owed.{AreOwed};
+ghost use Rattle.fare_legs.specs.Legs.{AreLegsBehind, AreLegsOf};
+ghost use Rattle.fare_legs.specs.Owed.{AreOwed};
 ghost use Rattle.fare_homing.specs.Rows.{cell, closing_from};
-ghost use Rattle.fare_homing.specs.Countries.{AreCountries};
-ghost use Rattle.fare_homing.specs.Threes.{AreOfTwo};
+ghost use Rattle.fare_legs.specs.Countries.{AreCountries};
+ghost use Rattle.fare_legs.specs.Threes.{AreOfTwo};
 
 use crate::between::{Start, lie_together, start_at, with_between};
-use crate::floor::{Floor, NOTHING};
 use crate::homing::{Homing, Standing};
-use crate::legs::LegRows;
-use crate::owed::{owed_from, raised};
 use crate::reaching::lowered_by;
 use fare_codes::Country;
 use fare_component::Table;
+use fare_legs::{Floor, LegRows, NOTHING, owed_from, raised};
 use fare_rules::MOST_POINTS;
 
 /// A unit that goes on: the point in whose city it stands, and the one behind which its next part comes.

@@ -3,11 +3,11 @@
 ghost use Rattle.std.specs.Prelude.{◌≡◌, true};
 ghost use Rattle.std.specs.List.{list_all};
 ghost use Rattle.fare_tariff.specs.Lookup.{fare_at};
-ghost use Rattle.fare_homing.specs.Barred.{IsStep};
+ghost use Rattle.fare_legs.specs.Barred.{IsStep};
 ghost use Rattle.fare_homing.specs.Barring.{may_bar};
 
-use crate::barred::is_among;
 use fare_codes::RuleId;
+use fare_legs::is_among;
 use fare_tariff::Edition;
 
 /// Whether the rule of a fare, where that is there, may be barred behind a part of a rule: it was before, or doesn't

@@ -4,20 +4,19 @@ ghost use Rattle.std.specs.Prelude.{◌≡◌, ℕ, ◌+◌, ◌<◌, ◌≤◌,
 ghost use Rattle.fare_trip.specs.Itinerary.{count};
 ghost use Rattle.fare_rules.specs.Construction.{begin_after};
 ghost use Rattle.fare_bounds.specs.Covers.{rest_at};
-ghost use Rattle.fare_homing.specs.Barred.{unless_barred};
-ghost use Rattle.fare_homing.specs.Costs.{IsUpTo, first_cost, single_cost};
+ghost use Rattle.fare_legs.specs.Barred.{unless_barred};
+ghost use Rattle.fare_legs.specs.Costs.{IsUpTo, first_cost, single_cost};
 ghost use Rattle.fare_homing.specs.Homing.{homing_at, may_end_at};
 ghost use Rattle.fare_homing.specs.HomingRows.{AreWholes, IsPart};
-ghost use Rattle.fare_homing.specs.Legs.{AreLegsOf};
-ghost use Rattle.fare_homing.specs.Pairs.{HasPair};
+ghost use Rattle.fare_legs.specs.Legs.{AreLegsOf};
+ghost use Rattle.fare_legs.specs.Pairs.{HasPair};
 ghost use Rattle.fare_homing.specs.Rows.{begun_from, jaw_from};
-ghost use Rattle.fare_homing.specs.Countries.{AreCountries};
+ghost use Rattle.fare_legs.specs.Countries.{AreCountries};
 
 use crate::between::{Start, lie_together};
-use crate::floor::{Floor, NOTHING, added, lesser, number_at};
 use crate::homing::{Homing, begun_from, jaw_from};
-use crate::pairs::{Pairing, least_pair};
 use fare_component::Table;
+use fare_legs::{Floor, NOTHING, Pairing, added, least_pair, lesser, number_at};
 use fare_rules::MOST_POINTS;
 
 /// What one unit costs at least that begins at a point and ends at another: one part alone, or half round trips, by

@@ -6,7 +6,7 @@ use Rattle.fare_trip.specs.Itinerary.{sector}
 use Rattle.fare_rules.specs.Numbers.{numbers}
 use Rattle.fare_rules.specs.ComponentAmount.{covers_cabin, rank}
 use Rattle.fare_conditions.proofs.SpanLemmas.{rank_first, rank_next, rank_last}
-use Rattle.fare_component.proofs.conditions.fares.greatest_rank.Goals as goal
+use Rattle.fare_conditions.proofs.fares.greatest_rank.Goals as goal
 
 pub loop-i-init : goal.loop-i-init
 loop-i-init c = λ class. rank_first c.args.trip.now class c.args.a c.args.b

@@ -5,7 +5,7 @@ use Rattle.std.specs.List.{list_all}
 use Rattle.fare_codes.specs.declared.cabin.Cabin.{Cabin}
 use Rattle.fare_rules.specs.Numbers.{numbers}
 use Rattle.fare_rules.specs.ComponentAmount.{covers_cabin, rank}
-use Rattle.fare_component.proofs.conditions.fares.greatest_rank.Given as goal
+use Rattle.fare_conditions.proofs.fares.greatest_rank.Given as goal
 
 abbrev pub invariant-loop-i : goal.invariant-loop-i
 invariant-loop-i l = (class : Cabin)

@@ -1,7 +1,7 @@
 use Rattle.std.proofs.Common.{ap, sym, ◌∙◌}
 use Rattle.fare_trip.specs.declared.sector.Sector.{Sector}
 use Rattle.fare_conditions.proofs.SpanLemmas.{by_one, by_many}
-use Rattle.fare_component.proofs.conditions.fares.one_carrier.Goals as goal
+use Rattle.fare_conditions.proofs.fares.one_carrier.Goals as goal
 
 pub returns-then-all_carried_by : goal.returns-then-all_carried_by
 returns-then-all_carried_by c =

@@ -2,7 +2,7 @@
 use Rattle.std.proofs.Common.{◌≡◌, length}
 use Rattle.fare_rules.specs.declared.limits.TheConstants.{MOST_POINTS}
 use Rattle.fare_conditions.specs.Shared.{AreIndicatorsBefore}
-use Rattle.fare_component.proofs.table.indicators.all_indicators.Given as goal
+use Rattle.fare_conditions.proofs.indicators.all_indicators.Given as goal
 
 abbrev pub invariant-loop-i : goal.invariant-loop-i
 invariant-loop-i l = record {

@@ -2,7 +2,7 @@ use Rattle.std.proofs.Common.{◌≡◌, ◌+◌, ◌∙◌, ap, arith}
 use Rattle.std.specs.Prelude.{option_map}
 use Rattle.fare_bounds.specs.Covers.{least_cost}
 use Rattle.fare_floors.specs.Costs.{or_nothing}
-use Rattle.fare_homing.specs.Floor.{capped_sum}
+use Rattle.fare_legs.specs.Floor.{capped_sum}
 use Rattle.fare_floors.proofs.ahead.floor_with.Goals as goal
 
 pub returns-clause-up : goal.returns-clause-up

@@ -2,7 +2,7 @@ use Rattle.std.proofs.Common.{◌≡◌, ℕ, suc, ◌+◌, ◌-◌, ◌<◌, sy
 use Rattle.fare_tariff.specs.Tariff.{Tariff}
 use Rattle.fare_rules.specs.declared.part.Part.{Part}
 use Rattle.fare_rules.specs.Construction.{fare_of, part_at}
-use Rattle.fare_homing.specs.declared.limits.TheConstants.{MOST_SETS}
+use Rattle.fare_legs.specs.declared.limits.TheConstants.{MOST_SETS}
 use Rattle.fare_homing.specs.Onward.{next_set}
 use Rattle.fare_homing.specs.Rows.{begun_from, jaw_from}
 use Rattle.fare_floors.specs.Barring.{set_after}

@@ -1,6 +1,6 @@
 -- the set is the one behind the parts so far
 use Rattle.std.proofs.Common.{◌≡◌, ◌-◌, ◌<◌}
-use Rattle.fare_homing.specs.declared.limits.TheConstants.{MOST_SETS}
+use Rattle.fare_legs.specs.declared.limits.TheConstants.{MOST_SETS}
 use Rattle.fare_floors.specs.Barring.{set_after}
 use Rattle.fare_floors.proofs.barring.left_of.Given as goal
 

@@ -1,8 +1,8 @@
 use Rattle.std.proofs.Common.{ℕ, length-set, Option, subst, sym, ◌∙◌, inl, inr, arith}
 use Rattle.std.proofs.lemmas.Bool.{cases_lt}
 use Rattle.fare_bounds.specs.Covers.{rest_at}
-use Rattle.fare_homing.specs.Costs.{IsUpTo}
-use Rattle.fare_homing.proofs.ReachLemmas.{greater_up, row_more}
+use Rattle.fare_legs.specs.Costs.{IsUpTo}
+use Rattle.fare_legs.proofs.ReachLemmas.{greater_up, row_more}
 use Rattle.fare_floors.proofs.LastPartLemmas.{none_past}
 use Rattle.fare_floors.proofs.lasting.greater_of.Goals as goal
 

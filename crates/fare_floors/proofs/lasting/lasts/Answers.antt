@@ -1,6 +1,6 @@
 use Rattle.std.proofs.Common.{◌≡◌, ap, ◌∙◌, arith}
 use Rattle.std.specs.Prelude.{None}
-use Rattle.fare_homing.specs.Floor.{capped}
+use Rattle.fare_legs.specs.Floor.{capped}
 use Rattle.std.proofs.lemmas.List.{get_or-replicate}
 use Rattle.fare_trip.specs.Itinerary.{count}
 use Rattle.fare_component.proofs.LawLemmas.{entry_is_of_fare}

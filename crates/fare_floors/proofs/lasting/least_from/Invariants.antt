@@ -4,7 +4,7 @@ use Rattle.std.specs.Prelude.{Contains, Some}
 use Rattle.fare_bounds.specs.Covers.{rest_at}
 use Rattle.fare_component.specs.declared.table.entry.Entry.{Entry}
 use Rattle.fare_component.specs.Table.{entries_of}
-use Rattle.fare_homing.specs.Costs.{IsKeptBy}
+use Rattle.fare_legs.specs.Costs.{IsKeptBy}
 use Rattle.fare_floors.specs.LastParts.{IsUnderLast}
 use Rattle.fare_floors.proofs.lasting.least_from.Given as goal
 

@@ -2,7 +2,7 @@
 use Rattle.std.proofs.Common.{take}
 use Rattle.std.specs.Prelude.{Contains}
 use Rattle.fare_component.specs.declared.table.entry.Entry.{Entry}
-use Rattle.fare_homing.specs.Costs.{IsKeptBy}
+use Rattle.fare_legs.specs.Costs.{IsKeptBy}
 use Rattle.fare_floors.specs.LastParts.{IsUnderLast}
 use Rattle.fare_floors.proofs.lasting.least_over.Given as goal
 

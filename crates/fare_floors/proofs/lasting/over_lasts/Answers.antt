@@ -3,8 +3,8 @@ use Rattle.std.proofs.lemmas.Bool.{cases_eq, cases_lt}
 use Rattle.std.proofs.lemmas.List.{get_or-set_same}
 use Rattle.std.specs.Prelude.{None}
 use Rattle.fare_bounds.specs.Covers.{rest_at}
-use Rattle.fare_homing.specs.Costs.{IsUpTo}
-use Rattle.fare_homing.proofs.ReachLemmas.{up_first, up_second}
+use Rattle.fare_legs.specs.Costs.{IsUpTo}
+use Rattle.fare_legs.proofs.ReachLemmas.{up_first, up_second}
 use Rattle.fare_floors.proofs.LastPartLemmas.{none_past, row_kept}
 use Rattle.fare_floors.proofs.lasting.over_lasts.Goals as goal
 

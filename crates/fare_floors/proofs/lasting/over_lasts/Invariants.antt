@@ -1,7 +1,7 @@
 -- the numbers before this one are under what is there without the unit too
 use Rattle.std.proofs.Common.{◌≡◌, ℕ, ◌<◌, length}
 use Rattle.fare_bounds.specs.Covers.{rest_at}
-use Rattle.fare_homing.specs.Costs.{IsUpTo}
+use Rattle.fare_legs.specs.Costs.{IsUpTo}
 use Rattle.fare_floors.specs.LastParts.{AreLasts}
 use Rattle.fare_rules.specs.Construction.{end_of}
 use Rattle.fare_floors.proofs.lasting.over_lasts.Given as goal

@@ -2,11 +2,11 @@ use Rattle.std.proofs.Common.{◌≡◌, ℕ, ◌+◌, ◌≤◌, List, [], leng
 use Rattle.std.proofs.lemmas.Bool.{cases_Bool}
 use Rattle.fare_rules.specs.declared.part.Part.{Part}
 use Rattle.fare_rules.specs.Completion.{IsCompletion}
-use Rattle.fare_homing.specs.Ceiling.{IsWithin}
-use Rattle.fare_homing.specs.Costs.{IsUpTo}
+use Rattle.fare_legs.specs.Ceiling.{IsWithin}
+use Rattle.fare_legs.specs.Costs.{IsUpTo}
 use Rattle.fare_floors.proofs.DearLemmas.{over_is_beyond}
 use Rattle.std.specs.Prelude.{Some, option_map, slice_index_or, sum_by}
-use Rattle.fare_homing.specs.Floor.{capped_sum}
+use Rattle.fare_legs.specs.Floor.{capped_sum}
 use Rattle.fare_bounds.specs.Covers.{rest_at}
 use Rattle.fare_trip.specs.Itinerary.{count}
 use Rattle.fare_rules.specs.Construction.{end_of, greatest_unit, places}

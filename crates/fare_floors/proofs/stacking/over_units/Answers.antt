@@ -3,7 +3,7 @@ use Rattle.std.specs.Prelude.{None, slice_index_or}
 use Rattle.fare_trip.specs.Itinerary.{count}
 use Rattle.fare_rules.specs.Construction.{end_of, greatest_unit, places}
 use Rattle.fare_bounds.specs.Covers.{rest_at}
-use Rattle.fare_homing.specs.Costs.{IsUpTo}
+use Rattle.fare_legs.specs.Costs.{IsUpTo}
 use Rattle.fare_floors.specs.Barring.{left_of}
 use Rattle.fare_floors.specs.Stack.{AreOver}
 use Rattle.fare_floors.proofs.AheadLemmas.{rows_more}

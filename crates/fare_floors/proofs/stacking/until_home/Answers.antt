@@ -1,7 +1,7 @@
 use Rattle.std.proofs.Common.{ℕ, Option, subst}
 use Rattle.fare_homing.specs.Homing.{closing_by, homing_at}
 use Rattle.fare_homing.specs.Rows.{begun_from, closing_from, jaw_from}
-use Rattle.fare_homing.proofs.ReachLemmas.{added_up}
+use Rattle.fare_legs.proofs.ReachLemmas.{added_up}
 use Rattle.fare_floors.specs.Stack.{IsUnderSum}
 use Rattle.fare_floors.proofs.StackRowLemmas.{until_next}
 use Rattle.fare_floors.proofs.stacking.until_home.Goals as goal

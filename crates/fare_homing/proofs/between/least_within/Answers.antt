@@ -3,9 +3,9 @@ use Rattle.std.specs.Prelude.{option_map}
 use Rattle.std.proofs.lemmas.List.{take_all, take_more}
 use Rattle.fare_component.specs.declared.table.entry.Entry.{Entry}
 use Rattle.fare_homing.specs.Between.{cost_within}
-use Rattle.fare_homing.specs.Floor.{capped}
-use Rattle.fare_homing.specs.Least.{IsUnderEach}
-use Rattle.fare_homing.proofs.LeastLemmas.{cost_more, cost_none}
+use Rattle.fare_legs.specs.Floor.{capped}
+use Rattle.fare_legs.specs.Least.{IsUnderEach}
+use Rattle.fare_legs.proofs.LeastLemmas.{cost_more, cost_none}
 use Rattle.fare_homing.proofs.between.least_within.Goals as goal
 
 pub loop-entry-init : goal.loop-entry-init

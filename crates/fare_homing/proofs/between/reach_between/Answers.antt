@@ -1,9 +1,9 @@
 use Rattle.std.proofs.Common.{◌≡◌, ℕ, ◌+◌, true, false, refl, subst, sym, ◌∙◌, inl, inr, arith}
 use Rattle.std.proofs.lemmas.Bool.{both_ways, cases_eq}
-use Rattle.fare_homing.specs.Costs.{IsUpTo, is_same_city}
+use Rattle.fare_legs.specs.Costs.{IsUpTo, is_same_city}
 use Rattle.fare_homing.specs.HomingRows.{IsBetween}
 use Rattle.fare_homing.specs.Rows.{closing_from}
-use Rattle.fare_homing.proofs.FloorLemmas.{lesser_kept, lesser_sum}
+use Rattle.fare_legs.proofs.FloorLemmas.{lesser_kept, lesser_sum}
 use Rattle.fare_homing.proofs.between.reach_between.Goals as goal
 
 pub loop-b-preserved : goal.loop-b-preserved

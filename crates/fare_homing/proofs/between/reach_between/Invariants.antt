@@ -1,6 +1,6 @@
 -- the least is under the parts between to points before this one
 use Rattle.std.proofs.Common.{◌≡◌, ℕ, ◌+◌, ◌<◌, false}
-use Rattle.fare_homing.specs.Costs.{IsUpTo, is_same_city}
+use Rattle.fare_legs.specs.Costs.{IsUpTo, is_same_city}
 use Rattle.fare_homing.specs.HomingRows.{IsBetween}
 use Rattle.fare_homing.specs.Rows.{closing_from}
 use Rattle.fare_homing.proofs.between.reach_between.Given as goal

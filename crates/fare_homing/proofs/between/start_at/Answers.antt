@@ -3,7 +3,7 @@ use Rattle.std.specs.Prelude.{slice_index_or}
 use Rattle.std.proofs.lemmas.List.{get_or_default}
 use Rattle.fare_trip.specs.Itinerary.{Itinerary, count}
 use Rattle.fare_rules.specs.Construction.{begin_after}
-use Rattle.fare_homing.specs.Legs.{AreLegsOf, no_legs}
+use Rattle.fare_legs.specs.Legs.{AreLegsOf, no_legs}
 use Rattle.fare_homing.proofs.between.start_at.Goals as goal
 
 pub returns-clause-legs : goal.returns-clause-legs

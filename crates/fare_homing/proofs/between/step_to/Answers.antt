@@ -1,10 +1,10 @@
 use Rattle.std.proofs.Common.{◌≡◌, Bool, Option, Some, None, subst, sym, ◌∙◌, arith}
 use Rattle.std.specs.Prelude.{if◌then◌else◌}
 use Rattle.fare_bounds.specs.Covers.{rest_at}
-use Rattle.fare_homing.specs.declared.ceiling.Ceiling.{Ceiling}
-use Rattle.fare_homing.specs.Costs.{IsUpTo}
+use Rattle.fare_legs.specs.declared.ceiling.Ceiling.{Ceiling}
+use Rattle.fare_legs.specs.Costs.{IsUpTo}
 use Rattle.fare_homing.specs.HomingRows.{IsBetween}
-use Rattle.fare_homing.specs.Countries.{heads_in}
+use Rattle.fare_legs.specs.Countries.{heads_in}
 use Rattle.fare_homing.proofs.HomingRowLemmas.{step_up}
 use Rattle.fare_homing.proofs.BetweenLemmas.{cost_is_within}
 use Rattle.fare_homing.proofs.between.step_to.Goals as goal

@@ -3,12 +3,12 @@ use Rattle.std.specs.Prelude.{None}
 use Rattle.std.proofs.lemmas.Bool.{cases_eq}
 use Rattle.std.proofs.lemmas.List.{get_or-set_same, get_or-set_other}
 use Rattle.fare_bounds.specs.Covers.{lesser, rest_at}
-use Rattle.fare_homing.specs.Costs.{IsUpTo, is_same_city}
+use Rattle.fare_legs.specs.Costs.{IsUpTo, is_same_city}
 use Rattle.fare_trip.specs.Itinerary.{count}
 use Rattle.fare_homing.specs.HomingRows.{IsBetween}
 use Rattle.fare_homing.specs.Rows.{closing_from}
-use Rattle.fare_homing.proofs.FloorLemmas.{lesser_kept}
-use Rattle.fare_homing.proofs.ReachLemmas.{up_second}
+use Rattle.fare_legs.proofs.FloorLemmas.{lesser_kept}
+use Rattle.fare_legs.proofs.ReachLemmas.{up_second}
 use Rattle.fare_homing.proofs.between.with_between.Goals as goal
 
 pub loop-j-init : goal.loop-j-init

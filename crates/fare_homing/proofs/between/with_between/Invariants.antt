@@ -1,7 +1,7 @@
 -- the numbers before this point are lowered to the parts between
 use Rattle.std.proofs.Common.{◌≡◌, ℕ, ◌+◌, ◌<◌, false, length}
 use Rattle.fare_bounds.specs.Covers.{rest_at}
-use Rattle.fare_homing.specs.Costs.{IsUpTo, is_same_city}
+use Rattle.fare_legs.specs.Costs.{IsUpTo, is_same_city}
 use Rattle.fare_homing.specs.HomingRows.{IsBetween}
 use Rattle.fare_homing.specs.Rows.{closing_from}
 use Rattle.fare_homing.proofs.between.with_between.Given as goal

@@ -1,10 +1,10 @@
 -- the numbers are known from this point on
 use Rattle.std.proofs.Common.{◌≡◌, length}
 use Rattle.std.specs.Prelude.{IfSome, Some}
-use Rattle.fare_homing.specs.Ceiling.{IsCeiling}
-use Rattle.fare_homing.specs.Lonely.{AreLonely}
-use Rattle.fare_homing.specs.Countries.{AreCountries}
-use Rattle.fare_homing.specs.Threes.{AreOfTwo}
+use Rattle.fare_legs.specs.Ceiling.{IsCeiling}
+use Rattle.fare_legs.specs.Lonely.{AreLonely}
+use Rattle.fare_legs.specs.Countries.{AreCountries}
+use Rattle.fare_legs.specs.Threes.{AreOfTwo}
 use Rattle.fare_homing.proofs.HomingLemmas.{AreHomingsFrom}
 use Rattle.fare_homing.proofs.homing.homing_of.Given as goal
 

@@ -1,8 +1,8 @@
 use Rattle.std.proofs.Common.{ℕ, ◌+◌, refl, subst, inl, inr, arith}
 use Rattle.std.proofs.lemmas.Bool.{cases_eq}
 use Rattle.fare_bounds.specs.Covers.{rest_at}
-use Rattle.fare_homing.specs.Costs.{IsUpTo}
-use Rattle.fare_homing.proofs.FloorLemmas.{lesser_kept, lesser_sum}
+use Rattle.fare_legs.specs.Costs.{IsUpTo}
+use Rattle.fare_legs.proofs.FloorLemmas.{lesser_kept, lesser_sum}
 use Rattle.fare_homing.proofs.reaching.least_onward.Goals as goal
 
 pub loop-b-preserved : goal.loop-b-preserved

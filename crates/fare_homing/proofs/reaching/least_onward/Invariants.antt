@@ -1,7 +1,7 @@
 -- the least is under the steps to points before this one
 use Rattle.std.proofs.Common.{ℕ, ◌+◌, ◌<◌}
 use Rattle.fare_bounds.specs.Covers.{rest_at}
-use Rattle.fare_homing.specs.Costs.{IsUpTo}
+use Rattle.fare_legs.specs.Costs.{IsUpTo}
 use Rattle.fare_homing.proofs.reaching.least_onward.Given as goal
 
 abbrev pub invariant-loop-b : goal.invariant-loop-b

@@ -1,8 +1,8 @@
 use Rattle.std.proofs.Common.{ℕ, ◌+◌, ◌<◌, length-set, Option, refl, subst, sym, ◌∙◌, arith}
 use Rattle.fare_bounds.specs.Covers.{rest_at}
-use Rattle.fare_homing.specs.Costs.{IsUpTo}
-use Rattle.fare_homing.proofs.FloorLemmas.{lesser_kept, lesser_sum, stands_before}
-use Rattle.fare_homing.proofs.ReachLemmas.{row_more}
+use Rattle.fare_legs.specs.Costs.{IsUpTo}
+use Rattle.fare_legs.proofs.FloorLemmas.{lesser_kept, lesser_sum, stands_before}
+use Rattle.fare_legs.proofs.ReachLemmas.{row_more}
 use Rattle.fare_homing.proofs.reaching.lowered.Goals as goal
 
 pub loop-j-preserved : goal.loop-j-preserved

@@ -1,7 +1,7 @@
 -- the numbers before this one are lowered
 use Rattle.std.proofs.Common.{◌≡◌, ℕ, ◌+◌, ◌<◌, length}
 use Rattle.fare_bounds.specs.Covers.{rest_at}
-use Rattle.fare_homing.specs.Costs.{IsUpTo}
+use Rattle.fare_legs.specs.Costs.{IsUpTo}
 use Rattle.fare_homing.proofs.reaching.lowered.Given as goal
 
 abbrev pub invariant-loop-j : goal.invariant-loop-j

@@ -2,9 +2,9 @@ use Rattle.std.proofs.Common.{◌≡◌, true, false, not, refl, ℕ, ◌+◌, �
 use Rattle.std.specs.Prelude.{Option, Some, None, is_some}
 use Rattle.std.proofs.lemmas.Bool.{cases_eq}
 use Rattle.fare_bounds.specs.Covers.{rest_at}
-use Rattle.fare_homing.specs.Costs.{IsUpTo}
+use Rattle.fare_legs.specs.Costs.{IsUpTo}
 use Rattle.fare_homing.specs.Rows.{cell}
-use Rattle.fare_homing.proofs.FloorLemmas.{not_there, stands_before}
+use Rattle.fare_legs.proofs.FloorLemmas.{not_there, stands_before}
 use Rattle.fare_homing.proofs.reaching.lowered_by.Goals as goal
 
 none : (found : Option ℕ) → not (is_some found) ≡ true → is_some found ≡ false

@@ -1,6 +1,6 @@
 use Rattle.std.proofs.Common.{◌≡◌, ℕ, true, sym, subst, ◌∙◌}
 use Rattle.fare_rules.specs.Construction.{begin_after}
-use Rattle.fare_homing.specs.Costs.{back_cost, is_same_city}
+use Rattle.fare_legs.specs.Costs.{back_cost, is_same_city}
 use Rattle.fare_homing.specs.HomingRows.{IsPart}
 use Rattle.fare_homing.proofs.standing.jaws_at.Goals as goal
 

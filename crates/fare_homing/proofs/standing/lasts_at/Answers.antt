@@ -1,6 +1,6 @@
 use Rattle.std.proofs.Common.{◌≡◌, ℕ, true, sym, subst, ◌∙◌}
 use Rattle.fare_rules.specs.Construction.{begin_after}
-use Rattle.fare_homing.specs.Costs.{back_cost}
+use Rattle.fare_legs.specs.Costs.{back_cost}
 use Rattle.fare_homing.specs.Homing.{may_go_on}
 use Rattle.fare_homing.specs.HomingRows.{IsPart}
 use Rattle.fare_homing.proofs.standing.lasts_at.Goals as goal

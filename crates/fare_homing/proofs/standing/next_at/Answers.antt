@@ -2,8 +2,8 @@ use Rattle.std.proofs.Common.{◌≡◌, ℕ, ◌<◌, true, false, sym, subst, 
 use Rattle.std.proofs.lemmas.Bool.{both_ways}
 use Rattle.fare_rules.specs.Construction.{begin_after}
 use Rattle.fare_component.proofs.LawLemmas.{entry_is_of_fare}
-use Rattle.fare_homing.specs.Ceiling.{below_ceiling}
-use Rattle.fare_homing.specs.Costs.{between_cost, heads_to, is_same_city}
+use Rattle.fare_legs.specs.Ceiling.{below_ceiling}
+use Rattle.fare_legs.specs.Costs.{between_cost, heads_to, is_same_city}
 use Rattle.fare_homing.specs.HomingRows.{IsBetween}
 use Rattle.fare_homing.proofs.HomingRowLemmas.{part_after}
 use Rattle.fare_homing.proofs.standing.next_at.Goals as goal

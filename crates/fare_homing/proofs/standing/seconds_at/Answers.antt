@@ -2,8 +2,8 @@ use Rattle.std.proofs.Common.{◌≡◌, ◌∙◌, ap, sym}
 use Rattle.std.specs.Prelude.{true}
 use Rattle.fare_rules.specs.Construction.{begin_after}
 use Rattle.fare_bounds.specs.Covers.{rest_at}
-use Rattle.fare_homing.specs.Costs.{is_same_city}
-use Rattle.fare_homing.proofs.ReachLemmas.{up_more}
+use Rattle.fare_legs.specs.Costs.{is_same_city}
+use Rattle.fare_legs.proofs.ReachLemmas.{up_more}
 use Rattle.fare_homing.proofs.standing.seconds_at.Goals as goal
 
 pub returns-then-is : goal.returns-then-is

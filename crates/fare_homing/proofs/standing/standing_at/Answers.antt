@@ -6,7 +6,7 @@ use Rattle.fare_trip.specs.Itinerary.{count}
 use Rattle.fare_bounds.specs.Covers.{rest_at}
 use Rattle.fare_homing.specs.HomingRows.{AreClosings, AreJaws, AreNext, IsLast, IsSecond}
 use Rattle.fare_homing.specs.Rows.{cell, closing_from}
-use Rattle.fare_homing.specs.Costs.{IsUpTo}
+use Rattle.fare_legs.specs.Costs.{IsUpTo}
 use Rattle.fare_homing.proofs.HomingRowLemmas.{closings_of, closings_same, jaws_same}
 use Rattle.fare_homing.proofs.standing.standing_at.Goals as goal
 

@@ -2,9 +2,9 @@ use Rattle.std.proofs.Common.{ℕ, ◌+◌, refl, subst, inl, inr, arith}
 use Rattle.std.specs.Prelude.{Option, if◌then◌else◌}
 use Rattle.std.proofs.lemmas.Bool.{cases_eq}
 use Rattle.fare_bounds.specs.Covers.{rest_at}
-use Rattle.fare_homing.specs.Costs.{IsUpTo}
+use Rattle.fare_legs.specs.Costs.{IsUpTo}
 use Rattle.fare_homing.specs.Rows.{begun_from, jaw_from}
-use Rattle.fare_homing.proofs.FloorLemmas.{lesser_kept, lesser_sum}
+use Rattle.fare_legs.proofs.FloorLemmas.{lesser_kept, lesser_sum}
 use Rattle.fare_homing.proofs.whole.reach_first.Goals as goal
 
 pub loop-b-preserved : goal.loop-b-preserved

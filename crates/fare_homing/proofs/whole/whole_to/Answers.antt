@@ -3,12 +3,12 @@ use Rattle.std.specs.Prelude.{if◌then◌else◌}
 use Rattle.std.proofs.lemmas.Bool.{both_ways}
 use Rattle.fare_trip.specs.Itinerary.{point}
 use Rattle.fare_rules.specs.Shape.{lie_together}
-use Rattle.fare_homing.specs.Barred.{unless_barred}
-use Rattle.fare_homing.specs.Costs.{IsUpTo, first_cost, is_same_city}
+use Rattle.fare_legs.specs.Barred.{unless_barred}
+use Rattle.fare_legs.specs.Costs.{IsUpTo, first_cost, is_same_city}
 use Rattle.fare_homing.specs.Homing.{may_end_at}
 use Rattle.fare_homing.specs.HomingRows.{IsPart}
 use Rattle.fare_homing.specs.Rows.{begun_from, jaw_from}
-use Rattle.fare_homing.proofs.CountryLemmas.{lies_there}
+use Rattle.fare_legs.proofs.CountryLemmas.{lies_there}
 use Rattle.fare_homing.proofs.HomingRowLemmas.{part_after}
 use Rattle.fare_homing.proofs.whole.whole_to.Goals as goal
 

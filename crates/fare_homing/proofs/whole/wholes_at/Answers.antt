@@ -6,11 +6,11 @@ use Rattle.fare_trip.specs.Itinerary.{count}
 use Rattle.fare_rules.specs.Construction.{begin_after}
 use Rattle.fare_component.proofs.LawLemmas.{entry_is_of_fare}
 use Rattle.fare_bounds.specs.Covers.{rest_at}
-use Rattle.fare_homing.specs.Barred.{unless_barred}
-use Rattle.fare_homing.specs.Costs.{IsUpTo, first_cost, single_cost}
+use Rattle.fare_legs.specs.Barred.{unless_barred}
+use Rattle.fare_legs.specs.Costs.{IsUpTo, first_cost, single_cost}
 use Rattle.fare_homing.specs.Homing.{homing_at, may_end_at}
 use Rattle.fare_homing.specs.HomingRows.{IsPart}
-use Rattle.fare_homing.specs.Pairs.{HasPair}
+use Rattle.fare_legs.specs.Pairs.{HasPair}
 use Rattle.fare_homing.specs.Rows.{begun_from, jaw_from}
 use Rattle.fare_homing.proofs.HomingRowLemmas.{part_after}
 use Rattle.fare_homing.proofs.whole.wholes_at.Goals as goal

@@ -1,11 +1,11 @@
 -- the numbers before this point are under what one unit costs that ends there
 use Rattle.std.proofs.Common.{◌≡◌, ℕ, ◌+◌, ◌<◌, ◌≤◌, true, length}
 use Rattle.fare_bounds.specs.Covers.{rest_at}
-use Rattle.fare_homing.specs.Barred.{unless_barred}
-use Rattle.fare_homing.specs.Costs.{IsUpTo, first_cost, single_cost}
+use Rattle.fare_legs.specs.Barred.{unless_barred}
+use Rattle.fare_legs.specs.Costs.{IsUpTo, first_cost, single_cost}
 use Rattle.fare_homing.specs.Homing.{homing_at, may_end_at}
 use Rattle.fare_homing.specs.HomingRows.{IsPart}
-use Rattle.fare_homing.specs.Pairs.{HasPair}
+use Rattle.fare_legs.specs.Pairs.{HasPair}
 use Rattle.fare_homing.specs.Rows.{begun_from, jaw_from}
 use Rattle.fare_homing.proofs.whole.wholes_at.Given as goal
 

@@ -1,8 +1,8 @@
 use Rattle.std.proofs.Common.{◌≡◌, ℕ, Option, sym, subst, ◌∙◌, arith}
 use Rattle.std.proofs.lemmas.Option.{same_Some}
-use Rattle.fare_homing.specs.Costs.{IsUpTo}
-use Rattle.fare_homing.proofs.LeastLemmas.{capped_up}
-use Rattle.fare_homing.proofs.ReachLemmas.{up_second}
+use Rattle.fare_legs.specs.Costs.{IsUpTo}
+use Rattle.fare_legs.proofs.LeastLemmas.{capped_up}
+use Rattle.fare_legs.proofs.ReachLemmas.{up_second}
 use Rattle.fare_homing.proofs.whole.with_half.Goals as goal
 
 pub returns-clause-half : goal.returns-clause-half

@@ -1,5 +1,5 @@
 use Rattle.fare_rules.specs.Direction.{priced_back}
-use Rattle.fare_units.proofs.parts.direction.priced_back.Goals as goal
+use Rattle.fare_lawful.proofs.parts.direction.priced_back.Goals as goal
 
 pub returns : goal.returns
 unfolding priced_back

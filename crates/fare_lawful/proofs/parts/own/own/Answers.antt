@@ -1,7 +1,7 @@
 use Rattle.std.proofs.Common.{◌+◌, ◌∙◌, length, sym, arith}
 use Rattle.fare_rules.specs.Construction.{own}
 use Rattle.fare_lawful.proofs.OwnLemmas.{own_all, they_are_places}
-use Rattle.fare_units.proofs.parts.own.own.Goals as goal
+use Rattle.fare_lawful.proofs.parts.own.own.Goals as goal
 
 pub returns-clause-places : goal.returns-clause-places
 unfolding own

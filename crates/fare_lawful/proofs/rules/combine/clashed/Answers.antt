@@ -1,6 +1,6 @@
 use Rattle.std.proofs.Common.{rules, tests}
 use Rattle.fare_rules.specs.UnitRules.{clashes, clashed}
-use Rattle.fare_units.proofs.rules.combine.clashed.Goals as goal
+use Rattle.fare_lawful.proofs.rules.combine.clashed.Goals as goal
 
 pub returns : goal.returns
 unfolding clashed

@@ -1,6 +1,6 @@
 use Rattle.std.proofs.Common.{rules, tests}
 use Rattle.fare_rules.specs.Construction.{is_misnumbered, misnumbered}
-use Rattle.fare_units.proofs.rules.cover.misnumbered.Goals as goal
+use Rattle.fare_lawful.proofs.rules.cover.misnumbered.Goals as goal
 
 pub returns : goal.returns
 unfolding misnumbered

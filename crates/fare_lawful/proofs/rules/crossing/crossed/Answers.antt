@@ -1,6 +1,6 @@
 use Rattle.std.proofs.Common.{rules, tests}
 use Rattle.fare_rules.specs.Shape.{is_crossed, crossed}
-use Rattle.fare_units.proofs.rules.crossing.crossed.Goals as goal
+use Rattle.fare_lawful.proofs.rules.crossing.crossed.Goals as goal
 
 pub returns : goal.returns
 unfolding crossed

@@ -2,7 +2,7 @@ use Rattle.std.proofs.Common.{◌≡◌, false, refl, sym, ◌∙◌, rules, tes
 use Rattle.std.proofs.lemmas.Iterator.{YieldsList-from_range}
 use Rattle.std.proofs.lemmas.Iterator.Search.{any_from_yields_List}
 use Rattle.fare_rules.specs.Shape.{is_same_unit}
-use Rattle.fare_units.proofs.rules.crossing.is_begun_before.Goals as goal
+use Rattle.fare_lawful.proofs.rules.crossing.is_begun_before.Goals as goal
 
 pub returns-then-not-is_same_unit : goal.returns-then-not-is_same_unit
 returns-then-not-is_same_unit c =

@@ -2,7 +2,7 @@ use Rattle.std.proofs.Common.{◌≡◌, ◌+◌, true, refl, sym, ◌∙◌, ru
 use Rattle.std.proofs.lemmas.Iterator.{YieldsList-from_range}
 use Rattle.std.proofs.lemmas.Iterator.Search.{any_from_yields_List}
 use Rattle.fare_rules.specs.Shape.{is_same_unit, is_begun_before}
-use Rattle.fare_units.proofs.rules.crossing.is_straddled.Goals as goal
+use Rattle.fare_lawful.proofs.rules.crossing.is_straddled.Goals as goal
 
 pub returns-then-is_same_unit : goal.returns-then-is_same_unit
 returns-then-is_same_unit c =

@@ -1,7 +1,7 @@
 use Rattle.std.proofs.Common.{◌≡◌, ◌+◌, true, false, Some, find, refl, sym, ◌∙◌, arith}
 use Rattle.fare_rules.specs.Numbers.{numbers}
 use Rattle.fare_rules.proofs.NumberLemmas.{find_next}
-use Rattle.fare_units.proofs.rules.first.first_that.Goals as goal
+use Rattle.fare_lawful.proofs.rules.first.first_that.Goals as goal
 
 pub returns-then-meets : goal.returns-then-meets
 returns-then-meets g c test agrees =

@@ -1,7 +1,7 @@
 -- what is left is searched as the whole
 use Rattle.std.proofs.Common.{◌≡◌, ℕ, Bool, ◌+◌, ◌≤◌, find}
 use Rattle.fare_rules.specs.Numbers.{numbers}
-use Rattle.fare_units.proofs.rules.first.first_that.Given as goal
+use Rattle.fare_lawful.proofs.rules.first.first_that.Given as goal
 
 abbrev pub invariant-loop-k : goal.invariant-loop-k
 invariant-loop-k g l =

@@ -2,7 +2,7 @@ use Rattle.std.proofs.Common.{ap, ◌∙◌}
 use Rattle.fare_codes.specs.declared.city.City.{City}
 use Rattle.fare_rules.specs.Construction.{start_city, end_city}
 use Rattle.fare_rules.specs.Shape.{is_only_gap}
-use Rattle.fare_units.proofs.rules.shape.is_gap_before.Goals as goal
+use Rattle.fare_lawful.proofs.rules.shape.is_gap_before.Goals as goal
 
 pub returns : goal.returns
 returns c =

@@ -1,4 +1,4 @@
-use Rattle.fare_units.proofs.rules.shape.is_jaw.Goals as goal
+use Rattle.fare_lawful.proofs.rules.shape.is_jaw.Goals as goal
 
 pub returns : goal.returns
 returns c =

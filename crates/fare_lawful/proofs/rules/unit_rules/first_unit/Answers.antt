@@ -1,7 +1,7 @@
 use Rattle.std.proofs.Common.{◌≡◌, ℕ, ◌+◌, find, subst, rules, tests}
 use Rattle.fare_rules.specs.Numbers.{numbers}
 use Rattle.fare_lawful.specs.Tests.{unit_breaks}
-use Rattle.fare_units.proofs.rules.unit_rules.first_unit.Goals as goal
+use Rattle.fare_lawful.proofs.rules.unit_rules.first_unit.Goals as goal
 
 pub returns : goal.returns
 returns c =

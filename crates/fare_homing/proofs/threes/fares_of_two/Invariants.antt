@@ -1,6 +1,0 @@
--- none of the fares so far may be one of three in a unit
-use Rattle.fare_homing.specs.Threes.{AreOfTwo}
-use Rattle.fare_homing.proofs.threes.fares_of_two.Given as goal
-
-abbrev pub invariant-loop-place : goal.invariant-loop-place
-invariant-loop-place l = AreOfTwo l.table.edition l.table.trip l.fares

@@ -1,0 +1,8 @@
+pub mod ReachLemmas
+pub mod FloorLemmas
+pub mod CountryLemmas
+pub mod RuleLemmas
+pub mod LeastLemmas
+pub mod LegLemmas
+pub mod OwedLemmas
+pub mod ThreeLemmas

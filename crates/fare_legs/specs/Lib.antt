@@ -1,0 +1,13 @@
+pub use Rattle.fare_component.specs.Table
+pub use Rattle.fare_bounds.specs.Covers
+pub mod Barred
+pub mod Ceiling
+pub mod Countries
+pub mod Costs
+pub mod Floor
+pub mod Least
+pub mod Pairs
+pub mod Owed
+pub mod Legs
+pub mod Lonely
+pub mod Threes
