@@ -12,7 +12,7 @@ use Rattle.fare_tariff.specs.declared.records.city_record.CityRec.{CityRec}
 use Rattle.fare_tariff.specs.declared.records.record.Record.{Record}
 use Rattle.fare_tariff.specs.declared.records.record.Record.TheVariants as filed
 use Rattle.fare_tariff.specs.Record.{CurrencyRecord, RuleRecord, FareRecord, MileageRecord, PairRecord, AllowanceRecord}
-use Rattle.fare_tariff.specs.Lookup.{same_rule, same_via}
+use Rattle.fare_tariff.specs.Fields.{same_rule, same_via}
 
 -- two areas are the same
 abbrev pub same_area : Area → Area → Bool

@@ -21,7 +21,8 @@ use Rattle.fare_codes.specs.Season.{season_holds}
 use Rattle.fare_trip.specs.Itinerary.{Itinerary, point}
 use Rattle.fare_tariff.specs.declared.records.fare_key.FareKey.{FareKey}
 use Rattle.fare_tariff.specs.Filed.{FilesFareOn, IsFareOn}
-use Rattle.fare_tariff.specs.Lookup.{fare_at, fare_number, has_key, same_rule}
+use Rattle.fare_tariff.specs.Lookup.{fare_at, fare_number, has_key}
+use Rattle.fare_tariff.specs.Fields.{same_rule}
 use Rattle.fare_tariff.specs.Record.{FareRecord}
 use Rattle.fare_tariff.specs.Tariff.{Tariff}
 use Rattle.fare_rules.specs.Base.{reference_between}

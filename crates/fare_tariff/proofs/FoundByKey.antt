@@ -15,7 +15,8 @@ use Rattle.fare_index.specs.Pairs.{permitted_key, ticketed_key, extra_key}
 use Rattle.fare_index.proofs.SamePairs.{unordered}
 use Rattle.fare_tariff.specs.declared.records.record.Record.{Record}
 use Rattle.fare_tariff.specs.declared.records.record.Record.TheVariants as filed
-use Rattle.fare_tariff.specs.Lookup.{first_some, same_pair, same_via, city_in, currency_in, rule_in, rule_of, mpm_in, tpm_in, is_fare_between}
+use Rattle.fare_tariff.specs.Lookup.{first_some, city_in, currency_in, rule_in, rule_of, mpm_in, tpm_in, is_fare_between}
+use Rattle.fare_tariff.specs.Fields.{same_pair, same_via}
 use Rattle.fare_tariff.specs.Check.{is_allowance_of}
 use Rattle.fare_tariff.specs.Keyed.{own_key, has_own_key, IsAmong}
 

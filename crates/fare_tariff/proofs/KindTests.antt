@@ -13,7 +13,8 @@ use Rattle.fare_tariff.specs.declared.records.record.Record.TheVariants as filed
 use Rattle.fare_tariff.specs.declared.records.fare_key.FareKey.{FareKey}
 use Rattle.fare_tariff.specs.declared.check.check_kind.CheckKind.{CheckKind}
 use Rattle.fare_tariff.specs.Record.{FareRecord}
-use Rattle.fare_tariff.specs.Check.{kind_of, kind_where, key_of, has_key_of, is_fare_of, is_fare_over, first_number, overlap_of, names_unknown_city, names_unknown_rule, names_unknown_currency, is_one_too_many, has_same_points, is_zero_mileage, is_out_of_limit, is_one_unknown, is_unknown_rule, seasons_overlap}
+use Rattle.fare_tariff.specs.Check.{kind_of, kind_where, key_of, has_key_of, is_fare_of, is_fare_over, first_number, overlap_of, names_unknown_city, names_unknown_rule, names_unknown_currency, is_one_too_many, has_same_points, is_zero_mileage, is_out_of_limit, is_one_unknown, is_unknown_rule}
+use Rattle.fare_tariff.specs.Seasons.{seasons_overlap}
 use Rattle.fare_tariff.specs.Lookup.{number_at, has_key}
 use Rattle.fare_tariff.specs.Faulty.{clashes, clash_of, has_kind_at, is_faulty}
 use Rattle.fare_tariff.proofs.Found.{bytes_eq-true}

@@ -13,7 +13,8 @@ use Rattle.fare_tariff.specs.declared.records.record.Record.TheVariants as filed
 use Rattle.fare_tariff.specs.declared.records.fare_key.FareKey.{FareKey}
 use Rattle.fare_tariff.specs.declared.look_up.seek.Sought.{Sought}
 use Rattle.fare_tariff.specs.declared.look_up.seek.Sought.TheVariants.{On, Of, Over}
-use Rattle.fare_tariff.specs.Lookup.{greatest, numbers_from, is_fare_between, same_pair, same_via, is_by_way_of, allowance_in}
+use Rattle.fare_tariff.specs.Lookup.{greatest, numbers_from, is_fare_between, is_by_way_of, allowance_in}
+use Rattle.fare_tariff.specs.Fields.{same_pair, same_via}
 use Rattle.fare_tariff.specs.Keyed.{has_own_key, extra_miles}
 use Rattle.fare_tariff.specs.Sought.{is_sought}
 use Rattle.fare_tariff.proofs.Chain.{LooksAt}

@@ -16,8 +16,10 @@ use Rattle.fare_tariff.specs.declared.records.record.Record.TheVariants as filed
 use Rattle.fare_tariff.specs.declared.records.fare_key.FareKey.{FareKey}
 use Rattle.fare_tariff.specs.Record.{FareRecord}
 use Rattle.fare_tariff.specs.Tariff.{Tariff}
-use Rattle.fare_tariff.specs.Lookup.{fare_at, fare_number, has_key, is_fare_on, number_at, same_rule}
-use Rattle.fare_tariff.specs.Check.{first_fault, is_fare_over, key_of, seasons_overlap}
+use Rattle.fare_tariff.specs.Lookup.{fare_at, fare_number, has_key, is_fare_on, number_at}
+use Rattle.fare_tariff.specs.Fields.{same_rule}
+use Rattle.fare_tariff.specs.Check.{first_fault, is_fare_over, key_of}
+use Rattle.fare_tariff.specs.Seasons.{seasons_overlap}
 use Rattle.fare_tariff.specs.Filed.{FilesFareOn, IsFareOn}
 use Rattle.fare_tariff.proofs.Validity.{HasNoKind, no_kind_at, option_map-none}
 use Rattle.fare_tariff.proofs.Found.{bytes_eq-true}

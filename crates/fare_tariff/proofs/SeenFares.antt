@@ -20,7 +20,8 @@ use Rattle.fare_tariff.specs.declared.records.record.Record.TheVariants as filed
 use Rattle.fare_tariff.specs.declared.records.fare_key.FareKey.{FareKey}
 use Rattle.fare_tariff.specs.Record.{FareRecord}
 use Rattle.fare_tariff.specs.Lookup.{is_fare_between, has_key}
-use Rattle.fare_tariff.specs.Check.{is_fare_over, key_of, seasons_overlap}
+use Rattle.fare_tariff.specs.Check.{is_fare_over, key_of}
+use Rattle.fare_tariff.specs.Seasons.{seasons_overlap}
 use Rattle.fare_tariff.specs.Faulty.{clash_of, clashes}
 use Rattle.fare_tariff.specs.Keyed.{before, own_key, has_own_key}
 use Rattle.fare_tariff.specs.Seen.{bucket_of, bucket_of_key, marked, may_clash, none_seen, noted}

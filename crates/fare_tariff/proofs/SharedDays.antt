@@ -4,7 +4,7 @@ use Rattle.std.proofs.lemmas.Bool.Decides.{nat_tests}
 use Rattle.fare_codes.specs.declared.season.Season.{Season}
 use Rattle.fare_codes.specs.Day.{place_in_year, is_month_day}
 use Rattle.fare_codes.specs.Season.{season_holds}
-use Rattle.fare_tariff.specs.Check.{seasons_overlap, ShareADay}
+use Rattle.fare_tariff.specs.Seasons.{seasons_overlap, ShareADay}
 
 -- a season of two places in the year holds a place
 abbrev holds_place : ℕ → ℕ → ℕ → Bool

@@ -3,7 +3,7 @@ use Rattle.std.proofs.Common.{◌≡◌, true, List, [], ◌∷◌, map, refl}
 use Rattle.std.specs.List.{AllZip, list_all}
 use Rattle.fare_index.specs.declared.key.Key.{Key}
 use Rattle.fare_tariff.specs.declared.records.record.Record.{Record}
-use Rattle.fare_tariff.specs.Check.{has_amount_in_range}
+use Rattle.fare_tariff.specs.Keyed.{has_amount_in_range}
 use Rattle.fare_tariff.specs.Keyed.{own_key}
 
 -- what holds of a record and its key

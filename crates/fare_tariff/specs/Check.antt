@@ -1,6 +1,6 @@
 -- What makes a list of records no edition: the check kinds of a record, and the fault of the least record.
 use Rattle.std.specs.Prelude.{ℕ, ◌+◌, ◌<◌, ◌≤◌, ◌≡◌, Bool, true, false, List, [], ◌∷◌, length, take, Option, Some, None}
-use Rattle.std.specs.Prelude.{is_some, is_none, option_map, position, count_by, Result, Ok, Err, bytes_eq, ◌&&◌, ◌||◌}
+use Rattle.std.specs.Prelude.{is_some, is_none, option_map, position, count_by, Result, Ok, Err, bytes_eq, ◌&&◌}
 use Rattle.std.specs.Prelude.{◌==◌, nat_le, nat_lt, if◌then◌else◌}
 use Rattle.std.specs.List.{list_any, list_all}
 use Rattle.std.specs.Option.{option_or, option_to_list}
@@ -10,10 +10,7 @@ use Rattle.fare_codes.specs.declared.indicator.Indicator.{Indicator}
 use Rattle.fare_codes.specs.declared.day.Day.{Day}
 use Rattle.fare_codes.specs.declared.season.Season.{Season}
 use Rattle.fare_codes.specs.declared.limits.TheConstants.{LAST_EDITION}
-use Rattle.fare_codes.specs.declared.nuc.TheConstants.{FARE_LIMIT}
-use Rattle.fare_codes.specs.Day.{is_month_day}
 use Rattle.fare_codes.specs.Same.{same_indicator, same_season}
-use Rattle.fare_codes.specs.Season.{season_holds}
 use Rattle.fare_tariff.specs.declared.limits.TheConstants.{MOST_FARES_BETWEEN, MOST_RECORDS}
 use Rattle.fare_tariff.specs.declared.records.record.Record.{Record}
 use Rattle.fare_tariff.specs.declared.records.record.Record.TheVariants as filed
@@ -26,7 +23,10 @@ use Rattle.fare_tariff.specs.declared.check.check_fault.CheckFault.{CheckFault}
 use Rattle.fare_tariff.specs.declared.check.check_fault.CheckFault.TheVariants.{At}
 use Rattle.fare_tariff.specs.Record.{FareRecord}
 use Rattle.fare_tariff.specs.Tariff.{Tariff}
-use Rattle.fare_tariff.specs.Lookup.{first_some, same_pair, same_via, city_in, currency_in, has_key, rule_in, mpm_in}
+use Rattle.fare_tariff.specs.Keyed.{has_amount_in_range}
+use Rattle.fare_tariff.specs.Seasons.{seasons_overlap}
+use Rattle.fare_tariff.specs.Lookup.{first_some, city_in, currency_in, has_key, rule_in, mpm_in}
+use Rattle.fare_tariff.specs.Fields.{same_pair, same_via}
 use Rattle.fare_tariff.specs.Lookup.{tpm_in, number_at, is_fare_between}
 
 -- the key of a filed fare without its season
@@ -121,17 +121,6 @@ is_zero_mileage _ = false
 abbrev pub is_out_of_limit : List Record → Bool
 is_out_of_limit earlier = nat_lt (MOST_RECORDS + 1) (number_at (length earlier))
 
--- one of two seasons holds the other's first day: a test that is true exactly where some month-day lies in both
-abbrev pub seasons_overlap : Season → Season → Bool
-seasons_overlap a b = season_holds a b.first || season_holds b a.first
-
--- some month-day lies in both seasons
-pub record ShareADay (a b : Season) : Type 0 where
-  pub on : List ℕ
-  pub is_a_day : is_month_day on ≡ true
-  pub in_first : season_holds a on ≡ true
-  pub in_second : season_holds b on ≡ true
-
 -- a record files a fare that has a key and whose season overlaps a season
 abbrev pub is_fare_over : FareKey → Season → Record → Bool
 is_fare_over key season (filed.Fare r) = has_key key r && seasons_overlap r.season season
@@ -182,11 +171,6 @@ unless (Some fault) value = Err fault
 abbrev pub check_edition : ℕ → Day → List Record → Result Tariff CheckFault
 check_edition number effective records =
     unless (first_fault records) (record { number = number; effective = effective; records = records })
-
--- a fare that a record files is below 10,000,000.00
-abbrev pub has_amount_in_range : Record → Bool
-has_amount_in_range (filed.Fare r) = nat_lt r.amount FARE_LIMIT
-has_amount_in_range _ = true
 
 -- an edition's number is 1 to the last one, each fare's amount is in its range, and no record of it has a check kind
 pub record IsEdition (number : ℕ) (records : List Record) : Type 0 where

@@ -2,13 +2,18 @@
 use Rattle.std.specs.Prelude.{◌≡◌, ◌<◌, ℕ, Bool, true, List, Option, Some, None, map, length, nat_lt, slice_get}
 use Rattle.std.specs.Prelude.{slice_index_or, if◌then◌else◌}
 use Rattle.std.specs.List.{list_all}
+use Rattle.fare_codes.specs.declared.nuc.TheConstants.{FARE_LIMIT}
 use Rattle.fare_index.specs.declared.key.Key.{Key}
 use Rattle.fare_index.specs.declared.key.Key.TheVariants as kind
 use Rattle.fare_index.specs.Key.{same_key}
 use Rattle.fare_index.specs.Pairs.{permitted_key, ticketed_key, extra_key}
 use Rattle.fare_tariff.specs.declared.records.record.Record.{Record}
 use Rattle.fare_tariff.specs.declared.records.record.Record.TheVariants as filed
-use Rattle.fare_tariff.specs.Check.{has_amount_in_range}
+
+-- a fare that a record files is below 10,000,000.00
+abbrev pub has_amount_in_range : Record → Bool
+has_amount_in_range (filed.Fare r) = nat_lt r.amount FARE_LIMIT
+has_amount_in_range _ = true
 
 -- the key of a record: that of a fare is its from, to and indicator, and a pair of miles is unordered
 abbrev pub own_key : Record → Key

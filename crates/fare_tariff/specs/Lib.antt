@@ -3,6 +3,8 @@ pub use Rattle.fare_codes.specs.Day
 pub use Rattle.fare_codes.specs.Same
 pub use Rattle.fare_codes.specs.Season
 pub mod Record
+pub mod Fields
+pub mod Seasons
 pub mod Tariff
 pub mod Lookup
 pub mod Check

@@ -1,6 +1,6 @@
 -- The look-ups of an edition: each searches its one list of records.
 use Rattle.std.specs.Prelude.{ℕ, ◌+◌, ◌-◌, Bool, true, false, List, [], ◌∷◌, Option, Some, None, option_map, drop}
-use Rattle.std.specs.Prelude.{option_and_then, position, slice_get, bytes_eq, ◌&&◌, ◌||◌, nat_le, max, if◌then◌else◌}
+use Rattle.std.specs.Prelude.{option_and_then, position, slice_get, bytes_eq, ◌&&◌, nat_le, max, if◌then◌else◌}
 use Rattle.std.specs.List.{list_any, position_from}
 use Rattle.std.specs.Option.{option_or}
 use Rattle.fare_codes.specs.declared.city.City.{City}
@@ -20,27 +20,12 @@ use Rattle.fare_tariff.specs.declared.records.terms.Terms.{Terms}
 use Rattle.fare_tariff.specs.declared.records.fare_key.FareKey.{FareKey}
 use Rattle.fare_tariff.specs.Record.{CurrencyRecord, RuleRecord, FareRecord}
 use Rattle.fare_tariff.specs.Tariff.{Tariff}
+use Rattle.fare_tariff.specs.Fields.{same_pair, same_rule}
 
 -- the first answer that a record of a list gives
 abbrev pub first_some : {A : Type 0} → (Record → Option A) → List Record → Option A
 first_some answer [] = None
 first_some answer (one ∷ records) = option_or (answer one) (first_some answer records)
-
--- two rule fields are the same, of which nothing is the free rule
-abbrev pub same_rule : Option RuleId → Option RuleId → Bool
-same_rule None None = true
-same_rule (Some a) (Some b) = bytes_eq a b
-same_rule _ _ = false
-
--- two via fields are the same, of which nothing is every way
-abbrev pub same_via : Option City → Option City → Bool
-same_via None None = true
-same_via (Some a) (Some b) = bytes_eq a b
-same_via _ _ = false
-
--- two unordered pairs of cities are the same
-abbrev pub same_pair : City → City → City → City → Bool
-same_pair a b c d = (bytes_eq a c && bytes_eq b d) || (bytes_eq a d && bytes_eq b c)
 
 -- the city that a record files, where it is this one
 abbrev pub city_in : City → Record → Option CityRec

@@ -5,7 +5,7 @@ ghost use Rattle.std.specs.List.{AllZip, list_all, position_from};
 ghost use Rattle.std.specs.Option.{option_copied};
 ghost use Rattle.fare_index.specs.Key.{same_key};
 ghost use Rattle.fare_tariff.specs.declared.records.record.Record.{Record};
-ghost use Rattle.fare_tariff.specs.Check.{has_amount_in_range};
+ghost use Rattle.fare_tariff.specs.Keyed.{has_amount_in_range};
 ghost use Rattle.fare_codes.specs.declared.nuc.TheConstants.{FARE_LIMIT};
 ghost use Rattle.fare_tariff.specs.Keyed.{own_key, has_own_key, IsAmong, HasKeyAt};
 

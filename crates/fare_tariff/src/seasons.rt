@@ -1,7 +1,7 @@
 //! Two seasons beside one another.
 
 ghost use Rattle.std.specs.Prelude.{◌≡◌, IsTrue};
-ghost use Rattle.fare_tariff.specs.Check.{seasons_overlap, ShareADay};
+ghost use Rattle.fare_tariff.specs.Seasons.{seasons_overlap, ShareADay};
 
 use fare_codes::Season;
 

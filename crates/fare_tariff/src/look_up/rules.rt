@@ -5,7 +5,8 @@ ghost use Rattle.std.specs.Option.{option_copied};
 ghost use Rattle.std.specs.List.{list_any};
 ghost use Rattle.fare_tariff.specs.Filed.{AreInRange};
 ghost use Rattle.fare_tariff.specs.Lookup.{first_some, rule_in, rule_of, rule_record, terms_of, free_terms};
-ghost use Rattle.fare_tariff.specs.Lookup.{terms, lists, lists_in, same_rule, unit_names, end_names, unit_ok, ends_ok};
+ghost use Rattle.fare_tariff.specs.Lookup.{terms, lists, lists_in, unit_names, end_names, unit_ok, ends_ok};
+ghost use Rattle.fare_tariff.specs.Fields.{same_rule};
 
 use crate::edition::Edition;
 use crate::filed::Filed;

@@ -1,7 +1,7 @@
 //! Fields of records beside one another: the rules of fares, the via cities of allowances, and pairs of cities.
 
 ghost use Rattle.std.specs.Prelude.{◌≡◌, ◌↔◌, IsTrue};
-ghost use Rattle.fare_tariff.specs.Lookup.{same_rule, same_via, same_pair};
+ghost use Rattle.fare_tariff.specs.Fields.{same_rule, same_via, same_pair};
 
 use fare_codes::{City, RuleId};
 

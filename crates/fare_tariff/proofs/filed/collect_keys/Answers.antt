@@ -2,7 +2,7 @@
 use Rattle.std.proofs.Common.{◌≡◌, true, ap, ◌∙◌}
 use Rattle.rayon.proofs.ListFacts.{IfOk-then}
 use Rattle.rayon.proofs.ToStd.{slice-AllZip}
-use Rattle.fare_tariff.specs.Check.{has_amount_in_range}
+use Rattle.fare_tariff.specs.Keyed.{has_amount_in_range}
 use Rattle.fare_tariff.specs.Keyed.{own_key}
 use Rattle.fare_tariff.proofs.filed.collect_keys.Goals as goal
 
