@@ -56,7 +56,7 @@ impl<'a> Model for Sheets<'a> {
 
 impl<'a> Sheets<'a> {
     ghost use Rattle.std.specs.Prelude.{Some, option_map};
-    ghost use Rattle.fare_tariff.specs.Record.{IsCurrency};
+    ghost use Rattle.fare_records.specs.Record.{IsCurrency};
     ghost use Rattle.fare_rules.specs.UnitPrice.{price};
     ghost use Rattle.fare_calc.specs.PartSheets.{home_currency};
     ghost use Rattle.fare_calc.specs.Worksheet.{local_amount};

@@ -2,9 +2,9 @@
 use Rattle.std.proofs.Common.{◌≡◌, ℕ, zero, suc, Bool, true, false, ◌||◌, List, [], ◌∷◌, length, get_or, ◌<◌, ap, refl, sym, ◌∙◌, arith}
 use Rattle.fare_index.specs.Key.{same_key}
 use Rattle.fare_index.specs.SameKeys.{same_key-refl}
-use Rattle.fare_tariff.specs.declared.records.record.Record.{Record}
-use Rattle.fare_tariff.specs.Keyed.{own_key, has_own_key}
-use Rattle.fare_tariff.proofs.Chain.{LooksAt}
+use Rattle.fare_records.specs.declared.record.Record.{Record}
+use Rattle.fare_records.specs.Keyed.{own_key, has_own_key}
+use Rattle.fare_records.proofs.Chain.{LooksAt}
 use Rattle.fare_changes.specs.SameRecord.{same_record}
 use Rattle.fare_changes.specs.Diff.{is_in}
 use Rattle.fare_changes.proofs.SameRecords.{record_true}

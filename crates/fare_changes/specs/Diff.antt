@@ -1,7 +1,7 @@
 -- What changed between two editions: the records that one of them alone has.
 use Rattle.std.specs.Prelude.{ℕ, Bool, not, List, ◌++◌, filter, count_by}
 use Rattle.std.specs.List.{list_any}
-use Rattle.fare_tariff.specs.declared.records.record.Record.{Record}
+use Rattle.fare_records.specs.declared.record.Record.{Record}
 use Rattle.fare_tariff.specs.Tariff.{Tariff}
 use Rattle.fare_changes.specs.SameRecord.{same_record}
 

@@ -6,13 +6,13 @@ use Rattle.fare_codes.specs.declared.mode.Mode.{Mode}
 use Rattle.fare_codes.specs.declared.mode.Mode.TheVariants.{Up, Nearest}
 use Rattle.fare_codes.specs.declared.rule_id.RuleId.{RuleId}
 use Rattle.fare_codes.specs.Same.{same_indicator, same_cabin, same_kind, same_season}
-use Rattle.fare_tariff.specs.declared.records.names.Names.{Names}
-use Rattle.fare_tariff.specs.declared.records.names.Names.TheVariants.{All, Of}
-use Rattle.fare_tariff.specs.declared.records.city_record.CityRec.{CityRec}
-use Rattle.fare_tariff.specs.declared.records.record.Record.{Record}
-use Rattle.fare_tariff.specs.declared.records.record.Record.TheVariants as filed
-use Rattle.fare_tariff.specs.Record.{CurrencyRecord, RuleRecord, FareRecord, MileageRecord, PairRecord, AllowanceRecord}
-use Rattle.fare_tariff.specs.Fields.{same_rule, same_via}
+use Rattle.fare_records.specs.declared.names.Names.{Names}
+use Rattle.fare_records.specs.declared.names.Names.TheVariants.{All, Of}
+use Rattle.fare_records.specs.declared.city_record.CityRec.{CityRec}
+use Rattle.fare_records.specs.declared.record.Record.{Record}
+use Rattle.fare_records.specs.declared.record.Record.TheVariants as filed
+use Rattle.fare_records.specs.Record.{CurrencyRecord, RuleRecord, FareRecord, MileageRecord, PairRecord, AllowanceRecord}
+use Rattle.fare_records.specs.Fields.{same_rule, same_via}
 
 -- two areas are the same
 abbrev pub same_area : Area → Area → Bool

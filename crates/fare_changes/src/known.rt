@@ -1,7 +1,7 @@
 //! The records of an edition by their keys, and where a record is in it.
 
 ghost use Rattle.std.specs.Prelude.{◌≡◌, true, IfOk, IsTrue, is_some, map};
-ghost use Rattle.fare_tariff.specs.Keyed.{own_key};
+ghost use Rattle.fare_records.specs.Keyed.{own_key};
 ghost use Rattle.fare_changes.specs.Diff.{is_in};
 ghost use Rattle.fare_changes.specs.Known.{IsKnown};
 

@@ -1,7 +1,7 @@
 //! What follows for every two editions, with nothing to run: what a diff tells is enough to make the one from the other.
 
 ghost use Rattle.std.specs.Prelude.{◌≡◌, ◌+◌, ◌<◌, ℕ, length, IsPermutation, slice_index_or};
-ghost use Rattle.fare_tariff.specs.declared.records.record.Record.{Record};
+ghost use Rattle.fare_records.specs.declared.record.Record.{Record};
 ghost use Rattle.fare_changes.specs.Diff.{added, changed, removed, same_count};
 
 use fare_tariff::Edition;

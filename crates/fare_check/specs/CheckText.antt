@@ -2,7 +2,7 @@
 use Rattle.std.specs.Prelude.{ℕ, ◌-◌, List, [], ◌∷◌, ◌++◌, length, map, take, codes, decimal, Option, Some, None}
 use Rattle.std.specs.Prelude.{Result, Ok, Err, ◌==◌, ◌&&◌, nat_le, if◌then◌else◌}
 use Rattle.std.specs.List.{concat, join_with_byte}
-use Rattle.fare_tariff.specs.declared.records.record.Record.{Record}
+use Rattle.fare_records.specs.declared.record.Record.{Record}
 use Rattle.fare_tariff.specs.Tariff.{Tariff}
 use Rattle.fare_csv.specs.declared.text_fault.TextFault.{TextFault}
 use Rattle.fare_csv.specs.declared.head.Version.{Version}

@@ -1,7 +1,7 @@
 //! The records that have a fault beside one another: their places, found on all processors, and the fault at each.
 
 ghost use Rattle.std.specs.Prelude.{◌≡◌, ◌<◌, ◌≤◌, length, drop, option_map, slice_index_or, if◌then◌else◌, IfOk, OnOk};
-ghost use Rattle.fare_tariff.specs.declared.records.record.Record.{Record};
+ghost use Rattle.fare_records.specs.declared.record.Record.{Record};
 ghost use Rattle.fare_tariff.specs.Check.{fault_at, first_fault};
 ghost use Rattle.fare_tariff.specs.Faulty.{has_kind_at};
 ghost use Rattle.fare_csv.specs.CheckedFault.{checked_fault};

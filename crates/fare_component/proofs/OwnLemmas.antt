@@ -19,11 +19,11 @@ use Rattle.fare_codes.specs.Day.{month_day_of}
 use Rattle.fare_codes.specs.Same.{same_cabin, same_indicator, same_kind}
 use Rattle.fare_codes.specs.Season.{season_holds}
 use Rattle.fare_trip.specs.Itinerary.{Itinerary, point}
-use Rattle.fare_tariff.specs.declared.records.fare_key.FareKey.{FareKey}
+use Rattle.fare_records.specs.declared.fare_key.FareKey.{FareKey}
 use Rattle.fare_tariff.specs.Filed.{FilesFareOn, IsFareOn}
 use Rattle.fare_tariff.specs.Lookup.{fare_at, fare_number, has_key}
-use Rattle.fare_tariff.specs.Fields.{same_rule}
-use Rattle.fare_tariff.specs.Record.{FareRecord}
+use Rattle.fare_records.specs.Fields.{same_rule}
+use Rattle.fare_records.specs.Record.{FareRecord}
 use Rattle.fare_tariff.specs.Tariff.{Tariff}
 use Rattle.fare_rules.specs.Base.{reference_between}
 use Rattle.fare_rules.specs.ComponentAmount.{has_indicator, in_season, is_filed_between, runs_between}

@@ -4,7 +4,7 @@ use Rattle.std.specs.Prelude.{option_map, filter, filter_map, flat_map, unwrap_o
 use Rattle.fare_codes.specs.declared.nuc.Nuc.{Nuc}
 use Rattle.fare_codes.specs.declared.nuc.TheConstants.{FARE_LIMIT}
 use Rattle.fare_trip.specs.Itinerary.{Itinerary, count}
-use Rattle.fare_tariff.specs.Record.{FareRecord}
+use Rattle.fare_records.specs.Record.{FareRecord}
 use Rattle.fare_tariff.specs.Tariff.{Tariff}
 use Rattle.fare_rules.specs.declared.limits.TheConstants.{MOST_POINTS}
 use Rattle.fare_rules.specs.Numbers.{greatest_of, numbers}

@@ -8,7 +8,7 @@ use Rattle.std.proofs.lemmas.List.{append-nil, length-append, nil_from_length}
 use Rattle.std.proofs.lemmas.List.Folds.{list_all-append}
 use Rattle.csv.specs.Machine.{next_record}
 use Rattle.csv.specs.declared.parser.State.TheVariants as st
-use Rattle.fare_tariff.specs.declared.records.record.Record.{Record}
+use Rattle.fare_records.specs.declared.record.Record.{Record}
 use Rattle.fare_csv.specs.declared.head.Version.{Version}
 use Rattle.fare_csv.specs.declared.text_fault.TextFault.{TextFault}
 use Rattle.fare_csv.specs.Lines.{is_plain_byte, is_plain_field, is_plain_row, line_of}

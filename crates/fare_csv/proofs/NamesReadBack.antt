@@ -9,9 +9,9 @@ use Rattle.std.proofs.lemmas.List.{length-map}
 use Rattle.std.proofs.lemmas.List.Elements.{All-cons, All-nil}
 use Rattle.std.proofs.lemmas.List.Splits.{slice_split_at, slice_split_none}
 use Rattle.fare_codes.specs.Codes.{is_code_character, is_rule_id}
-use Rattle.fare_tariff.specs.declared.records.names.Names.{Names}
-use Rattle.fare_tariff.specs.declared.records.names.Names.TheVariants as listed
-use Rattle.fare_tariff.specs.Record.{name_count}
+use Rattle.fare_records.specs.declared.names.Names.{Names}
+use Rattle.fare_records.specs.declared.names.Names.TheVariants as listed
+use Rattle.fare_records.specs.Record.{name_count}
 use Rattle.fare_csv.specs.CanonicalText.{name_text, names_text}
 use Rattle.fare_csv.specs.NameList.{names_of, read_list, read_name, read_names}
 use Rattle.fare_csv.specs.ReadBack.{are_names, is_name}

@@ -5,7 +5,7 @@ use Rattle.std.specs.List.{concat}
 use Rattle.std.specs.Global.{Vec}
 use Rattle.std.specs.Prelude.{Result, Ok, Err}
 use Rattle.std.proofs.lemmas.List.{append-nil}
-use Rattle.fare_tariff.specs.declared.records.record.Record.{Record}
+use Rattle.fare_records.specs.declared.record.Record.{Record}
 use Rattle.fare_csv.specs.declared.pieces.NotInPieces.{NotInPieces}
 use Rattle.fare_csv.specs.Joined.{joined}
 

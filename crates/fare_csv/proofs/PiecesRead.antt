@@ -7,7 +7,7 @@ use Rattle.std.specs.List.{AllZip, concat}
 use Rattle.std.specs.Str.{bytes_eq}
 use Rattle.std.proofs.lemmas.Slice.Eq.{bytes_eq-Decides}
 use Rattle.csv.proofs.OnLiterals.{csv_on_literals}
-use Rattle.fare_tariff.specs.declared.records.record.Record.{Record}
+use Rattle.fare_records.specs.declared.record.Record.{Record}
 use Rattle.fare_csv.specs.declared.pieces.NotInPieces.{NotInPieces}
 use Rattle.fare_csv.specs.declared.head.Head.{Head}
 use Rattle.fare_csv.specs.declared.head.Version.{Version}

@@ -12,9 +12,9 @@ use Rattle.fare_codes.specs.Numbers.{nuc_text, rate_text, read_nuc, read_number,
 use Rattle.fare_codes.specs.Words.{area_text, cabin_text, indicator_text, kind_text, mode_text, read_area, read_cabin, read_indicator, read_kind, read_mode}
 use Rattle.fare_codes.specs.declared.area.Area.{Area}
 use Rattle.fare_codes.specs.declared.area.Area.TheVariants as area
-use Rattle.fare_tariff.specs.declared.records.city_record.CityRec.{CityRec}
-use Rattle.fare_tariff.specs.declared.records.record.Record.TheVariants as filed
-use Rattle.fare_tariff.specs.Record.{AllowanceRecord, CurrencyRecord, FareRecord, IsCurrency, IsRule, MileageRecord, PairRecord, RuleRecord}
+use Rattle.fare_records.specs.declared.city_record.CityRec.{CityRec}
+use Rattle.fare_records.specs.declared.record.Record.TheVariants as filed
+use Rattle.fare_records.specs.Record.{AllowanceRecord, CurrencyRecord, FareRecord, IsCurrency, IsRule, MileageRecord, PairRecord, RuleRecord}
 use Rattle.fare_csv.specs.CanonicalText.{excess_text, record_row, text_or_empty}
 use Rattle.fare_csv.specs.Fields.{counted}
 use Rattle.fare_csv.specs.Lines.{is_plain_field, is_plain_row}

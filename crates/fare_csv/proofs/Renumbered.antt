@@ -2,8 +2,8 @@
 use Rattle.std.proofs.Common.{◌≡◌, ℕ, List, [], ◌∷◌, length, Bool, true, false, refl}
 use Rattle.std.specs.Prelude.{Result, Ok, Err, Option, Some, None, ◌==◌, codes}
 use Rattle.std.specs.Str.{bytes_eq}
-use Rattle.fare_tariff.specs.declared.records.record.Record.{Record}
-use Rattle.fare_tariff.specs.declared.records.record.Record.TheVariants as filed
+use Rattle.fare_records.specs.declared.record.Record.{Record}
+use Rattle.fare_records.specs.declared.record.Record.TheVariants as filed
 use Rattle.fare_csv.specs.declared.head.Version.{Version}
 use Rattle.fare_csv.specs.declared.head.Version.TheVariants as version
 use Rattle.fare_csv.specs.declared.record_kind.RecordKind.{RecordKind}

@@ -3,12 +3,12 @@ use Rattle.std.specs.Prelude.{ℕ, Bool, true, false, List, [], ◌∷◌, ◌++
 use Rattle.std.specs.List.{join_with_byte}
 use Rattle.fare_codes.specs.Words.{area_text, indicator_text, mode_text, cabin_text, kind_text}
 use Rattle.fare_codes.specs.Numbers.{nuc_text, rate_text}
-use Rattle.fare_tariff.specs.declared.records.city_record.CityRec.{CityRec}
-use Rattle.fare_tariff.specs.declared.records.names.Names.{Names}
-use Rattle.fare_tariff.specs.declared.records.names.Names.TheVariants.{All, Of}
-use Rattle.fare_tariff.specs.declared.records.record.Record.{Record}
-use Rattle.fare_tariff.specs.declared.records.record.Record.TheVariants as filed
-use Rattle.fare_tariff.specs.Record.{CurrencyRecord, RuleRecord, FareRecord, MileageRecord, PairRecord, AllowanceRecord}
+use Rattle.fare_records.specs.declared.city_record.CityRec.{CityRec}
+use Rattle.fare_records.specs.declared.names.Names.{Names}
+use Rattle.fare_records.specs.declared.names.Names.TheVariants.{All, Of}
+use Rattle.fare_records.specs.declared.record.Record.{Record}
+use Rattle.fare_records.specs.declared.record.Record.TheVariants as filed
+use Rattle.fare_records.specs.Record.{CurrencyRecord, RuleRecord, FareRecord, MileageRecord, PairRecord, AllowanceRecord}
 use Rattle.fare_tariff.specs.Tariff.{Tariff}
 use Rattle.fare_csv.specs.Rows.{Fields}
 use Rattle.fare_csv.specs.Lines.{lines_of}

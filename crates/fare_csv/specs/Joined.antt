@@ -2,7 +2,7 @@
 use Rattle.std.specs.Prelude.{List, [], ◌∷◌, ◌++◌, Result, Ok}
 use Rattle.std.specs.Global.{Vec}
 use Rattle.fare_outside.specs.Memory.{◌>>=◌}
-use Rattle.fare_tariff.specs.declared.records.record.Record.{Record}
+use Rattle.fare_records.specs.declared.record.Record.{Record}
 use Rattle.fare_csv.specs.declared.pieces.NotInPieces.{NotInPieces}
 
 -- the records of each piece behind those of the pieces before it, if each was read

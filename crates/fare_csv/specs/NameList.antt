@@ -5,9 +5,9 @@ use Rattle.std.specs.List.{slice_split}
 use Rattle.std.specs.Str.{bytes_eq}
 use Rattle.fare_codes.specs.Codes.{read_rule_id}
 use Rattle.fare_codes.specs.declared.rule_id.RuleId.{RuleId}
-use Rattle.fare_tariff.specs.declared.limits.TheConstants.{MOST_NAMES}
-use Rattle.fare_tariff.specs.declared.records.names.Names.{Names}
-use Rattle.fare_tariff.specs.declared.records.names.Names.TheVariants.{All, Of}
+use Rattle.fare_records.specs.declared.limits.TheConstants.{MOST_NAMES}
+use Rattle.fare_records.specs.declared.names.Names.{Names}
+use Rattle.fare_records.specs.declared.names.Names.TheVariants.{All, Of}
 
 -- a name is a rule's id, or `-` for the free rule
 unfoldable pub read_name : List ℕ → Option (Option RuleId)

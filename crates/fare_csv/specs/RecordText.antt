@@ -12,12 +12,12 @@ use Rattle.fare_codes.specs.declared.limits.TheConstants.{MOST_UNIT}
 use Rattle.fare_codes.specs.declared.nuc.TheConstants.{FARE_LIMIT}
 use Rattle.fare_codes.specs.declared.rule_id.RuleId.{RuleId}
 use Rattle.fare_codes.specs.declared.season.Season.{Season}
-use Rattle.fare_tariff.specs.declared.limits.TheConstants.{MOST_DAYS, MOST_MILES, MOST_STOPS, MOST_TRANSFERS}
-use Rattle.fare_tariff.specs.declared.records.fare_key.FareKey.{FareKey}
+use Rattle.fare_records.specs.declared.limits.TheConstants.{MOST_DAYS, MOST_MILES, MOST_STOPS, MOST_TRANSFERS}
+use Rattle.fare_records.specs.declared.fare_key.FareKey.{FareKey}
 use Rattle.fare_csv.specs.declared.head.Version.{Version}
 use Rattle.fare_csv.specs.declared.head.Version.TheVariants.{One, Two}
-use Rattle.fare_tariff.specs.declared.records.city_record.CityRec.{CityRec}
-use Rattle.fare_tariff.specs.Record.{CurrencyRecord, RuleRecord, FareRecord, MileageRecord, PairRecord, AllowanceRecord}
+use Rattle.fare_records.specs.declared.city_record.CityRec.{CityRec}
+use Rattle.fare_records.specs.Record.{CurrencyRecord, RuleRecord, FareRecord, MileageRecord, PairRecord, AllowanceRecord}
 use Rattle.fare_csv.specs.declared.text_fault.TextFault.{TextFault}
 use Rattle.fare_csv.specs.Rows.{Fields}
 use Rattle.fare_csv.specs.NameList.{read_names}

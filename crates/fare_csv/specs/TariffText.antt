@@ -1,8 +1,8 @@
 -- A tariff text: HEAD, then records of the seven other kinds in any order, then END.
 use Rattle.std.specs.Prelude.{ℕ, ◌+◌, List, [], ◌∷◌, Option, Some, None, Result, Ok, Err, codes, min, if◌then◌else◌}
 use Rattle.std.specs.Str.{bytes_eq}
-use Rattle.fare_tariff.specs.declared.records.record.Record.{Record}
-use Rattle.fare_tariff.specs.declared.records.record.Record.TheVariants as filed
+use Rattle.fare_records.specs.declared.record.Record.{Record}
+use Rattle.fare_records.specs.declared.record.Record.TheVariants as filed
 use Rattle.fare_tariff.specs.Tariff.{Tariff}
 use Rattle.fare_tariff.specs.Check.{check_edition}
 use Rattle.fare_tariff.specs.declared.check.check_fault.CheckFault.{CheckFault}

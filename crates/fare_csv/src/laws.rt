@@ -3,7 +3,7 @@
 
 ghost use Rattle.std.specs.Prelude.{◌≡◌, true, Ok};
 ghost use Rattle.std.specs.List.{All, list_all};
-ghost use Rattle.fare_tariff.specs.declared.records.record.Record.TheVariants as filed;
+ghost use Rattle.fare_records.specs.declared.record.Record.TheVariants as filed;
 ghost use Rattle.fare_csv.specs.CanonicalText.{canonical_text};
 ghost use Rattle.fare_csv.specs.ReadBack.{HeadReadsBack, ReadsBack, are_names, is_name};
 ghost use Rattle.fare_csv.specs.TariffText.{edition_of};

@@ -1,7 +1,7 @@
 //! Lists of rules.
 
 ghost use Rattle.std.specs.Prelude.{◌≡◌, ◌≤◌, IfOk, IfSome, length, map, count_by, ◌==◌};
-ghost use Rattle.fare_tariff.specs.Record.{name_count};
+ghost use Rattle.fare_records.specs.Record.{name_count};
 ghost use Rattle.fare_csv.specs.NameList.{names_of, pieces_of, read_list, read_name, read_names};
 
 use fare_codes::RuleId;

@@ -4,7 +4,7 @@ ghost use Rattle.std.specs.Prelude.{◌≡◌, ◌<◌, ◌≤◌, ◌++◌, tru
 ghost use Rattle.fare_csv.specs.Lines.{is_plain_field, line_of};
 ghost use Rattle.fare_csv.specs.RecordText.{read_fare_rule, read_via};
 ghost use Rattle.fare_csv.specs.ReadBack.{HeadReadsBack, ReadsBack};
-ghost use Rattle.fare_tariff.specs.declared.records.record.Record.TheVariants as filed;
+ghost use Rattle.fare_records.specs.declared.record.Record.TheVariants as filed;
 ghost use Rattle.fare_csv.specs.CanonicalText.{allowance_row, city_row, currency_row, end_row, excess_text, fare_row};
 ghost use Rattle.fare_csv.specs.CanonicalText.{head_row, mileage_row, pair_row, rule_row, text_or_empty};
 

@@ -2,8 +2,8 @@
 use Rattle.std.proofs.Common.{◌≡◌, ℕ, [], ◌∷◌, take, drop, map, length, codes, refl}
 use Rattle.std.specs.List.{range_with_len}
 use Rattle.fare_codes.specs.declared.indicator.Indicator.TheVariants.{EH}
-use Rattle.fare_tariff.specs.declared.records.record.Record.{Record}
-use Rattle.fare_tariff.specs.declared.records.record.Record.TheVariants as filed
+use Rattle.fare_records.specs.declared.record.Record.{Record}
+use Rattle.fare_records.specs.declared.record.Record.TheVariants as filed
 use Rattle.fare_drill.specs.Draws.{draw, state}
 use Rattle.fare_drill.specs.Cities.{city, extra_city}
 use Rattle.fare_drill.specs.Fares.{fares}

@@ -5,8 +5,8 @@ use Rattle.std.specs.Option.{option_or}
 use Rattle.std.proofs.lemmas.Bool.{cases_eq}
 use Rattle.std.proofs.lemmas.Slice.Eq.{bytes_eq-Decides}
 use Rattle.fare_codes.specs.declared.area.Area.{Area}
-use Rattle.fare_tariff.specs.declared.records.record.Record.{Record}
-use Rattle.fare_tariff.specs.declared.records.record.Record.TheVariants as filed
+use Rattle.fare_records.specs.declared.record.Record.{Record}
+use Rattle.fare_records.specs.declared.record.Record.TheVariants as filed
 use Rattle.fare_tariff.specs.Lookup.{first_some, city_in, currency_in}
 use Rattle.fare_tariff.specs.Check.{is_unknown_city, is_unknown_rule, is_one_unknown}
 use Rattle.fare_drill.specs.Cities.{city, country_of}

@@ -3,8 +3,8 @@ use Rattle.std.proofs.Common.{◌≡◌, ℕ, ◌+◌, ◌-◌, ◌<◌, ◌≤�
 use Rattle.std.proofs.Math.Seq.{take-append_seam}
 use Rattle.std.proofs.lemmas.Bool.{cases_Bool, lt-leb, le-ltb}
 use Rattle.std.proofs.lemmas.List.{length_push, length-append}
-use Rattle.fare_tariff.specs.declared.records.record.Record.{Record}
-use Rattle.fare_tariff.specs.declared.records.record.Record.TheVariants as filed
+use Rattle.fare_records.specs.declared.record.Record.{Record}
+use Rattle.fare_records.specs.declared.record.Record.TheVariants as filed
 use Rattle.fare_tariff.specs.Lookup.{number_at, is_fare_between}
 use Rattle.fare_tariff.specs.Check.{first_fault, first_fault_from, kind_of, first_number, has_key_of, names_unknown_city, names_unknown_rule, names_unknown_currency, is_one_too_many, has_same_points, is_zero_mileage, is_out_of_limit, overlap_of, is_fare_over, key_of}
 use Rattle.fare_drill.proofs.RisingLists.{Rising, Rising-append, rising_wider, no_place, few_pass}

@@ -2,7 +2,7 @@
 use Rattle.std.proofs.Common.{◌≡◌, ℕ, ◌+◌, ◌-◌, ◌*◌, ◌/◌, ◌%◌, ◌^◌, ◌<◌, ◌≤◌, false, List, map, take, is_none, codes, refl, arith}
 use Rattle.std.specs.List.{range_with_len, enumerate_from}
 use Rattle.std.proofs.lemmas.Bool.{ne_eqb}
-use Rattle.fare_tariff.specs.declared.records.record.Record.{Record}
+use Rattle.fare_records.specs.declared.record.Record.{Record}
 use Rattle.fare_tariff.specs.Check.{is_unknown_city}
 use Rattle.fare_tariff.specs.Lookup.{first_some, currency_in}
 use Rattle.fare_drill.specs.Cities.{city, extra_city, extra_record}

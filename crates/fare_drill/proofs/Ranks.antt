@@ -6,13 +6,13 @@ use Rattle.fare_codes.specs.declared.kind.Kind.{Kind}
 use Rattle.fare_codes.specs.declared.kind.Kind.TheVariants.{OW, HR}
 use Rattle.fare_codes.specs.declared.indicator.Indicator.{Indicator}
 use Rattle.fare_codes.specs.Same.{same_kind, same_indicator, same_cabin, same_season}
-use Rattle.fare_tariff.specs.declared.records.record.Record.{Record}
-use Rattle.fare_tariff.specs.declared.records.record.Record.TheVariants as filed
-use Rattle.fare_tariff.specs.Record.{FareRecord}
-use Rattle.fare_tariff.specs.Fields.{same_pair, same_rule}
+use Rattle.fare_records.specs.declared.record.Record.{Record}
+use Rattle.fare_records.specs.declared.record.Record.TheVariants as filed
+use Rattle.fare_records.specs.Record.{FareRecord}
+use Rattle.fare_records.specs.Fields.{same_pair, same_rule}
 use Rattle.fare_tariff.specs.Lookup.{has_key, is_fare_between}
 use Rattle.fare_tariff.specs.Check.{has_key_of, is_fare_over, key_of}
-use Rattle.fare_tariff.specs.Seasons.{seasons_overlap}
+use Rattle.fare_records.specs.Seasons.{seasons_overlap}
 
 -- the number that the first three characters of a code write
 unfoldable pub value : List ℕ → ℕ

@@ -2,7 +2,7 @@
 use Rattle.std.proofs.Common.{◌≡◌, ◌≢◌, ℕ, ◌+◌, ◌*◌, ◌^◌, ◌<◌, ◌≤◌, Bool, true, false, List, [], ◌∷◌, map, ◌==◌, if◌then◌else◌, refl, arith}
 use Rattle.std.specs.List.{range_with_len}
 use Rattle.std.proofs.lemmas.Bool.{eqb-false}
-use Rattle.fare_tariff.specs.declared.records.record.Record.{Record}
+use Rattle.fare_records.specs.declared.record.Record.{Record}
 use Rattle.fare_tariff.specs.Check.{is_unknown_rule}
 use Rattle.fare_drill.specs.Cities.{city, city_record}
 use Rattle.fare_drill.specs.Fares.{FareWay, ways, ways_from, ways_to, ways_between, fare_of, fares, drawn_fare}

@@ -3,7 +3,7 @@ use Rattle.std.proofs.Common.{◌≡◌, ℕ, ◌+◌, ◌*◌, ◌^◌, ◌<◌
 use Rattle.std.specs.List.{range_with_len, enumerate_from}
 use Rattle.std.proofs.lemmas.List.{length-append}
 use Rattle.fare_codes.specs.declared.area.Area.TheVariants.{Two}
-use Rattle.fare_tariff.specs.declared.records.record.Record.{Record}
+use Rattle.fare_records.specs.declared.record.Record.{Record}
 use Rattle.fare_tariff.specs.Lookup.{first_some, city_in, currency_in, rule_in}
 use Rattle.fare_tariff.specs.Check.{check_edition, first_fault, is_unknown_city, unless}
 use Rattle.fare_drill.specs.Cities.{city, city_count, extra_city, city_record, extra_record, country_of}

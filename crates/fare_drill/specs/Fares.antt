@@ -8,8 +8,8 @@ use Rattle.fare_codes.specs.declared.kind.Kind.{Kind}
 use Rattle.fare_codes.specs.declared.kind.Kind.TheVariants.{OW, HR}
 use Rattle.fare_codes.specs.declared.indicator.Indicator.TheVariants.{EH}
 use Rattle.fare_codes.specs.Season.{whole_year}
-use Rattle.fare_tariff.specs.declared.records.record.Record.{Record}
-use Rattle.fare_tariff.specs.declared.records.record.Record.TheVariants as filed
+use Rattle.fare_records.specs.declared.record.Record.{Record}
+use Rattle.fare_records.specs.declared.record.Record.TheVariants as filed
 use Rattle.fare_drill.specs.Cities.{city}
 use Rattle.fare_drill.specs.Draws.{draw}
 

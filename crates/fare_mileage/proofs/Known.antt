@@ -4,7 +4,7 @@ use Rattle.std.specs.Prelude.{Option, None, IfSome}
 use Rattle.std.proofs.lemmas.Bool.{cases_eq, cases_lt}
 use Rattle.std.proofs.lemmas.Grind.{get_or-set_at}
 use Rattle.std.proofs.lemmas.List.{get_or-set_other, get_or_past, length-set}
-use Rattle.fare_tariff.specs.declared.limits.TheConstants.{MOST_MILES}
+use Rattle.fare_records.specs.declared.limits.TheConstants.{MOST_MILES}
 use Rattle.fare_mileage.specs.Miles.{AreInRange}
 
 -- what is written in its range leaves all in their range

@@ -1,7 +1,7 @@
 -- The ticketed point mileages of the sectors of a span, looked up once for all spans within it.
 use Rattle.std.specs.Prelude.{◌≡◌, ℕ, ◌<◌, ◌≤◌, List, Option, None, IfSome, slice_index_or}
 use Rattle.fare_trip.specs.Itinerary.{Itinerary}
-use Rattle.fare_tariff.specs.declared.limits.TheConstants.{MOST_MILES}
+use Rattle.fare_records.specs.declared.limits.TheConstants.{MOST_MILES}
 use Rattle.fare_tariff.specs.Tariff.{Tariff}
 use Rattle.fare_rules.specs.Mileage.{sector_miles}
 

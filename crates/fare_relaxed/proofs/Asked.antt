@@ -3,11 +3,11 @@ use Rattle.std.proofs.Common.{◌≡◌, ℕ, ◌-◌, ◌≤◌, ◌≢◌, Boo
 use Rattle.std.specs.Prelude.{Option, Some, None, option_map}
 use Rattle.std.proofs.lemmas.Bool.{and_parts, leb-true, le-leb}
 use Rattle.fare_codes.specs.declared.rule_id.RuleId.{RuleId}
-use Rattle.fare_tariff.specs.declared.limits.TheConstants.{MOST_DAYS, MOST_STOPS, MOST_TRANSFERS}
-use Rattle.fare_tariff.specs.declared.records.names.Names.{Names}
-use Rattle.fare_tariff.specs.declared.records.names.Names.TheVariants.{All}
-use Rattle.fare_tariff.specs.declared.records.terms.Terms.{Terms}
-use Rattle.fare_tariff.specs.Record.{RuleRecord, FareRecord, IsRule}
+use Rattle.fare_records.specs.declared.limits.TheConstants.{MOST_DAYS, MOST_STOPS, MOST_TRANSFERS}
+use Rattle.fare_records.specs.declared.names.Names.{Names}
+use Rattle.fare_records.specs.declared.names.Names.TheVariants.{All}
+use Rattle.fare_records.specs.declared.terms.Terms.{Terms}
+use Rattle.fare_records.specs.Record.{RuleRecord, FareRecord, IsRule}
 use Rattle.fare_tariff.specs.Tariff.{Tariff}
 use Rattle.fare_tariff.specs.Lookup.{rule_record, terms, terms_of, lists, lists_in, unit_names, end_names, unit_ok, ends_ok}
 use Rattle.fare_rules.specs.Terms.{term_holds, allows_stops, allows_transfers, allows_advance, allows_surcharge, allows_stay}

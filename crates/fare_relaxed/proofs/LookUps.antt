@@ -9,10 +9,10 @@ use Rattle.fare_codes.specs.declared.city.City.{City}
 use Rattle.fare_codes.specs.declared.month_day.MonthDay.{MonthDay}
 use Rattle.fare_codes.specs.declared.indicator.Indicator.{Indicator}
 use Rattle.fare_codes.specs.declared.rule_id.RuleId.{RuleId}
-use Rattle.fare_tariff.specs.declared.records.record.Record.{Record}
-use Rattle.fare_tariff.specs.declared.records.record.Record.TheVariants as filed
-use Rattle.fare_tariff.specs.declared.records.fare_key.FareKey.{FareKey}
-use Rattle.fare_tariff.specs.Record.{RuleRecord, FareRecord}
+use Rattle.fare_records.specs.declared.record.Record.{Record}
+use Rattle.fare_records.specs.declared.record.Record.TheVariants as filed
+use Rattle.fare_records.specs.declared.fare_key.FareKey.{FareKey}
+use Rattle.fare_records.specs.Record.{RuleRecord, FareRecord}
 use Rattle.fare_tariff.specs.Tariff.{Tariff}
 use Rattle.fare_tariff.specs.Lookup.{first_some, greatest, city_in, fare_in, is_fare_on, rule_in, mpm_in, tpm_in, allowance_in, number_at, city_record, fare_at, fare_number, mpm, tpm, allowance, rule_record}
 use Rattle.fare_relaxed.specs.declared.term.Term.{Term}

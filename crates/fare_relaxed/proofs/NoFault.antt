@@ -14,14 +14,14 @@ use Rattle.fare_codes.specs.declared.season.Season.{Season}
 use Rattle.fare_tariff.specs.declared.check.check_fault.CheckFault.{CheckFault}
 use Rattle.fare_tariff.specs.declared.check.check_fault.CheckFault.TheVariants.{Memory, At}
 use Rattle.fare_tariff.specs.declared.check.check_kind.CheckKind.{CheckKind}
-use Rattle.fare_tariff.specs.declared.limits.TheConstants.{MOST_FARES_BETWEEN}
-use Rattle.fare_tariff.specs.declared.records.fare_key.FareKey.{FareKey}
-use Rattle.fare_tariff.specs.declared.records.record.Record.{Record}
-use Rattle.fare_tariff.specs.declared.records.record.Record.TheVariants as filed
+use Rattle.fare_records.specs.declared.limits.TheConstants.{MOST_FARES_BETWEEN}
+use Rattle.fare_records.specs.declared.fare_key.FareKey.{FareKey}
+use Rattle.fare_records.specs.declared.record.Record.{Record}
+use Rattle.fare_records.specs.declared.record.Record.TheVariants as filed
 use Rattle.fare_tariff.specs.Tariff.{Tariff}
 use Rattle.fare_tariff.specs.Lookup.{first_some, currency_in, city_in, rule_in, is_fare_between, number_at}
 use Rattle.fare_tariff.specs.Check.{key_of, is_fare_of, is_allowance_of, has_key_of, first_number, is_unknown_city, is_one_unknown, names_unknown_city, is_unknown_rule, names_unknown_rule, names_unknown_currency, is_one_too_many, has_same_points, is_zero_mileage, is_out_of_limit, is_fare_over, overlap_of, kind_of, fault_at, first_fault_from, first_fault, unless, check_edition, IsEdition}
-use Rattle.fare_tariff.specs.Keyed.{has_amount_in_range}
+use Rattle.fare_records.specs.Keyed.{has_amount_in_range}
 use Rattle.fare_relaxed.specs.declared.term.Term.{Term}
 use Rattle.fare_relaxed.specs.Relax.{relaxed_rule, relaxed_record, relaxed_records, relax}
 use Rattle.fare_relaxed.proofs.LookUps.{first_some_same, position_same, city_same, mpm_same, tpm_same, same_id, rule_relaxed, rules_relaxed}

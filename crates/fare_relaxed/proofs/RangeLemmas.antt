@@ -3,9 +3,9 @@ use Rattle.std.proofs.Common.{◌≡◌, ℕ, zero, suc, ◌<◌, Bool, true, fa
 use Rattle.std.specs.Prelude.{Option, Some, None, bytes_eq}
 use Rattle.std.specs.Option.{option_or}
 use Rattle.fare_codes.specs.declared.rule_id.RuleId.{RuleId}
-use Rattle.fare_tariff.specs.declared.records.record.Record.{Record}
-use Rattle.fare_tariff.specs.declared.records.record.Record.TheVariants as filed
-use Rattle.fare_tariff.specs.Record.{RuleRecord, IsRule}
+use Rattle.fare_records.specs.declared.record.Record.{Record}
+use Rattle.fare_records.specs.declared.record.Record.TheVariants as filed
+use Rattle.fare_records.specs.Record.{RuleRecord, IsRule}
 use Rattle.fare_tariff.specs.Lookup.{first_some, rule_in}
 use Rattle.fare_relaxed.specs.Ranges.{IsRuleInRange}
 

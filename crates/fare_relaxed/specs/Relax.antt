@@ -1,12 +1,12 @@
 -- Relax: an edition in which the rules ask for nothing by one kind of condition.
 use Rattle.std.specs.Prelude.{ℕ, Bool, true, false, not, ◌||◌, ◌==◌, List, map}
 use Rattle.std.specs.List.{list_any}
-use Rattle.fare_tariff.specs.declared.limits.TheConstants.{MOST_DAYS, MOST_STOPS, MOST_TRANSFERS}
-use Rattle.fare_tariff.specs.declared.records.names.Names.{Names}
-use Rattle.fare_tariff.specs.declared.records.names.Names.TheVariants.{All, Of}
-use Rattle.fare_tariff.specs.declared.records.record.Record.{Record}
-use Rattle.fare_tariff.specs.declared.records.record.Record.TheVariants as filed
-use Rattle.fare_tariff.specs.Record.{RuleRecord}
+use Rattle.fare_records.specs.declared.limits.TheConstants.{MOST_DAYS, MOST_STOPS, MOST_TRANSFERS}
+use Rattle.fare_records.specs.declared.names.Names.{Names}
+use Rattle.fare_records.specs.declared.names.Names.TheVariants.{All, Of}
+use Rattle.fare_records.specs.declared.record.Record.{Record}
+use Rattle.fare_records.specs.declared.record.Record.TheVariants as filed
+use Rattle.fare_records.specs.Record.{RuleRecord}
 use Rattle.fare_tariff.specs.Tariff.{Tariff}
 use Rattle.fare_relaxed.specs.declared.term.Term.{Term}
 use Rattle.fare_relaxed.specs.declared.term.Term.TheVariants.{Advance, Stay, Stopovers, Transfers, Surcharge, Units}

@@ -4,7 +4,7 @@ use Prim.Native.String.{String}
 use Rattle.std.specs.Prelude.{◌≡◌, refl, ℕ, List, [], ◌∷◌, Option, Some, None, true, false, codes, map, take, option_and_then}
 use Rattle.fare_codes.specs.declared.indicator.Indicator.TheVariants.{EH}
 use Rattle.fare_codes.specs.declared.nuc.Nuc.{Nuc}
-use Rattle.fare_tariff.specs.Record.{FareRecord}
+use Rattle.fare_records.specs.Record.{FareRecord}
 use Rattle.fare_tariff.specs.Lookup.{fare_at}
 use Rattle.fare_rules.specs.declared.part.Part.{Part}
 use Rattle.fare_rules.specs.declared.unit_sheet.UnitKind.TheVariants as unit

@@ -11,8 +11,8 @@ use Rattle.fare_codes.specs.declared.rule_id.RuleId.{RuleId}
 use Rattle.fare_codes.specs.Day.{is_month_day, month_day_of, place_in_year, two_digits}
 use Rattle.fare_codes.specs.Season.{season_holds, whole_year}
 use Rattle.fare_trip.specs.Itinerary.{Itinerary}
-use Rattle.fare_tariff.specs.declared.records.terms.Terms.{Terms}
-use Rattle.fare_tariff.specs.Record.{FareRecord}
+use Rattle.fare_records.specs.declared.terms.Terms.{Terms}
+use Rattle.fare_records.specs.Record.{FareRecord}
 use Rattle.fare_tariff.specs.Tariff.{Tariff}
 use Rattle.fare_tariff.specs.Lookup.{terms, free_terms}
 use Rattle.fare_rules.specs.Span.{is_stopover, is_transfer, interior, first_day}

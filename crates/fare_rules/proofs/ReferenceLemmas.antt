@@ -11,10 +11,10 @@ use Rattle.fare_codes.specs.declared.indicator.Indicator.{Indicator}
 use Rattle.fare_codes.specs.declared.month_day.MonthDay.{MonthDay}
 use Rattle.fare_codes.specs.Day.{month_day_of}
 use Rattle.fare_codes.specs.Season.{season_holds}
-use Rattle.fare_tariff.specs.declared.records.fare_key.FareKey.{FareKey}
-use Rattle.fare_tariff.specs.declared.records.record.Record.{Record}
-use Rattle.fare_tariff.specs.declared.records.record.Record.TheVariants as filed
-use Rattle.fare_tariff.specs.Record.{FareRecord}
+use Rattle.fare_records.specs.declared.fare_key.FareKey.{FareKey}
+use Rattle.fare_records.specs.declared.record.Record.{Record}
+use Rattle.fare_records.specs.declared.record.Record.TheVariants as filed
+use Rattle.fare_records.specs.Record.{FareRecord}
 use Rattle.fare_tariff.specs.Tariff.{Tariff}
 use Rattle.fare_tariff.specs.Lookup.{fare_in, fare_at, fare_number, number_at, has_key, is_fare_on}
 use Rattle.fare_rules.specs.Valid.{HasNoFareToItself}

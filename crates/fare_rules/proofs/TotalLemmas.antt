@@ -8,7 +8,7 @@ use Rattle.std.proofs.lemmas.List.FromFn.{length-range_with_len}
 use Rattle.std.proofs.lemmas.List.Sums.{sum_by-cons}
 use Rattle.fare_codes.specs.declared.limits.TheConstants.{MOST_SECTORS}
 use Rattle.fare_trip.specs.Itinerary.{Itinerary, count, point}
-use Rattle.fare_tariff.specs.Record.{FareRecord}
+use Rattle.fare_records.specs.Record.{FareRecord}
 use Rattle.fare_tariff.specs.Tariff.{Tariff}
 use Rattle.fare_rules.specs.declared.limits.TheConstants.{PRICE_LIMIT}
 use Rattle.fare_rules.specs.declared.part.Part.{Part}

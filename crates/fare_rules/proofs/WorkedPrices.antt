@@ -4,7 +4,7 @@ use Rattle.fare_codes.specs.declared.area.Area.TheVariants.{Two}
 use Rattle.fare_codes.specs.declared.indicator.Indicator.TheVariants.{EH, AP}
 use Rattle.fare_trip.specs.Itinerary.{Itinerary}
 use Rattle.fare_tariff.specs.Lookup.{fare_at}
-use Rattle.fare_tariff.specs.Record.{FareRecord}
+use Rattle.fare_records.specs.Record.{FareRecord}
 use Rattle.fare_tariff.specs.Tariff.{Tariff}
 use Rattle.fare_rules.specs.declared.part.Part.{Part}
 use Rattle.fare_rules.specs.declared.unit_sheet.UnitKind.TheVariants as unit

@@ -2,7 +2,7 @@
 use Rattle.std.specs.Prelude.{ℕ, ◌+◌, ◌-◌, Option, Some, None, option_and_then, nat_lt, if◌then◌else◌}
 use Rattle.fare_codes.specs.declared.nuc.Nuc.{Nuc}
 use Rattle.fare_trip.specs.Itinerary.{Itinerary, point}
-use Rattle.fare_tariff.specs.Record.{FareRecord}
+use Rattle.fare_records.specs.Record.{FareRecord}
 use Rattle.fare_tariff.specs.Tariff.{Tariff}
 use Rattle.fare_rules.specs.Numbers.{greatest_of}
 use Rattle.fare_rules.specs.Span.{stopovers, first_day}

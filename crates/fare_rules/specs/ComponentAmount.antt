@@ -12,7 +12,7 @@ use Rattle.fare_codes.specs.Amounts.{surcharged}
 use Rattle.fare_codes.specs.Day.{month_day_of}
 use Rattle.fare_codes.specs.Season.{season_holds}
 use Rattle.fare_trip.specs.Itinerary.{Itinerary, sector, point}
-use Rattle.fare_tariff.specs.Record.{FareRecord}
+use Rattle.fare_records.specs.Record.{FareRecord}
 use Rattle.fare_tariff.specs.Tariff.{Tariff}
 use Rattle.fare_codes.specs.Same.{same_indicator, same_kind}
 use Rattle.fare_tariff.specs.Lookup.{fare_at}

@@ -4,7 +4,7 @@ use Rattle.std.specs.Prelude.{slice_index_or, nat_le, nat_lt, ◌==◌, ◌||◌
 use Rattle.std.specs.Option.{option_or}
 use Rattle.fare_codes.specs.declared.city.City.{City}
 use Rattle.fare_trip.specs.Itinerary.{Itinerary, count, point}
-use Rattle.fare_tariff.specs.Record.{FareRecord}
+use Rattle.fare_records.specs.Record.{FareRecord}
 use Rattle.fare_tariff.specs.Tariff.{Tariff}
 use Rattle.fare_tariff.specs.Lookup.{fare_at}
 use Rattle.fare_rules.specs.declared.part.Part.{Part}

@@ -3,7 +3,7 @@ pub use Rattle.fare_codes.specs.Day
 pub use Rattle.fare_codes.specs.Same
 pub use Rattle.fare_codes.specs.Season
 pub use Rattle.fare_trip.specs.Itinerary
-pub use Rattle.fare_tariff.specs.Record
+pub use Rattle.fare_records.specs.Record
 pub use Rattle.fare_tariff.specs.Tariff
 pub use Rattle.fare_tariff.specs.Lookup
 pub mod Numbers

@@ -2,10 +2,10 @@
 use Rattle.std.specs.Prelude.{ℕ, ◌-◌, Bool, false, Option, Some, None, length, nat_le, ◌==◌, ◌&&◌, ◌||◌}
 use Rattle.fare_codes.specs.Day.{day_number}
 use Rattle.fare_trip.specs.Itinerary.{Itinerary}
-use Rattle.fare_tariff.specs.Record.{FareRecord}
+use Rattle.fare_records.specs.Record.{FareRecord}
 use Rattle.fare_tariff.specs.Tariff.{Tariff}
 use Rattle.fare_tariff.specs.Lookup.{terms}
-use Rattle.fare_tariff.specs.declared.records.terms.Terms.{Terms}
+use Rattle.fare_records.specs.declared.terms.Terms.{Terms}
 use Rattle.fare_rules.specs.Span.{stopovers, transfers, first_day}
 
 -- the terms of a fare's rule are there and pass a test

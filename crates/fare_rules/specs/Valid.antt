@@ -1,6 +1,6 @@
 -- What the laws ask of an edition: facts that hold of each valid one.
 use Rattle.std.specs.Prelude.{◌≡◌, ℕ, ◌<◌, false, Some, bytes_eq}
-use Rattle.fare_tariff.specs.Record.{FareRecord}
+use Rattle.fare_records.specs.Record.{FareRecord}
 use Rattle.fare_tariff.specs.Tariff.{Tariff}
 use Rattle.fare_tariff.specs.Lookup.{fare_at}
 use Rattle.fare_codes.specs.declared.nuc.TheConstants.{FARE_LIMIT}

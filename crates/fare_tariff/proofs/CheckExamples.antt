@@ -6,9 +6,9 @@ use Rattle.fare_codes.specs.declared.kind.Kind.TheVariants.{OW}
 use Rattle.fare_codes.specs.declared.mode.Mode.TheVariants.{Up}
 use Rattle.fare_codes.specs.declared.indicator.Indicator.TheVariants.{EH}
 use Rattle.fare_codes.specs.Season.{season_holds}
-use Rattle.fare_tariff.specs.declared.records.record.Record.{Record}
-use Rattle.fare_tariff.specs.declared.records.record.Record.TheVariants as filed
-use Rattle.fare_tariff.specs.declared.records.names.Names.TheVariants.{All}
+use Rattle.fare_records.specs.declared.record.Record.{Record}
+use Rattle.fare_records.specs.declared.record.Record.TheVariants as filed
+use Rattle.fare_records.specs.declared.names.Names.TheVariants.{All}
 use Rattle.fare_tariff.specs.declared.check.check_kind.CheckKind.TheVariants.{Duplicate, UnknownCity, UnknownRule, UnknownCurrency, TooManyFares, SamePoint, ZeroMileage, Overlap}
 use Rattle.fare_tariff.specs.declared.check.check_fault.CheckFault.TheVariants.{At}
 use Rattle.fare_tariff.specs.Check.{first_fault, first_fault_from, kind_of, is_one_unknown, is_out_of_limit}

@@ -7,15 +7,15 @@ use Rattle.std.proofs.lemmas.Iterator.Adapters.{position_from-zero}
 use Rattle.fare_codes.specs.declared.season.Season.{Season}
 use Rattle.fare_index.specs.declared.key.Key.{Key}
 use Rattle.fare_index.specs.declared.key.Key.TheVariants.{Fares}
-use Rattle.fare_tariff.specs.declared.limits.TheConstants.{MOST_FARES_BETWEEN}
-use Rattle.fare_tariff.specs.declared.records.record.Record.{Record}
-use Rattle.fare_tariff.specs.declared.records.fare_key.FareKey.{FareKey}
+use Rattle.fare_records.specs.declared.limits.TheConstants.{MOST_FARES_BETWEEN}
+use Rattle.fare_records.specs.declared.record.Record.{Record}
+use Rattle.fare_records.specs.declared.fare_key.FareKey.{FareKey}
 use Rattle.fare_tariff.specs.declared.look_up.seek.Sought.TheVariants.{Over}
 use Rattle.fare_tariff.specs.Lookup.{is_fare_between}
 use Rattle.fare_tariff.specs.Check.{is_fare_over}
-use Rattle.fare_tariff.specs.Keyed.{before, own_key, has_own_key}
+use Rattle.fare_records.specs.Keyed.{before, own_key, has_own_key}
 use Rattle.fare_tariff.specs.Faulty.{clashes}
-use Rattle.fare_tariff.proofs.Chain.{LooksAt, IsKeyed, from_place, keyed_first, from_first, walk_step, walk_some, walk_here, rest_from}
+use Rattle.fare_records.proofs.Chain.{LooksAt, IsKeyed, from_place, keyed_first, from_first, walk_step, walk_some, walk_here, rest_from}
 use Rattle.fare_tariff.proofs.FoundByKey.{fare_tells}
 use Rattle.fare_tariff.proofs.FoundFares.{count_cons, counted, not_counted}
 use Rattle.fare_tariff.proofs.Looks.{sought_looks}

@@ -4,13 +4,13 @@ use Rattle.std.specs.List.{position_from, range_with_len}
 use Rattle.std.specs.Option.{option_or}
 use Rattle.std.proofs.lemmas.Bool.{lt-ltb, false≢true, cases_eq, cases_lt}
 use Rattle.std.proofs.lemmas.Option.{slice_get-get_or}
-use Rattle.fare_tariff.specs.declared.limits.TheConstants.{MOST_RECORDS}
-use Rattle.fare_tariff.specs.declared.records.record.Record.{Record}
+use Rattle.fare_records.specs.declared.limits.TheConstants.{MOST_RECORDS}
+use Rattle.fare_records.specs.declared.record.Record.{Record}
 use Rattle.fare_tariff.specs.declared.check.check_kind.CheckKind.{CheckKind}
 use Rattle.fare_tariff.specs.declared.check.check_fault.CheckFault.TheVariants.{At}
 use Rattle.fare_tariff.specs.Lookup.{number_at}
 use Rattle.fare_tariff.specs.Check.{kind_of, fault_at, first_fault, first_fault_from, is_out_of_limit}
-use Rattle.fare_tariff.proofs.Chain.{tail_left}
+use Rattle.fare_records.proofs.Chain.{tail_left}
 use Rattle.fare_tariff.proofs.Validity.{no_kind-parts}
 use Rattle.fare_tariff.specs.Faulty.{has_kind_at, fault_of, first_faulty}
 

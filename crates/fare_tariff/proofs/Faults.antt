@@ -2,7 +2,7 @@
 use Rattle.std.proofs.Common.{◌≡◌, ℕ, ◌+◌, ◌<◌, ◌≤◌, List, length, get_or, take, drop, Some, None, refl}
 use Rattle.std.specs.Option.{option_or}
 use Rattle.std.proofs.lemmas.List.{at_drop_more, at_drop_all}
-use Rattle.fare_tariff.specs.declared.records.record.Record.{Record}
+use Rattle.fare_records.specs.declared.record.Record.{Record}
 use Rattle.fare_tariff.specs.declared.check.check_fault.CheckFault.TheVariants.{At}
 use Rattle.fare_tariff.specs.declared.check.check_kind.CheckKind.{CheckKind}
 use Rattle.fare_tariff.specs.Check.{first_fault_from, fault_at, kind_of}

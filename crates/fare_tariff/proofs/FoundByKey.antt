@@ -13,12 +13,12 @@ use Rattle.fare_index.specs.Key.{same_key, same_via as same_via_key}
 use Rattle.fare_index.specs.SameKeys.{same_key-IsEquivalence}
 use Rattle.fare_index.specs.Pairs.{permitted_key, ticketed_key, extra_key}
 use Rattle.fare_index.proofs.SamePairs.{unordered}
-use Rattle.fare_tariff.specs.declared.records.record.Record.{Record}
-use Rattle.fare_tariff.specs.declared.records.record.Record.TheVariants as filed
+use Rattle.fare_records.specs.declared.record.Record.{Record}
+use Rattle.fare_records.specs.declared.record.Record.TheVariants as filed
 use Rattle.fare_tariff.specs.Lookup.{first_some, city_in, currency_in, rule_in, rule_of, mpm_in, tpm_in, is_fare_between}
-use Rattle.fare_tariff.specs.Fields.{same_pair, same_via}
+use Rattle.fare_records.specs.Fields.{same_pair, same_via}
 use Rattle.fare_tariff.specs.Check.{is_allowance_of}
-use Rattle.fare_tariff.specs.Keyed.{own_key, has_own_key, IsAmong}
+use Rattle.fare_records.specs.Keyed.{own_key, has_own_key, IsAmong}
 
 -- the first answer of a list is that of the first record that answers
 pub first_some-find : {A : Type 0} (answer : Record → Option A) (test : Record → Bool) → ((one : Record) → test one ≡ is_some (answer one)) → (all : List Record) → first_some answer all ≡ option_and_then answer (find test all)

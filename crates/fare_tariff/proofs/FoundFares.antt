@@ -12,15 +12,15 @@ use Rattle.fare_codes.specs.declared.indicator.Indicator.TheVariants.{WH, EH, AT
 use Rattle.fare_codes.specs.declared.month_day.MonthDay.{MonthDay}
 use Rattle.fare_codes.specs.Same.{same_indicator}
 use Rattle.fare_codes.specs.declared.nuc.TheConstants.{FARE_LIMIT}
-use Rattle.fare_tariff.specs.declared.limits.TheConstants.{MOST_FARES_BETWEEN, MOST_RECORDS}
-use Rattle.fare_tariff.specs.declared.records.record.Record.{Record}
-use Rattle.fare_tariff.specs.declared.records.record.Record.TheVariants as filed
-use Rattle.fare_tariff.specs.declared.records.fare_key.FareKey.{FareKey}
-use Rattle.fare_tariff.specs.Record.{FareRecord}
+use Rattle.fare_records.specs.declared.limits.TheConstants.{MOST_FARES_BETWEEN, MOST_RECORDS}
+use Rattle.fare_records.specs.declared.record.Record.{Record}
+use Rattle.fare_records.specs.declared.record.Record.TheVariants as filed
+use Rattle.fare_records.specs.declared.fare_key.FareKey.{FareKey}
+use Rattle.fare_records.specs.Record.{FareRecord}
 use Rattle.fare_tariff.specs.Tariff.{Tariff}
 use Rattle.fare_tariff.specs.Lookup.{first_some, city_in, fare_at, fare_in, fare_number, is_fare_on, is_fare_between, number_at, numbers_from, nth_fare, has_key, terms, terms_of}
 use Rattle.fare_tariff.specs.Check.{IsEdition, first_fault, is_one_unknown, is_unknown_rule}
-use Rattle.fare_tariff.specs.Keyed.{has_amount_in_range}
+use Rattle.fare_records.specs.Keyed.{has_amount_in_range}
 use Rattle.fare_tariff.specs.Filed.{IsFiledFare, IsFareOn, IsFareBetween}
 use Rattle.fare_tariff.proofs.Validity.{HasNoKind, no_kind_at, place_in_limit}
 use Rattle.fare_tariff.proofs.Found.{some_there, bytes_eq-true, bytes_eq-false}

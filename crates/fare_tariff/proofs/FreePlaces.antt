@@ -6,16 +6,16 @@ use Rattle.std.proofs.lemmas.Bool.{eq-eqb}
 use Rattle.std.proofs.lemmas.List.FromFn.{get_or-range_with_len, length-range_with_len}
 use Rattle.fare_index.specs.declared.key.Key.{Key}
 use Rattle.fare_index.specs.SameKeys.{same_key-true, same_key-IsEquivalence}
-use Rattle.fare_tariff.specs.declared.records.record.Record.{Record}
+use Rattle.fare_records.specs.declared.record.Record.{Record}
 use Rattle.fare_codes.specs.declared.city.City.{City}
 use Rattle.fare_codes.specs.declared.indicator.Indicator.{Indicator}
 use Rattle.fare_index.specs.declared.key.Key.TheVariants as kind
-use Rattle.fare_tariff.specs.declared.records.record.Record.TheVariants as filed
-use Rattle.fare_tariff.specs.Record.{FareRecord}
+use Rattle.fare_records.specs.declared.record.Record.TheVariants as filed
+use Rattle.fare_records.specs.Record.{FareRecord}
 use Rattle.fare_tariff.specs.Check.{first_fault, has_same_points, is_zero_mileage}
 use Rattle.fare_tariff.specs.Faulty.{clash_behind, clash_of, clashes_from, fault_of, first_faulty, has_kind_at, is_found_at, leads_to_clash, names_unknown, is_suspect, IsFree}
-use Rattle.fare_tariff.specs.Keyed.{own_key, has_own_key}
-use Rattle.fare_tariff.proofs.Chain.{LooksAt, keyed_from, some_there}
+use Rattle.fare_records.specs.Keyed.{own_key, has_own_key}
+use Rattle.fare_records.proofs.Chain.{LooksAt, keyed_from, some_there}
 use Rattle.fare_tariff.proofs.FaultPlaces.{fault_of_first}
 use Rattle.fare_tariff.proofs.KindTests.{kind_tells}
 

@@ -7,19 +7,19 @@ use Rattle.std.proofs.lemmas.Iterator.Adapters.{position_from-zero}
 use Rattle.fare_codes.specs.declared.season.Season.{Season}
 use Rattle.fare_codes.specs.Same.{same_season}
 use Rattle.fare_codes.specs.Season.{season_holds}
-use Rattle.fare_tariff.specs.declared.limits.TheConstants.{MOST_RECORDS}
-use Rattle.fare_tariff.specs.declared.records.record.Record.{Record}
-use Rattle.fare_tariff.specs.declared.records.record.Record.TheVariants as filed
-use Rattle.fare_tariff.specs.declared.records.fare_key.FareKey.{FareKey}
+use Rattle.fare_records.specs.declared.limits.TheConstants.{MOST_RECORDS}
+use Rattle.fare_records.specs.declared.record.Record.{Record}
+use Rattle.fare_records.specs.declared.record.Record.TheVariants as filed
+use Rattle.fare_records.specs.declared.fare_key.FareKey.{FareKey}
 use Rattle.fare_tariff.specs.declared.check.check_kind.CheckKind.{CheckKind}
-use Rattle.fare_tariff.specs.Record.{FareRecord}
+use Rattle.fare_records.specs.Record.{FareRecord}
 use Rattle.fare_tariff.specs.Check.{kind_of, kind_where, key_of, has_key_of, is_fare_of, is_fare_over, first_number, overlap_of, names_unknown_city, names_unknown_rule, names_unknown_currency, is_one_too_many, has_same_points, is_zero_mileage, is_out_of_limit, is_one_unknown, is_unknown_rule}
-use Rattle.fare_tariff.specs.Seasons.{seasons_overlap}
+use Rattle.fare_records.specs.Seasons.{seasons_overlap}
 use Rattle.fare_tariff.specs.Lookup.{number_at, has_key}
 use Rattle.fare_tariff.specs.Faulty.{clashes, clash_of, has_kind_at, is_faulty}
 use Rattle.fare_tariff.proofs.Found.{bytes_eq-true}
 use Rattle.fare_tariff.proofs.FoundFares.{and_true}
-use Rattle.fare_tariff.proofs.SharedDays.{holds_first}
+use Rattle.fare_records.proofs.SharedDays.{holds_first}
 use Rattle.fare_tariff.proofs.FaultPlaces.{kind_at}
 
 -- whether one of two is there

@@ -1,4 +1,3 @@
-pub mod Chain
 pub mod FoundByKey
 pub mod Places
 pub mod Looks
@@ -11,11 +10,9 @@ pub mod FreePlaces
 pub mod Faults
 pub mod Validity
 pub mod CheckExamples
-pub mod SharedDays
 pub mod Found
 pub mod FoundFares
 pub mod OneFare
 pub mod FoundOptions
-pub mod Zipped
 pub mod NextFares
 pub mod SeenFares

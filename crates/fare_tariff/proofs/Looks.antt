@@ -8,16 +8,16 @@ use Rattle.fare_codes.specs.Same.{same_indicator}
 use Rattle.fare_index.specs.declared.key.Key.{Key}
 use Rattle.fare_index.specs.declared.key.Key.TheVariants as kind
 use Rattle.fare_index.specs.Pairs.{extra_key}
-use Rattle.fare_tariff.specs.declared.records.record.Record.{Record}
-use Rattle.fare_tariff.specs.declared.records.record.Record.TheVariants as filed
-use Rattle.fare_tariff.specs.declared.records.fare_key.FareKey.{FareKey}
+use Rattle.fare_records.specs.declared.record.Record.{Record}
+use Rattle.fare_records.specs.declared.record.Record.TheVariants as filed
+use Rattle.fare_records.specs.declared.fare_key.FareKey.{FareKey}
 use Rattle.fare_tariff.specs.declared.look_up.seek.Sought.{Sought}
 use Rattle.fare_tariff.specs.declared.look_up.seek.Sought.TheVariants.{On, Of, Over}
 use Rattle.fare_tariff.specs.Lookup.{greatest, numbers_from, is_fare_between, is_by_way_of, allowance_in}
-use Rattle.fare_tariff.specs.Fields.{same_pair, same_via}
-use Rattle.fare_tariff.specs.Keyed.{has_own_key, extra_miles}
+use Rattle.fare_records.specs.Fields.{same_pair, same_via}
+use Rattle.fare_records.specs.Keyed.{has_own_key, extra_miles}
 use Rattle.fare_tariff.specs.Sought.{is_sought}
-use Rattle.fare_tariff.proofs.Chain.{LooksAt}
+use Rattle.fare_records.proofs.Chain.{LooksAt}
 use Rattle.fare_tariff.proofs.FoundByKey.{fare_tells, ema_tells}
 
 -- a record that is no fare between a key's cities for its indicator isn't sought

@@ -7,16 +7,16 @@ use Rattle.std.proofs.lemmas.Option.{same_Some, slice_get_within, get_or_from_sl
 use Rattle.fare_codes.specs.declared.city.City.{City}
 use Rattle.fare_codes.specs.declared.indicator.Indicator.{Indicator}
 use Rattle.fare_index.specs.declared.key.Key.TheVariants.{Fares}
-use Rattle.fare_tariff.specs.declared.limits.TheConstants.{MOST_PLACES, MOST_RECORDS}
-use Rattle.fare_tariff.specs.declared.records.record.Record.{Record}
-use Rattle.fare_tariff.specs.declared.records.record.Record.TheVariants as filed
+use Rattle.fare_records.specs.declared.limits.TheConstants.{MOST_PLACES, MOST_RECORDS}
+use Rattle.fare_records.specs.declared.record.Record.{Record}
+use Rattle.fare_records.specs.declared.record.Record.TheVariants as filed
 use Rattle.fare_tariff.specs.Check.{first_fault}
 use Rattle.fare_tariff.specs.Filed.{IsFareBetween}
-use Rattle.fare_tariff.specs.Keyed.{has_own_key, own_key}
+use Rattle.fare_records.specs.Keyed.{has_own_key, own_key}
 use Rattle.fare_tariff.specs.Lookup.{fare_at, is_fare_between, next_beside, next_fare, nth_fare, number_at, numbers_from}
-use Rattle.fare_tariff.specs.Record.{FareRecord}
+use Rattle.fare_records.specs.Record.{FareRecord}
 use Rattle.fare_tariff.specs.Tariff.{Tariff}
-use Rattle.fare_tariff.proofs.Chain.{found_from}
+use Rattle.fare_records.proofs.Chain.{found_from}
 use Rattle.fare_tariff.proofs.FoundByKey.{fare_tells}
 use Rattle.fare_tariff.proofs.FoundFares.{fare_at-some, filed_nth, nth_at}
 use Rattle.fare_tariff.proofs.FoundOptions.{of_value}

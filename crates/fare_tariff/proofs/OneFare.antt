@@ -11,20 +11,20 @@ use Rattle.fare_codes.specs.declared.kind.Kind.{Kind}
 use Rattle.fare_codes.specs.declared.kind.Kind.TheVariants.{OW, HR}
 use Rattle.fare_codes.specs.declared.month_day.MonthDay.{MonthDay}
 use Rattle.fare_codes.specs.Same.{same_indicator, same_cabin, same_kind}
-use Rattle.fare_tariff.specs.declared.records.record.Record.{Record}
-use Rattle.fare_tariff.specs.declared.records.record.Record.TheVariants as filed
-use Rattle.fare_tariff.specs.declared.records.fare_key.FareKey.{FareKey}
-use Rattle.fare_tariff.specs.Record.{FareRecord}
+use Rattle.fare_records.specs.declared.record.Record.{Record}
+use Rattle.fare_records.specs.declared.record.Record.TheVariants as filed
+use Rattle.fare_records.specs.declared.fare_key.FareKey.{FareKey}
+use Rattle.fare_records.specs.Record.{FareRecord}
 use Rattle.fare_tariff.specs.Tariff.{Tariff}
 use Rattle.fare_tariff.specs.Lookup.{fare_at, fare_number, has_key, is_fare_on, number_at}
-use Rattle.fare_tariff.specs.Fields.{same_rule}
+use Rattle.fare_records.specs.Fields.{same_rule}
 use Rattle.fare_tariff.specs.Check.{first_fault, is_fare_over, key_of}
-use Rattle.fare_tariff.specs.Seasons.{seasons_overlap}
+use Rattle.fare_records.specs.Seasons.{seasons_overlap}
 use Rattle.fare_tariff.specs.Filed.{FilesFareOn, IsFareOn}
 use Rattle.fare_tariff.proofs.Validity.{HasNoKind, no_kind_at, option_map-none}
 use Rattle.fare_tariff.proofs.Found.{bytes_eq-true}
 use Rattle.fare_tariff.proofs.FoundFares.{and_true, fare_at-some, same_indicator-true, filed_on}
-use Rattle.fare_tariff.proofs.SharedDays.{both_hold}
+use Rattle.fare_records.proofs.SharedDays.{both_hold}
 
 -- the same class by the test is the same
 same_cabin-true : (a b : Cabin) → same_cabin a b ≡ true → a ≡ b

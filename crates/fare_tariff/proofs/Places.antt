@@ -4,10 +4,10 @@ use Rattle.std.specs.List.{position_from}
 use Rattle.std.proofs.lemmas.Iterator.Adapters.{position_from-zero}
 use Rattle.std.proofs.lemmas.Bool.{lt-ltb, le-ltb}
 use Rattle.std.proofs.lemmas.Bool.Decides.{nat_tests}
-use Rattle.fare_tariff.specs.declared.records.record.Record.{Record}
+use Rattle.fare_records.specs.declared.record.Record.{Record}
 use Rattle.fare_tariff.specs.Lookup.{number_at, numbers_from}
-use Rattle.fare_tariff.specs.Keyed.{before}
-use Rattle.fare_tariff.proofs.Chain.{found_from}
+use Rattle.fare_records.specs.Keyed.{before}
+use Rattle.fare_records.proofs.Chain.{found_from}
 use Rattle.fare_tariff.proofs.FoundFares.{count_cons, counted, not_counted, nth_at}
 
 -- a place that stands before another, and one that doesn't

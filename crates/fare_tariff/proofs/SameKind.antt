@@ -7,15 +7,15 @@ use Rattle.fare_codes.specs.declared.indicator.Indicator.{Indicator}
 use Rattle.fare_codes.specs.declared.season.Season.{Season}
 use Rattle.fare_index.specs.declared.key.Key.{Key}
 use Rattle.fare_index.specs.declared.key.Key.TheVariants as kind
-use Rattle.fare_tariff.specs.declared.limits.TheConstants.{MOST_FARES_BETWEEN}
-use Rattle.fare_tariff.specs.declared.records.record.Record.{Record}
-use Rattle.fare_tariff.specs.declared.records.record.Record.TheVariants as filed
-use Rattle.fare_tariff.specs.declared.records.fare_key.FareKey.{FareKey}
-use Rattle.fare_tariff.specs.Record.{FareRecord}
+use Rattle.fare_records.specs.declared.limits.TheConstants.{MOST_FARES_BETWEEN}
+use Rattle.fare_records.specs.declared.record.Record.{Record}
+use Rattle.fare_records.specs.declared.record.Record.TheVariants as filed
+use Rattle.fare_records.specs.declared.fare_key.FareKey.{FareKey}
+use Rattle.fare_records.specs.Record.{FareRecord}
 use Rattle.fare_tariff.specs.Lookup.{is_fare_between, numbers_from, number_at}
 use Rattle.fare_tariff.specs.Faulty.{clash_of}
 use Rattle.fare_tariff.specs.Check.{first_number, has_key_of, is_fare_over, is_one_too_many, key_of, overlap_of}
-use Rattle.fare_tariff.specs.Keyed.{before, own_key, has_own_key}
+use Rattle.fare_records.specs.Keyed.{before, own_key, has_own_key}
 use Rattle.fare_tariff.proofs.FoundByKey.{city_tells, currency_tells, rule_tells, mpm_tells, tpm_tells, ema_tells}
 use Rattle.fare_tariff.proofs.Places.{position_before, too_many}
 

@@ -14,18 +14,18 @@ use Rattle.fare_index.specs.declared.key.Key.{Key}
 use Rattle.fare_index.specs.declared.key.Key.TheVariants.{Fares}
 use Rattle.fare_index.specs.SameKeys.{same_key-true}
 use Rattle.fare_tariff.specs.declared.check.seen.Seen.{Seen}
-use Rattle.fare_tariff.specs.declared.limits.TheConstants.{MOST_FARES_BETWEEN}
-use Rattle.fare_tariff.specs.declared.records.record.Record.{Record}
-use Rattle.fare_tariff.specs.declared.records.record.Record.TheVariants as filed
-use Rattle.fare_tariff.specs.declared.records.fare_key.FareKey.{FareKey}
-use Rattle.fare_tariff.specs.Record.{FareRecord}
+use Rattle.fare_records.specs.declared.limits.TheConstants.{MOST_FARES_BETWEEN}
+use Rattle.fare_records.specs.declared.record.Record.{Record}
+use Rattle.fare_records.specs.declared.record.Record.TheVariants as filed
+use Rattle.fare_records.specs.declared.fare_key.FareKey.{FareKey}
+use Rattle.fare_records.specs.Record.{FareRecord}
 use Rattle.fare_tariff.specs.Lookup.{is_fare_between, has_key}
 use Rattle.fare_tariff.specs.Check.{is_fare_over, key_of}
-use Rattle.fare_tariff.specs.Seasons.{seasons_overlap}
+use Rattle.fare_records.specs.Seasons.{seasons_overlap}
 use Rattle.fare_tariff.specs.Faulty.{clash_of, clashes}
-use Rattle.fare_tariff.specs.Keyed.{before, own_key, has_own_key}
+use Rattle.fare_records.specs.Keyed.{before, own_key, has_own_key}
 use Rattle.fare_tariff.specs.Seen.{bucket_of, bucket_of_key, marked, may_clash, none_seen, noted}
-use Rattle.fare_tariff.proofs.Chain.{LooksAt, IsKeyed, from_place, from_first, walk_step}
+use Rattle.fare_records.proofs.Chain.{LooksAt, IsKeyed, from_place, from_first, walk_step}
 use Rattle.fare_tariff.proofs.FoundByKey.{fare_tells}
 use Rattle.fare_tariff.proofs.FoundFares.{and_true, count_cons, counted, not_counted}
 use Rattle.fare_tariff.proofs.Looks.{sought_apart}

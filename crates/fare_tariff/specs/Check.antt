@@ -11,22 +11,22 @@ use Rattle.fare_codes.specs.declared.day.Day.{Day}
 use Rattle.fare_codes.specs.declared.season.Season.{Season}
 use Rattle.fare_codes.specs.declared.limits.TheConstants.{LAST_EDITION}
 use Rattle.fare_codes.specs.Same.{same_indicator, same_season}
-use Rattle.fare_tariff.specs.declared.limits.TheConstants.{MOST_FARES_BETWEEN, MOST_RECORDS}
-use Rattle.fare_tariff.specs.declared.records.record.Record.{Record}
-use Rattle.fare_tariff.specs.declared.records.record.Record.TheVariants as filed
-use Rattle.fare_tariff.specs.declared.records.fare_key.FareKey.{FareKey}
+use Rattle.fare_records.specs.declared.limits.TheConstants.{MOST_FARES_BETWEEN, MOST_RECORDS}
+use Rattle.fare_records.specs.declared.record.Record.{Record}
+use Rattle.fare_records.specs.declared.record.Record.TheVariants as filed
+use Rattle.fare_records.specs.declared.fare_key.FareKey.{FareKey}
 use Rattle.fare_tariff.specs.declared.check.check_kind.CheckKind.{CheckKind}
 use Rattle.fare_tariff.specs.declared.check.check_kind.CheckKind.TheVariants.{Duplicate, UnknownCity, UnknownRule}
 use Rattle.fare_tariff.specs.declared.check.check_kind.CheckKind.TheVariants.{UnknownCurrency, TooManyFares, SamePoint}
 use Rattle.fare_tariff.specs.declared.check.check_kind.CheckKind.TheVariants.{ZeroMileage, OutOfLimit, Overlap}
 use Rattle.fare_tariff.specs.declared.check.check_fault.CheckFault.{CheckFault}
 use Rattle.fare_tariff.specs.declared.check.check_fault.CheckFault.TheVariants.{At}
-use Rattle.fare_tariff.specs.Record.{FareRecord}
+use Rattle.fare_records.specs.Record.{FareRecord}
 use Rattle.fare_tariff.specs.Tariff.{Tariff}
-use Rattle.fare_tariff.specs.Keyed.{has_amount_in_range}
-use Rattle.fare_tariff.specs.Seasons.{seasons_overlap}
+use Rattle.fare_records.specs.Keyed.{has_amount_in_range}
+use Rattle.fare_records.specs.Seasons.{seasons_overlap}
 use Rattle.fare_tariff.specs.Lookup.{first_some, city_in, currency_in, has_key, rule_in, mpm_in}
-use Rattle.fare_tariff.specs.Fields.{same_pair, same_via}
+use Rattle.fare_records.specs.Fields.{same_pair, same_via}
 use Rattle.fare_tariff.specs.Lookup.{tpm_in, number_at, is_fare_between}
 
 -- the key of a filed fare without its season

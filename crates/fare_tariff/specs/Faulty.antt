@@ -3,18 +3,18 @@ use Rattle.std.specs.Prelude.{◌≡◌, ℕ, ◌+◌, ◌<◌, Bool, false, Lis
 use Rattle.std.specs.Prelude.{count_by, nat_le, ◌==◌, ◌&&◌, ◌||◌, take, is_some, option_and_then, slice_get}
 use Rattle.std.specs.Prelude.{slice_index_or}
 use Rattle.std.specs.List.{position_from, range_with_len}
-use Rattle.fare_tariff.specs.declared.records.record.Record.{Record}
-use Rattle.fare_tariff.specs.declared.records.record.Record.TheVariants as filed
+use Rattle.fare_records.specs.declared.record.Record.{Record}
+use Rattle.fare_records.specs.declared.record.Record.TheVariants as filed
 use Rattle.fare_tariff.specs.declared.check.check_fault.CheckFault.{CheckFault}
 use Rattle.fare_codes.specs.declared.season.Season.{Season}
 use Rattle.fare_index.specs.declared.key.Key.{Key}
-use Rattle.fare_tariff.specs.declared.limits.TheConstants.{MOST_FARES_BETWEEN, MOST_RECORDS}
-use Rattle.fare_tariff.specs.declared.records.fare_key.FareKey.{FareKey}
+use Rattle.fare_records.specs.declared.limits.TheConstants.{MOST_FARES_BETWEEN, MOST_RECORDS}
+use Rattle.fare_records.specs.declared.fare_key.FareKey.{FareKey}
 use Rattle.fare_tariff.specs.Lookup.{is_fare_between}
 use Rattle.fare_tariff.specs.Check.{kind_of, fault_at, first_number, has_key_of, has_same_points, is_fare_over}
 use Rattle.fare_tariff.specs.Check.{is_zero_mileage, key_of, names_unknown_city, names_unknown_rule}
 use Rattle.fare_tariff.specs.Check.{names_unknown_currency}
-use Rattle.fare_tariff.specs.Keyed.{own_key, has_own_key}
+use Rattle.fare_records.specs.Keyed.{own_key, has_own_key}
 
 -- the record at a place has a kind
 abbrev pub has_kind_at : List Record → ℕ → Bool

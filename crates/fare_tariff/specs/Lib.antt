@@ -2,15 +2,10 @@ pub use Rattle.fare_codes.specs.Codes
 pub use Rattle.fare_codes.specs.Day
 pub use Rattle.fare_codes.specs.Same
 pub use Rattle.fare_codes.specs.Season
-pub mod Record
-pub mod Fields
-pub mod Seasons
 pub mod Tariff
 pub mod Lookup
 pub mod Check
 pub mod Filed
-pub mod Keyed
 pub mod Sought
 pub mod Faulty
 pub mod Seen
-pub mod Spelling

@@ -10,17 +10,17 @@ use Rattle.fare_codes.specs.declared.month_day.MonthDay.{MonthDay}
 use Rattle.fare_codes.specs.declared.indicator.Indicator.{Indicator}
 use Rattle.fare_codes.specs.Same.{same_indicator, same_cabin, same_kind}
 use Rattle.fare_codes.specs.Season.{season_holds}
-use Rattle.fare_tariff.specs.declared.limits.TheConstants.{MOST_STOPS, MOST_TRANSFERS}
-use Rattle.fare_tariff.specs.declared.records.record.Record.{Record}
-use Rattle.fare_tariff.specs.declared.records.record.Record.TheVariants as filed
-use Rattle.fare_tariff.specs.declared.records.city_record.CityRec.{CityRec}
-use Rattle.fare_tariff.specs.declared.records.names.Names.{Names}
-use Rattle.fare_tariff.specs.declared.records.names.Names.TheVariants.{All, Of}
-use Rattle.fare_tariff.specs.declared.records.terms.Terms.{Terms}
-use Rattle.fare_tariff.specs.declared.records.fare_key.FareKey.{FareKey}
-use Rattle.fare_tariff.specs.Record.{CurrencyRecord, RuleRecord, FareRecord}
+use Rattle.fare_records.specs.declared.limits.TheConstants.{MOST_STOPS, MOST_TRANSFERS}
+use Rattle.fare_records.specs.declared.record.Record.{Record}
+use Rattle.fare_records.specs.declared.record.Record.TheVariants as filed
+use Rattle.fare_records.specs.declared.city_record.CityRec.{CityRec}
+use Rattle.fare_records.specs.declared.names.Names.{Names}
+use Rattle.fare_records.specs.declared.names.Names.TheVariants.{All, Of}
+use Rattle.fare_records.specs.declared.terms.Terms.{Terms}
+use Rattle.fare_records.specs.declared.fare_key.FareKey.{FareKey}
+use Rattle.fare_records.specs.Record.{CurrencyRecord, RuleRecord, FareRecord}
 use Rattle.fare_tariff.specs.Tariff.{Tariff}
-use Rattle.fare_tariff.specs.Fields.{same_pair, same_rule}
+use Rattle.fare_records.specs.Fields.{same_pair, same_rule}
 
 -- the first answer that a record of a list gives
 abbrev pub first_some : {A : Type 0} → (Record → Option A) → List Record → Option A

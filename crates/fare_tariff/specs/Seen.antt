@@ -6,14 +6,14 @@ use Rattle.fare_codes.specs.declared.cabin.Cabin.{Cabin}
 use Rattle.fare_codes.specs.declared.cabin.Cabin.TheVariants.{F, C, Y}
 use Rattle.fare_codes.specs.declared.kind.Kind.{Kind}
 use Rattle.fare_codes.specs.declared.kind.Kind.TheVariants.{OW, HR}
-use Rattle.fare_tariff.specs.declared.limits.TheConstants.{MOST_FARES_BETWEEN}
+use Rattle.fare_records.specs.declared.limits.TheConstants.{MOST_FARES_BETWEEN}
 use Rattle.fare_tariff.specs.declared.check.seen.Seen.{Seen}
-use Rattle.fare_tariff.specs.declared.records.record.Record.{Record}
-use Rattle.fare_tariff.specs.declared.records.record.Record.TheVariants as filed
-use Rattle.fare_tariff.specs.declared.records.fare_key.FareKey.{FareKey}
-use Rattle.fare_tariff.specs.Record.{FareRecord}
+use Rattle.fare_records.specs.declared.record.Record.{Record}
+use Rattle.fare_records.specs.declared.record.Record.TheVariants as filed
+use Rattle.fare_records.specs.declared.fare_key.FareKey.{FareKey}
+use Rattle.fare_records.specs.Record.{FareRecord}
 use Rattle.fare_tariff.specs.Check.{key_of}
-use Rattle.fare_tariff.specs.Spelling.{spelled_rule}
+use Rattle.fare_records.specs.Spelling.{spelled_rule}
 
 -- a number for a rule field
 abbrev pub rule_number : Option RuleId → ℕ

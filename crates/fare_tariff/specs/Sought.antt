@@ -1,7 +1,7 @@
 -- The fares that are sought among those of a key.
 use Rattle.std.specs.Prelude.{Bool}
-use Rattle.fare_tariff.specs.declared.records.record.Record.{Record}
-use Rattle.fare_tariff.specs.declared.records.fare_key.FareKey.{FareKey}
+use Rattle.fare_records.specs.declared.record.Record.{Record}
+use Rattle.fare_records.specs.declared.fare_key.FareKey.{FareKey}
 use Rattle.fare_tariff.specs.declared.look_up.seek.Sought.{Sought}
 use Rattle.fare_tariff.specs.declared.look_up.seek.Sought.TheVariants.{On, Of, Over}
 use Rattle.fare_tariff.specs.Lookup.{is_fare_on}

@@ -3,13 +3,11 @@ ghost use Rattle.fare_outside.specs.Memory.{Gives};
 ghost use Rattle.fare_tariff.specs.Check.{IsEdition, check_edition};
 ghost use Rattle.fare_tariff.specs.Filed.{IsFiledFare};
 ghost use Rattle.fare_tariff.specs.Lookup.{fare_at};
-ghost use Rattle.fare_tariff.specs.Record.{FareRecord};
+ghost use Rattle.fare_records.specs.Record.{FareRecord};
 
 use crate::check::{CheckFault, first_fault};
-use crate::filed::Filed;
-use crate::limits::MOST_RECORDS;
-use crate::records::Record;
 use fare_codes::{Day, LAST_EDITION};
+use fare_records::{Filed, MOST_RECORDS, Record};
 use std::alloc::Global;
 use std::marker::Model;
 use std::thread::Threads;

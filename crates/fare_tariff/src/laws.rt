@@ -4,8 +4,8 @@ ghost use Rattle.std.specs.Prelude.{◌≡◌, ◌↔◌, ◌+◌, ◌<◌, ℕ,
 ghost use Rattle.fare_codes.specs.declared.city.City.{City};
 ghost use Rattle.fare_codes.specs.declared.indicator.Indicator.{Indicator};
 ghost use Rattle.fare_codes.specs.declared.month_day.MonthDay.{MonthDay};
-ghost use Rattle.fare_tariff.specs.declared.limits.TheConstants.{MOST_FARES_BETWEEN};
-ghost use Rattle.fare_tariff.specs.declared.records.fare_key.FareKey.{FareKey};
+ghost use Rattle.fare_records.specs.declared.limits.TheConstants.{MOST_FARES_BETWEEN};
+ghost use Rattle.fare_records.specs.declared.fare_key.FareKey.{FareKey};
 ghost use Rattle.fare_tariff.specs.Lookup.{fare_number, next_fare, nth_fare};
 ghost use Rattle.fare_tariff.specs.Filed.{FilesFareOn};
 

@@ -8,9 +8,10 @@ ghost use Rattle.fare_rules.specs.Terms.{terms_of_fare};
 ghost use Rattle.fare_component.specs.declared.table.references.Form.{Form};
 ghost use Rattle.fare_component.specs.References.{AreReferences, IsOfForm, IsReach, IsReference, kept_at, reference_of};
 
-use fare_codes::{Day, FARE_LIMIT, Nuc, RuleId};
+use fare_codes::{Day, FARE_LIMIT, Nuc};
 use fare_conditions::{Priced, terms_of_fare};
 use fare_points::reference;
+use fare_records::same_rules;
 use fare_rules::MOST_POINTS;
 use fare_tariff::{Edition, FareRec, Terms};
 
@@ -55,17 +56,6 @@ pub(crate) struct References {
     pub(crate) reach: Reach,
 }
 
-/// Whether two rule fields are the same.
-fn is_same_rule(a: &Option<RuleId>, b: &Option<RuleId>) -> bool
-    ensures { IsTrue result → a.now ≡ b.now }
-{
-    match (a, b) {
-        (None, None) => true,
-        (Some(a), Some(b)) => a.is(*b),
-        _ => false,
-    }
-}
-
 /// Whether a form's references are those of a fare in a direction.
 pub(crate) fn is_of_form(form: &Form, fare: &FareRec, back: bool) -> bool
     ensures { IsTrue result → IsOfForm fare.now back form.now }
@@ -74,7 +64,7 @@ pub(crate) fn is_of_form(form: &Form, fare: &FareRec, back: bool) -> bool
         && form.fare.carrier.is(fare.carrier)
         && form.fare.class.is(fare.class)
         && form.fare.kind.is(fare.kind)
-        && is_same_rule(&form.fare.rule, &fare.rule)
+        && same_rules(&form.fare.rule, &fare.rule)
 }
 
 /// The reference of a form between two points.

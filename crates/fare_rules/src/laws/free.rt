@@ -3,7 +3,7 @@ ghost use Rattle.fare_codes.specs.Day.{is_month_day, month_day_of};
 ghost use Rattle.fare_codes.specs.Season.{whole_year};
 ghost use Rattle.fare_trip.specs.Itinerary.{Itinerary};
 ghost use Rattle.fare_tariff.specs.Lookup.{unit_ok, ends_ok};
-ghost use Rattle.fare_tariff.specs.Record.{FareRecord};
+ghost use Rattle.fare_records.specs.Record.{FareRecord};
 ghost use Rattle.fare_tariff.specs.Tariff.{Tariff};
 ghost use Rattle.fare_rules.specs.Span.{first_day};
 ghost use Rattle.fare_rules.specs.ComponentAmount.{is_applicable, in_season};

@@ -3,7 +3,7 @@ ghost use Rattle.fare_codes.specs.declared.city.City.{City};
 ghost use Rattle.fare_codes.specs.declared.day.Day.{Day};
 ghost use Rattle.fare_codes.specs.declared.indicator.Indicator.{Indicator};
 ghost use Rattle.fare_trip.specs.Itinerary.{Itinerary};
-ghost use Rattle.fare_tariff.specs.Record.{FareRecord};
+ghost use Rattle.fare_records.specs.Record.{FareRecord};
 ghost use Rattle.fare_tariff.specs.Tariff.{Tariff};
 ghost use Rattle.fare_rules.specs.declared.part.Part.{Part};
 ghost use Rattle.fare_rules.specs.Reference.{reference};

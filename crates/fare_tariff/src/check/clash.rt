@@ -4,16 +4,14 @@
 ghost use Rattle.std.specs.Prelude.{◌≡◌, ◌<◌, length, slice_index_or, take};
 ghost use Rattle.std.specs.List.{position_from};
 ghost use Rattle.fare_index.specs.declared.key.Key.TheVariants.{Fares};
-ghost use Rattle.fare_tariff.specs.declared.records.record.Record.{Record};
+ghost use Rattle.fare_records.specs.declared.record.Record.{Record};
 ghost use Rattle.fare_tariff.specs.Faulty.{clashes, clash_of};
-ghost use Rattle.fare_tariff.specs.Keyed.{has_own_key, own_key};
+ghost use Rattle.fare_records.specs.Keyed.{has_own_key, own_key};
 
 use crate::check::keys::{before, key_of};
-use crate::filed::Filed;
-use crate::limits::MOST_FARES_BETWEEN;
 use crate::look_up::{Sought, is_sought};
-use crate::records::{FareKey, Record};
 use fare_codes::Season;
+use fare_records::{FareKey, Filed, MOST_FARES_BETWEEN, Record};
 
 /// Whether a fare before a place has a key and a season that overlaps a season, or as many fares before the place as
 /// there may be have the cities and the indicator of the key. The first fare with these is at a place that is known.

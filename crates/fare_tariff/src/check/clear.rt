@@ -6,15 +6,13 @@ ghost use Rattle.std.specs.List.{position_from};
 ghost use Rattle.fare_tariff.specs.Faulty.{clash_behind, clash_of, clashes_from, has_kind_at, IsFree};
 ghost use Rattle.fare_tariff.specs.Faulty.{is_suspect, leads_to_clash};
 ghost use Rattle.fare_tariff.specs.Seen.{may_clash};
-ghost use Rattle.fare_tariff.specs.Keyed.{has_own_key, own_key};
+ghost use Rattle.fare_records.specs.Keyed.{has_own_key, own_key};
 
 use crate::check::clash::{clash_at, clash_from};
 use crate::check::names::names_unknown;
 use crate::check::numbers::{has_same_points, is_zero_mileage};
 use crate::check::seen::Seen;
-use crate::filed::Filed;
-use crate::limits::MOST_RECORDS;
-use crate::records::Record;
+use fare_records::{Filed, MOST_RECORDS, Record};
 use rayon::prelude::*;
 use std::marker::Sync;
 use std::thread::Threads;

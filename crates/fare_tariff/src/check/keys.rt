@@ -2,12 +2,10 @@
 
 ghost use Rattle.std.specs.Prelude.{◌≡◌, ◌<◌, ◌≤◌, length, position, take, IfSome};
 ghost use Rattle.fare_tariff.specs.Check.{key_of, has_key_of, first_number, overlap_of};
-ghost use Rattle.fare_tariff.specs.Keyed.{before};
+ghost use Rattle.fare_records.specs.Keyed.{before};
 
-use crate::filed::{Filed, own_key};
-use crate::limits::MOST_PLACES;
 use crate::look_up::{Sought, first_fare, number_at};
-use crate::records::{FareKey, FareRec, Record};
+use fare_records::{FareKey, FareRec, Filed, MOST_PLACES, Record, own_key};
 
 /// The key of a filed fare without its season.
 pub(crate) fn key_of(fare: &FareRec) -> FareKey

@@ -12,9 +12,7 @@ use crate::check::names::{
 };
 use crate::check::numbers::{has_same_points, is_one_too_many, is_zero_mileage};
 use crate::check::{CheckFault, CheckKind};
-use crate::filed::Filed;
-use crate::limits::{MOST_PLACES, MOST_RECORDS};
-use crate::records::Record;
+use fare_records::{Filed, MOST_PLACES, MOST_RECORDS, Record};
 use rayon::prelude::*;
 use std::marker::Sync;
 use std::thread::Threads;

@@ -8,11 +8,10 @@ ghost use Rattle.fare_tariff.specs.Check.{names_unknown_rule, names_unknown_curr
 ghost use Rattle.fare_tariff.specs.Faulty.{names_unknown};
 ghost use Rattle.fare_tariff.specs.Lookup.{first_some, rule_in, currency_in};
 
-use crate::filed::Filed;
 use crate::look_up::city_in;
-use crate::records::Record;
 use fare_codes::{City, Country, RuleId};
 use fare_index::Key;
+use fare_records::{Filed, Record};
 
 /// Whether the record at which a city's may stand is its record.
 fn is_guessed(filed: &Filed, city: City) -> bool

@@ -4,10 +4,8 @@ ghost use Rattle.std.specs.Prelude.{◌≡◌, take};
 ghost use Rattle.fare_tariff.specs.Check.{is_one_too_many, has_same_points, is_zero_mileage};
 
 use crate::check::keys::before;
-use crate::filed::Filed;
-use crate::limits::MOST_FARES_BETWEEN;
 use crate::look_up::nth_place;
-use crate::records::Record;
+use fare_records::{Filed, MOST_FARES_BETWEEN, Record};
 
 /// Whether as many of the records before a place as there may be are fares with the from, to and indicator of a fare.
 #[tactic(auto, using(crate::proofs::Places::too_many))]

@@ -5,10 +5,8 @@ ghost use Rattle.std.specs.Prelude.{◌≡◌, ◌<◌, length};
 ghost use Rattle.fare_tariff.specs.Seen.{bucket_of, class_number, kind_number, may_clash, noted, none_seen};
 ghost use Rattle.fare_tariff.specs.Seen.{rule_number};
 
-use crate::guesses::spelled_rule;
-use crate::limits::MOST_FARES_BETWEEN;
-use crate::records::{FareRec, Record};
 use fare_codes::{Cabin, Carrier, Kind, RuleId};
+use fare_records::{FareRec, MOST_FARES_BETWEEN, Record, spelled_rule};
 
 /// How many buckets there are: a prime, so that each character of a rule's id counts.
 const BUCKETS: usize = 61;

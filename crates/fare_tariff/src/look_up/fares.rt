@@ -8,12 +8,12 @@ ghost use Rattle.fare_tariff.specs.Lookup.{fare_in, has_key, is_fare_on, is_fare
 ghost use Rattle.fare_tariff.specs.Lookup.{fare_number, fare_at, nth_fare, next_fare};
 
 use crate::edition::Edition;
-use crate::filed::Filed;
-use crate::limits::{MOST_FARES_BETWEEN, MOST_PLACES, MOST_RECORDS};
 use crate::look_up::seek::{Sought, first_fare};
-use crate::records::{FareKey, FareRec, Record, same_rules};
 use fare_codes::{City, FARE_LIMIT, Indicator, MonthDay};
 use fare_index::Key;
+use fare_records::{
+    FareKey, FareRec, Filed, MOST_FARES_BETWEEN, MOST_PLACES, MOST_RECORDS, Record, same_rules,
+};
 
 impl Edition {
     /// The record number of the fare with this key whose season holds a day; nothing means that no record has the key

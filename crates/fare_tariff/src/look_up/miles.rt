@@ -2,14 +2,12 @@
 
 ghost use Rattle.std.specs.Prelude.{◌≡◌, ◌<◌, ◌≤◌, IfSome};
 ghost use Rattle.fare_tariff.specs.Lookup.{first_some, greatest, mpm_in, tpm_in, allowance_in, mpm, tpm, allowance};
-ghost use Rattle.fare_tariff.specs.Keyed.{extra_miles};
+ghost use Rattle.fare_records.specs.Keyed.{extra_miles};
 
 use crate::edition::Edition;
-use crate::filed::Filed;
-use crate::limits::MOST_MILES;
-use crate::records::{Record, same_pairs};
 use fare_codes::{City, Indicator};
 use fare_index::Key;
+use fare_records::{Filed, MOST_MILES, Record, same_pairs};
 
 impl Edition {
     /// The maximum permitted mileage of an unordered pair of cities and an indicator; nothing means that no record has

@@ -2,15 +2,14 @@
 
 ghost use Rattle.std.specs.Prelude.{◌≡◌, IfSome};
 ghost use Rattle.std.specs.Option.{option_copied};
-ghost use Rattle.fare_tariff.specs.Record.{IsCurrency};
+ghost use Rattle.fare_records.specs.Record.{IsCurrency};
 ghost use Rattle.fare_tariff.specs.Filed.{IsFiledCity};
 ghost use Rattle.fare_tariff.specs.Lookup.{first_some, city_in, currency_in, city_record, currency_of};
 
 use crate::edition::Edition;
-use crate::filed::Filed;
-use crate::records::{CityRec, CurRec, Record};
 use fare_codes::{City, Country};
 use fare_index::Key;
+use fare_records::{CityRec, CurRec, Filed, Record};
 
 impl Edition {
     /// The record of a city; nothing means that no record has it as its key.

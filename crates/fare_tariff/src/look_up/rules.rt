@@ -6,14 +6,12 @@ ghost use Rattle.std.specs.List.{list_any};
 ghost use Rattle.fare_tariff.specs.Filed.{AreInRange};
 ghost use Rattle.fare_tariff.specs.Lookup.{first_some, rule_in, rule_of, rule_record, terms_of, free_terms};
 ghost use Rattle.fare_tariff.specs.Lookup.{terms, lists, lists_in, unit_names, end_names, unit_ok, ends_ok};
-ghost use Rattle.fare_tariff.specs.Fields.{same_rule};
+ghost use Rattle.fare_records.specs.Fields.{same_rule};
 
 use crate::edition::Edition;
-use crate::filed::Filed;
-use crate::limits::{MOST_STOPS, MOST_TRANSFERS};
-use crate::records::{Names, Record, RuleRec, Terms, same_rules};
 use fare_codes::RuleId;
 use fare_index::Key;
+use fare_records::{Filed, MOST_STOPS, MOST_TRANSFERS, Names, Record, RuleRec, Terms, same_rules};
 
 impl Edition {
     /// The terms of a rule field; nothing means that the rule isn't filed.

@@ -3,12 +3,10 @@
 ghost use Rattle.std.specs.Prelude.{◌≡◌, ◌<◌, length, position, IfSome};
 ghost use Rattle.fare_tariff.specs.Sought.{is_sought};
 
-use crate::filed::Filed;
 use crate::look_up::has_key;
-use crate::records::{FareKey, Record};
-use crate::seasons::seasons_overlap;
 use fare_codes::{MonthDay, Season};
 use fare_index::Key;
+use fare_records::{FareKey, Filed, Record, seasons_overlap};
 
 /// Which season a fare that is sought has.
 #[derive(Clone, Copy)]

@@ -1,6 +1,6 @@
 use Rattle.std.proofs.Common.{◌∙◌, ap}
 use Rattle.fare_codes.specs.declared.month_day.MonthDay.{MonthDay}
-use Rattle.fare_tariff.specs.declared.records.fare_key.FareKey.{FareKey}
+use Rattle.fare_records.specs.declared.fare_key.FareKey.{FareKey}
 use Rattle.fare_tariff.specs.Lookup.{fare_number}
 use Rattle.fare_audit.specs.Filing.{key_of}
 use Rattle.fare_audit.proofs.filing.record_for.Goals as goal

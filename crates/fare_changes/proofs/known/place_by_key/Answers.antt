@@ -3,8 +3,8 @@ use Rattle.std.proofs.Common.{◌≡◌, ◌+◌, true, false, ◌||◌, drop, g
 use Rattle.std.specs.List.{position_from}
 use Rattle.std.proofs.lemmas.List.{length-map}
 use Rattle.fare_index.specs.Key.{same_key}
-use Rattle.fare_tariff.specs.Keyed.{own_key, has_own_key}
-use Rattle.fare_tariff.proofs.Chain.{IsKeyed, first_seen, from_first, from_place, keyed_first, next_seen, walk_here, walk_step}
+use Rattle.fare_records.specs.Keyed.{own_key, has_own_key}
+use Rattle.fare_records.proofs.Chain.{IsKeyed, first_seen, from_first, from_place, keyed_first, next_seen, walk_here, walk_step}
 use Rattle.fare_changes.specs.SameRecord.{same_record}
 use Rattle.fare_changes.specs.Diff.{is_in}
 use Rattle.fare_changes.proofs.Held.{in_looks, in_rest}

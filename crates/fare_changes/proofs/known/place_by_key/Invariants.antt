@@ -1,7 +1,7 @@
 -- the record is in the list where it is from the place at hand on, which has a record of its key
 use Rattle.std.proofs.Common.{◌≡◌, IfSome, false}
-use Rattle.fare_tariff.specs.Keyed.{own_key}
-use Rattle.fare_tariff.proofs.Chain.{IsKeyed, from_place, rest_from}
+use Rattle.fare_records.specs.Keyed.{own_key}
+use Rattle.fare_records.proofs.Chain.{IsKeyed, from_place, rest_from}
 use Rattle.fare_changes.specs.Diff.{is_in}
 use Rattle.fare_changes.proofs.Held.{in_rest}
 use Rattle.fare_changes.proofs.known.place_by_key.Given as goal

@@ -1,6 +1,6 @@
 -- an edition, or the faults of records beside one another
 use Rattle.std.proofs.Common.{◌≡◌, Ok, List, ap, sym, ◌∙◌}
-use Rattle.fare_tariff.specs.declared.records.record.Record.{Record}
+use Rattle.fare_records.specs.declared.record.Record.{Record}
 use Rattle.fare_tariff.specs.Tariff.{Tariff}
 use Rattle.fare_csv.specs.Rows.{rows_of}
 use Rattle.fare_csv.specs.TariffText.{tariff_of}

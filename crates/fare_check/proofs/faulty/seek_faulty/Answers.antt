@@ -4,7 +4,7 @@ use Rattle.std.specs.List.{range_with_len}
 use Rattle.rayon.specs.Numbers.{nat_range}
 use Rattle.rayon.proofs.ListFacts.{IfOk-then}
 use Rattle.rayon.proofs.ToStd.{answers-by_ref, filter_by_mask-filter, nat_range-All}
-use Rattle.fare_tariff.specs.declared.limits.TheConstants.{MOST_PLACES}
+use Rattle.fare_records.specs.declared.limits.TheConstants.{MOST_PLACES}
 use Rattle.fare_tariff.specs.Faulty.{has_kind_at}
 use Rattle.fare_check.specs.Faults.{faulty_from}
 use Rattle.fare_check.proofs.faulty.seek_faulty.Goals as goal

@@ -1,7 +1,7 @@
 use Rattle.std.proofs.Common.{◌≡◌, ap, sym, ◌∙◌}
 use Rattle.std.specs.Option.{option_or}
 use Rattle.fare_codes.specs.declared.carrier.Carrier.{Carrier}
-use Rattle.fare_tariff.specs.declared.records.fare_key.FareKey.{FareKey}
+use Rattle.fare_records.specs.declared.fare_key.FareKey.{FareKey}
 use Rattle.fare_rules.specs.Reference.{every_carrier, key_by, amount_on, reference}
 use Rattle.fare_points.proofs.references.reference.Goals as goal
 

@@ -1,5 +1,5 @@
 use Rattle.std.proofs.Common.{ℕ, ◌<◌, get_or}
-use Rattle.fare_tariff.specs.declared.records.record.Record.{Record}
+use Rattle.fare_records.specs.declared.record.Record.{Record}
 use Rattle.fare_relaxed.specs.Ranges.{IsRuleInRange}
 use Rattle.fare_relaxed.proofs.ranges.rules_are_in_range.Given as goal
 

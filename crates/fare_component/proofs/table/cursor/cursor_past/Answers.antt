@@ -1,7 +1,7 @@
 -- the next fare behind the one that is shown comes after it
 use Rattle.std.proofs.Common.{◌≡◌, refl, sym, ◌+◌, ◌<◌, ◌∙◌, rules}
 use Rattle.std.specs.Prelude.{Some}
-use Rattle.fare_tariff.specs.declared.limits.TheConstants.{MOST_FARES_BETWEEN}
+use Rattle.fare_records.specs.declared.limits.TheConstants.{MOST_FARES_BETWEEN}
 use Rattle.fare_tariff.specs.Lookup.{nth_fare}
 use Rattle.fare_tariff.proofs.FoundOptions.{of_some}
 use Rattle.fare_component.proofs.CursorLemmas.{stands_behind}

@@ -1,7 +1,7 @@
 use Rattle.std.proofs.Common.{ℕ, ◌<◌, ap, sym, subst, ◌∙◌}
 use Rattle.std.specs.Prelude.{Some}
 use Rattle.fare_codes.specs.declared.nuc.TheConstants.{FARE_LIMIT}
-use Rattle.fare_tariff.specs.Record.{FareRecord}
+use Rattle.fare_records.specs.Record.{FareRecord}
 use Rattle.fare_component.specs.References.{IsReference}
 use Rattle.fare_component.proofs.OwnLemmas.{own_form}
 use Rattle.fare_component.proofs.table.entry.learn.Goals as goal

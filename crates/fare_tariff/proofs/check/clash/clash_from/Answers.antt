@@ -1,6 +1,6 @@
 -- a fare's own key and season, and any other record's own key
 use Rattle.std.proofs.Common.{ap}
-use Rattle.fare_tariff.specs.Record.{FareRecord}
+use Rattle.fare_records.specs.Record.{FareRecord}
 use Rattle.fare_tariff.proofs.KindTests.{clash_fare}
 use Rattle.fare_tariff.proofs.SameKind.{first_fares, clash_other}
 use Rattle.fare_tariff.proofs.check.clash.clash_from.Goals as goal

@@ -1,6 +1,6 @@
 -- the walk, step by step
 use Rattle.std.proofs.Common.{◌≡◌, ◌+◌, ◌<◌, ◌≤◌, get_or, ap, ◌∙◌, arith}
-use Rattle.fare_tariff.specs.declared.limits.TheConstants.{MOST_FARES_BETWEEN}
+use Rattle.fare_records.specs.declared.limits.TheConstants.{MOST_FARES_BETWEEN}
 use Rattle.fare_tariff.proofs.Clashes.{clear_first, clear_end, clear_past, clear_full, clear_over, clear_next}
 use Rattle.fare_tariff.proofs.check.clash.clashes.Goals as goal
 

@@ -1,5 +1,5 @@
 -- none of the fares that were passed overlaps, and they are counted
-use Rattle.fare_tariff.proofs.Chain.{rest_from}
+use Rattle.fare_records.proofs.Chain.{rest_from}
 use Rattle.fare_tariff.proofs.Clashes.{IsClear}
 use Rattle.fare_tariff.proofs.check.clash.clashes.Given as goal
 

@@ -3,8 +3,8 @@ use Rattle.std.proofs.Common.{◌≡◌, ◌+◌, false, drop, take, get_or, IfS
 use Rattle.std.specs.List.{position_from}
 use Rattle.fare_index.specs.SameKeys.{same_key-true}
 use Rattle.fare_tariff.specs.Faulty.{clash_of, clashes_from}
-use Rattle.fare_tariff.specs.Keyed.{own_key, has_own_key}
-use Rattle.fare_tariff.proofs.Chain.{IsKeyed, keyed_first, from_first, walk_step}
+use Rattle.fare_records.specs.Keyed.{own_key, has_own_key}
+use Rattle.fare_records.proofs.Chain.{IsKeyed, keyed_first, from_first, walk_step}
 use Rattle.fare_tariff.proofs.FreePlaces.{clash_looks, one_clear}
 use Rattle.fare_tariff.proofs.SeenFares.{seen_clear, seen_first, seen_next}
 use Rattle.fare_tariff.proofs.check.clear.chain_clashes.Goals as goal

@@ -1,8 +1,8 @@
 -- one clashes of those from the place at hand on, which has a record of the key
 use Rattle.std.proofs.Common.{◌≡◌, IfSome, false}
 use Rattle.fare_tariff.specs.Faulty.{clashes_from}
-use Rattle.fare_tariff.specs.Keyed.{own_key}
-use Rattle.fare_tariff.proofs.Chain.{IsKeyed, from_place, rest_from}
+use Rattle.fare_records.specs.Keyed.{own_key}
+use Rattle.fare_records.proofs.Chain.{IsKeyed, from_place, rest_from}
 use Rattle.fare_tariff.proofs.SeenFares.{IsSeen}
 use Rattle.fare_tariff.proofs.check.clear.chain_clashes.Given as goal
 

@@ -1,6 +1,6 @@
 -- the fare's own key and season are sought
 use Rattle.std.proofs.Common.{ap}
-use Rattle.fare_tariff.specs.Record.{FareRecord}
+use Rattle.fare_records.specs.Record.{FareRecord}
 use Rattle.fare_tariff.proofs.SameKind.{first_over}
 use Rattle.fare_tariff.proofs.check.keys.overlap_of.Goals as goal
 

@@ -1,6 +1,6 @@
 -- the 64th fare of the cities and the indicator stands before the place
 use Rattle.std.proofs.Common.{ap}
-use Rattle.fare_tariff.specs.Record.{FareRecord}
+use Rattle.fare_records.specs.Record.{FareRecord}
 use Rattle.fare_tariff.proofs.SameKind.{one_too_many}
 use Rattle.fare_tariff.proofs.check.numbers.is_one_too_many.Goals as goal
 

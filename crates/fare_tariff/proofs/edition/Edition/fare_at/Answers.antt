@@ -1,6 +1,6 @@
 -- the fare that is found has no kind
 use Rattle.std.proofs.Common.{◌≡◌, ◌+◌, ◌≤◌, Some}
-use Rattle.fare_tariff.specs.declared.limits.TheConstants.{MOST_RECORDS}
+use Rattle.fare_records.specs.declared.limits.TheConstants.{MOST_RECORDS}
 use Rattle.fare_tariff.specs.Lookup.{fare_at}
 use Rattle.fare_tariff.specs.Filed.{IsFiledFare}
 use Rattle.fare_tariff.proofs.FoundOptions.{of_copied, of_reference}

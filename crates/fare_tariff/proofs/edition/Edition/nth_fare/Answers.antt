@@ -1,6 +1,6 @@
 -- the record of the number that is found is such a fare, and few stand before it
 use Rattle.std.proofs.Common.{◌≡◌, ◌<◌, Some, IsSomeAnd}
-use Rattle.fare_tariff.specs.declared.limits.TheConstants.{MOST_FARES_BETWEEN}
+use Rattle.fare_records.specs.declared.limits.TheConstants.{MOST_FARES_BETWEEN}
 use Rattle.fare_tariff.specs.Lookup.{nth_fare, fare_at}
 use Rattle.fare_tariff.specs.Filed.{IsFareBetween}
 use Rattle.fare_tariff.proofs.FoundOptions.{of_value, of_some}

@@ -2,7 +2,7 @@
 use Rattle.std.proofs.Common.{◌≡◌, ◌+◌, ◌-◌, ◌<◌, ℕ, true, cond, List, [], ◌∷◌, drop, Option, slice_get, ap, sym, ◌∙◌, arith, zero, suc}
 use Rattle.fare_index.specs.declared.key.Key.TheVariants.{Fares}
 use Rattle.fare_tariff.specs.Lookup.{numbers_from, is_fare_between}
-use Rattle.fare_tariff.proofs.Chain.{from_place, keyed_first, from_first, walk_on, walk_some}
+use Rattle.fare_records.proofs.Chain.{from_place, keyed_first, from_first, walk_on, walk_some}
 use Rattle.fare_tariff.proofs.FoundByKey.{fare_tells}
 use Rattle.fare_tariff.proofs.Looks.{between_looks}
 use Rattle.fare_tariff.proofs.look_up.fares.nth_place.Goals as goal

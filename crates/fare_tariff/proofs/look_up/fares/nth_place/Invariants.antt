@@ -2,7 +2,7 @@
 use Rattle.std.proofs.Common.{◌≡◌, IfSome, [], slice_get}
 use Rattle.fare_index.specs.declared.key.Key.TheVariants.{Fares}
 use Rattle.fare_tariff.specs.Lookup.{numbers_from, is_fare_between}
-use Rattle.fare_tariff.proofs.Chain.{IsKeyed, from_place, rest_from}
+use Rattle.fare_records.proofs.Chain.{IsKeyed, from_place, rest_from}
 use Rattle.fare_tariff.proofs.look_up.fares.nth_place.Given as goal
 
 abbrev pub invariant-loop-at : goal.invariant-loop-at

@@ -2,7 +2,7 @@
 use Rattle.std.proofs.Common.{◌≡◌, ◌+◌, ◌++◌, ◌∷◌, [], take, max, ap, sym, ◌∙◌, arith}
 use Rattle.std.proofs.lemmas.List.{take_more}
 use Rattle.fare_tariff.specs.Lookup.{greatest, allowance_in}
-use Rattle.fare_tariff.specs.Keyed.{extra_miles}
+use Rattle.fare_records.specs.Keyed.{extra_miles}
 use Rattle.fare_tariff.proofs.Looks.{greatest_no_cities, greatest_one_more}
 use Rattle.fare_tariff.proofs.look_up.miles.greatest_allowance.Goals as goal
 

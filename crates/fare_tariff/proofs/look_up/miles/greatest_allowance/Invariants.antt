@@ -1,6 +1,6 @@
 -- the greatest by way of the cities that were passed
 use Rattle.std.proofs.Common.{◌≡◌, ◌≤◌, take}
-use Rattle.fare_tariff.specs.declared.limits.TheConstants.{MOST_MILES}
+use Rattle.fare_records.specs.declared.limits.TheConstants.{MOST_MILES}
 use Rattle.fare_tariff.specs.Lookup.{greatest, allowance_in}
 use Rattle.fare_tariff.proofs.look_up.miles.greatest_allowance.Given as goal
 

@@ -1,6 +1,6 @@
 -- one step from an allowance with the key to the next
 use Rattle.std.proofs.Common.{◌≡◌, max, get_or, ap, ◌∙◌, arith}
-use Rattle.fare_tariff.proofs.Chain.{keyed_first, from_first, walk_step}
+use Rattle.fare_records.proofs.Chain.{keyed_first, from_first, walk_step}
 use Rattle.fare_tariff.proofs.Looks.{extra_looks}
 use Rattle.fare_tariff.proofs.look_up.miles.greatest_extra.Goals as goal
 

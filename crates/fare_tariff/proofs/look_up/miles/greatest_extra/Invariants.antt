@@ -1,9 +1,9 @@
 -- the greatest so far, and from the place at hand on, is the greatest of all
 use Rattle.std.proofs.Common.{◌≡◌, ◌≤◌, IfSome, max}
-use Rattle.fare_tariff.specs.declared.limits.TheConstants.{MOST_MILES}
+use Rattle.fare_records.specs.declared.limits.TheConstants.{MOST_MILES}
 use Rattle.fare_tariff.specs.Lookup.{greatest}
-use Rattle.fare_tariff.specs.Keyed.{extra_miles}
-use Rattle.fare_tariff.proofs.Chain.{IsKeyed, from_place, rest_from}
+use Rattle.fare_records.specs.Keyed.{extra_miles}
+use Rattle.fare_records.proofs.Chain.{IsKeyed, from_place, rest_from}
 use Rattle.fare_tariff.proofs.look_up.miles.greatest_extra.Given as goal
 
 abbrev pub invariant-loop-at : goal.invariant-loop-at

@@ -4,7 +4,7 @@ use Rattle.std.specs.List.{position_from}
 use Rattle.std.proofs.lemmas.Iterator.Adapters.{position_from-zero}
 use Rattle.fare_index.specs.declared.key.Key.TheVariants.{Fares}
 use Rattle.fare_tariff.specs.Sought.{is_sought}
-use Rattle.fare_tariff.proofs.Chain.{from_place, keyed_first, from_first, walk_step, walk_here}
+use Rattle.fare_records.proofs.Chain.{from_place, keyed_first, from_first, walk_step, walk_here}
 use Rattle.fare_tariff.proofs.Looks.{sought_looks}
 use Rattle.fare_tariff.proofs.look_up.seek.first_fare.Goals as goal
 

@@ -1,0 +1,9 @@
+pub use Rattle.fare_codes.specs.Codes
+pub use Rattle.fare_codes.specs.Day
+pub use Rattle.fare_codes.specs.Same
+pub use Rattle.fare_codes.specs.Season
+pub mod Record
+pub mod Fields
+pub mod Seasons
+pub mod Keyed
+pub mod Spelling

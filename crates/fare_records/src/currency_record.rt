@@ -1,0 +1,45 @@
+use fare_codes::{Country, Currency, Mode};
+use std::marker::Model;
+
+/// The currency of a country, with its rate of exchange and its rounding unit.
+#[derive(Clone, Copy, Debug)]
+pub struct CurRec {
+    /// The country; the key.
+    pub country: Country,
+    /// Its currency.
+    pub currency: Currency,
+    /// The rate of exchange in millionths of the currency for one NUC, 1 to 10^13 - 1.
+    pub roe: u64,
+    /// The decimals of a local amount, 0 to 2.
+    pub decimals: u8,
+    /// The rounding unit, 1 to 10,000, counted in the last decimal.
+    pub unit: u32,
+    /// How an amount is rounded to the unit.
+    pub mode: Mode,
+}
+
+impl Model for CurRec {
+    ghost use Rattle.fare_records.specs.Record.{CurrencyRecord, IsCurrency};
+
+    ghost Value = { CurrencyRecord };
+
+    ghost view = { λ r. record {
+      country = r.country;
+      currency = r.currency;
+      roe = r.roe;
+      decimals = r.decimals;
+      unit = r.unit;
+      mode = r.mode;
+    } };
+
+    ghost invariant = { λ r. IsCurrency r.roe r.decimals r.unit };
+
+    ghost inverse = { λ r. record {
+      country = r.country;
+      currency = r.currency;
+      roe = r.roe;
+      decimals = r.decimals;
+      unit = r.unit;
+      mode = r.mode;
+    } };
+}

@@ -1,0 +1,130 @@
+//! Where the record of a city or a rule may stand: a guess, which whoever takes it looks up in the records.
+
+ghost use Rattle.std.specs.Prelude.{◌≡◌, ◌+◌, ◌*◌, ◌%◌, ◌^◌};
+ghost use Rattle.std.specs.List.{fold};
+ghost use Rattle.fare_records.specs.Spelling.{spelled_rule};
+
+use fare_codes::{City, RuleId};
+use fare_index::Key;
+use fare_outside::NoMemory;
+use std::alloc::Global;
+use std::hash::{Hash, Hasher};
+
+/// As many slots as three letters of five bits have, so that no two cities share one. A shorter edition has at least as
+/// many as it has records.
+const MOST_SLOTS: usize = 32_768;
+
+/// A short edition has as many, so that few of its rules share a slot with another or with a city.
+const FEWEST_SLOTS: usize = 512;
+
+/// How many bits of a slot's number three letters fill.
+const SLOT_BITS: u32 = 15;
+
+/// The numbers of letters differ by less than this.
+const LETTERS: u64 = 32;
+
+/// An odd number near 2^64 divided by the golden ratio: in a product with it each bit of a number counts in the first.
+const MIXING: u64 = 0x9E37_79B9_7F4A_7C15;
+
+/// A place for each slot, of which a city or a rule has one. One that shares its slot is found by its key.
+#[derive(Drop)]
+pub(crate) struct Guesses {
+    places: Vec<u32>,
+}
+
+/// The letters of a code as the digits of a number. Unlike by a hash, cities whose letters are near one another have
+/// slots near one another, so the slots of an edition's cities fill few lines of a cache.
+#[derive(Drop)]
+struct Spelling {
+    number: u64,
+}
+
+impl Hasher for Spelling {
+    ghost use Rattle.fare_records.specs.declared.guesses.TheConstants.{LETTERS};
+
+    ghost write = { λ s bytes. record {
+      number = fold (λ n byte. ((n * LETTERS) % 2 ^ 64 + byte) % 2 ^ 64) s.number bytes;
+    } };
+
+    ghost finish = { λ s. s.number };
+
+    fn finish(&self) -> u64 {
+        self.number
+    }
+
+    fn write(&mut self, bytes: &[u8]) {
+        for byte in bytes {
+            self.number = self.number.wrapping_mul(LETTERS).wrapping_add(*byte as u64);
+        }
+    }
+}
+
+/// The number that the characters of a rule's id spell, with zeros behind them.
+#[tactic(auto, unfolding(crate::specs::Spelling::spelled_rule))]
+pub fn spelled_rule(id: RuleId) -> u64
+    ensures { result ≡ spelled_rule id }
+{
+    let mut spelling = Spelling { number: 0 };
+    id.hash(&mut spelling);
+    spelling.finish()
+}
+
+/// The number that the letters of a city spell.
+fn spelled_city(city: City) -> u64 {
+    let mut spelling = Spelling { number: 0 };
+    city.hash(&mut spelling);
+    let number = spelling.finish();
+    number ^ (number >> SLOT_BITS)
+}
+
+/// The first bits of a number that is mixed: short ids have zeros behind them, so their last bits are the same.
+fn mixed(number: u64) -> u64 {
+    number.wrapping_mul(MIXING) >> (u64::BITS - SLOT_BITS)
+}
+
+/// The number by which the slot of a key is found; nothing where it is neither a city's nor a rule's.
+fn spelled(key: &Key) -> Option<u64> {
+    match key {
+        Key::City(city) => Some(spelled_city(*city)),
+        Key::Rule(id) => Some(mixed(spelled_rule(*id))),
+        _ => None,
+    }
+}
+
+/// The slot of a number among so many, a power of two.
+fn slot_of(number: u64, slots: usize) -> usize {
+    number as usize & (slots.max(1) - 1)
+}
+
+impl Guesses {
+    /// The places of the cities and the rules among the keys of some records. Places that don't fit 32 bits are left
+    /// out.
+    pub(crate) fn of(alloc: Global, keys: &[Key]) -> Result<Guesses, NoMemory> {
+        let slots = keys
+            .len()
+            .max(FEWEST_SLOTS)
+            .min(MOST_SLOTS)
+            .next_power_of_two();
+        let mut places = vec![in alloc; 0; slots]?;
+        for (place, key) in (0..u32::MAX).zip(keys.iter()) {
+            if let Some(number) = spelled(key) {
+                if let Some(slot) = places.get_mut(slot_of(number, slots)) {
+                    *slot = place;
+                }
+            }
+        }
+        Ok(Guesses { places })
+    }
+
+    /// Where the record of a key may stand. Nothing is known of the answer: it is a guess, which is looked up, and a
+    /// wrong one costs a look-up by key. Keys that share a slot cost no more than that.
+    pub(crate) fn place(&self, key: &Key) -> usize {
+        match spelled(key) {
+            None => usize::MAX,
+            Some(number) => match self.places.get(slot_of(number, self.places.len())) {
+                Some(place) => *place as usize,
+                None => usize::MAX,
+            },
+        }
+    }
+}

@@ -1,6 +1,0 @@
--- both lists agree up to this place
-use Rattle.std.proofs.Common.{◌≡◌, take}
-use Rattle.fare_tariff.proofs.records.equality.same_records.Given as goal
-
-abbrev pub invariant-loop-place : goal.invariant-loop-place
-invariant-loop-place l = take l.place l.a ≡ take l.place l.b
