@@ -7,7 +7,9 @@ ghost use Rattle.fare_outside.specs.Door.{with_more_at};
 ghost use Rattle.fare_outside.specs.ListedDoor.{empty_room, room_at, left_at, taken_into, at_place, with_at};
 
 use crate::room::Room;
-use crate::{Failed, PlainSource, Source};
+use crate::failed::Failed;
+use crate::plain_source::PlainSource;
+use crate::source::Source;
 
 /// Reads from the source at a place: nothing, where there is none.
 pub fn read_at(

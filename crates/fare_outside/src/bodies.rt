@@ -1,7 +1,8 @@
 ghost use Rattle.std.specs.Prelude.{◌≡◌, ◌<◌, ◌==◌, [], ◌∷◌, ◌++◌, length, slice_get, slice_set, option_copied};
 ghost use Rattle.std.specs.Prelude.{IsSome, IfOk, OnOk, OnErr, ◌↔◌};
 
-use crate::{Bytes, NoMemory};
+use crate::bytes::Bytes;
+use crate::no_memory::NoMemory;
 use std::alloc::Global;
 use std::marker::Model;
 

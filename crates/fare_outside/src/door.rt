@@ -7,7 +7,7 @@ ghost use Rattle.std.specs.Io.KnownBytes.{ReadConsumes};
 ghost use Rattle.fare_outside.specs.Cause.{Rose};
 ghost use Rattle.fare_outside.specs.Door.{is_taken, TakesFirst, NoneWaits, with_one_more, with_more_at, TakesHeld};
 
-use crate::Failed;
+use crate::failed::Failed;
 
 /// The most connections that a door puts aside.
 pub const MOST_HELD: usize = 8;

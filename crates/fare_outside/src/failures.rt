@@ -1,7 +1,7 @@
 ghost use Rattle.std.specs.Prelude.{◌≡◌, option_copied, find};
 ghost use Rattle.fare_outside.specs.Failures.{is_failure_of};
 
-use crate::FailAt;
+use crate::fail_at::FailAt;
 use std::marker::Model;
 
 /// Counts the calls on one keeper, from 1, and knows which of them fail and how.

@@ -6,7 +6,7 @@ ghost use Rattle.fare_outside.specs.Cause.{Rose};
 ghost use Rattle.fare_outside.specs.Keeper.{ToldAfter, WhereTold, BodiesStay, BodyAppended, MayAppend, BodyReplaced};
 ghost use Rattle.fare_outside.specs.Keeper.{MayReplace, HasPlace, body_at, first_name};
 
-use crate::NoMemory;
+use crate::no_memory::NoMemory;
 use std::alloc::{AllocError, AllocFailed, Global};
 
 /// Why a call on a keeper was refused.

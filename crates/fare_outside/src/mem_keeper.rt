@@ -9,7 +9,10 @@ ghost use Rattle.fare_outside.specs.Keeper.{BodiesStay, BodyAppended, BodyReplac
 
 use crate::count::raised;
 use crate::failures::Failures;
-use crate::{Bodies, FailAt, FirstName, KeepFault, Keeper};
+use crate::bodies::Bodies;
+use crate::fail_at::FailAt;
+use crate::first_name::FirstName;
+use crate::keeper::{KeepFault, Keeper};
 use std::alloc::Global;
 use std::marker::Model;
 

@@ -8,7 +8,9 @@ ghost use Rattle.fare_outside.specs.Room.{fitting, is_refused, after_put};
 use crate::calls::Calls;
 use crate::count::raised;
 use crate::room::Room;
-use crate::{Failed, NoMemory, Sink};
+use crate::failed::Failed;
+use crate::no_memory::NoMemory;
+use crate::sink::Sink;
 use std::alloc::Global;
 use std::marker::Model;
 

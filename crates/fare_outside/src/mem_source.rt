@@ -6,7 +6,9 @@ ghost use Rattle.fare_outside.specs.Calls.{fails_next, after_call};
 
 use crate::calls::Calls;
 use crate::count::raised;
-use crate::{Failed, PlainSource, Source};
+use crate::failed::Failed;
+use crate::plain_source::PlainSource;
+use crate::source::Source;
 use std::marker::Model;
 
 /// A source in memory whose listed reads fail.

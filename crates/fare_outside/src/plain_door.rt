@@ -1,6 +1,7 @@
 ghost use Rattle.std.specs.Prelude.{◌≡◌, [], Some, None, false};
 
-use crate::{Door, Failed};
+use crate::door::Door;
+use crate::failed::Failed;
 
 /// A door to which no connection comes.
 #[derive(Drop)]

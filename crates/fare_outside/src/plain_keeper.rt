@@ -2,7 +2,9 @@ ghost use Rattle.std.specs.Prelude.{◌≡◌, None, Ok, Some, length, is_some, 
 ghost use Rattle.fare_outside.specs.declared.keeper.KeepFault.TheVariants.{Memory};
 ghost use Rattle.fare_outside.specs.Keeper.{first_name};
 
-use crate::{Bodies, FirstName, KeepFault, Keeper};
+use crate::bodies::Bodies;
+use crate::first_name::FirstName;
+use crate::keeper::{KeepFault, Keeper};
 use std::alloc::Global;
 use std::marker::Model;
 

@@ -3,7 +3,8 @@ ghost use Rattle.std.specs.Io.{ReadsAtMost};
 ghost use Rattle.std.specs.Io.KnownBytes.{ReadConsumes};
 ghost use Rattle.fare_outside.specs.Cause.{Rose};
 
-use crate::{Failed, Source};
+use crate::failed::Failed;
+use crate::source::Source;
 use std::marker::Model;
 
 /// A source in memory that never fails. It is seen as the bytes that it still holds.

@@ -4,7 +4,8 @@ ghost use Rattle.fare_outside.specs.declared.reading.ReadEnd.TheVariants.{Memory
 ghost use Rattle.fare_outside.specs.Cause.{Rose};
 ghost use Rattle.fare_outside.specs.Source.{TakesUpTo, TakesJust};
 
-use crate::{Failed, Source};
+use crate::failed::Failed;
+use crate::source::Source;
 use std::alloc::{AllocError, Global};
 
 /// Why a source wasn't read whole.

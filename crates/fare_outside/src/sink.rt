@@ -3,7 +3,7 @@ ghost use Rattle.std.specs.Io.{WritesAtMost};
 ghost use Rattle.std.specs.Io.KnownBytes.{WriteAppends};
 ghost use Rattle.fare_outside.specs.Cause.{Rose};
 
-use crate::Failed;
+use crate::failed::Failed;
 
 /// What is written to, a piece at a time.
 pub trait Sink {

@@ -3,7 +3,7 @@ ghost use Rattle.std.specs.Io.{ReadsAtMost};
 ghost use Rattle.std.specs.Io.KnownBytes.{ReadConsumes};
 ghost use Rattle.fare_outside.specs.Cause.{Rose};
 
-use crate::Failed;
+use crate::failed::Failed;
 
 /// What is read from, a piece at a time.
 pub trait Source {

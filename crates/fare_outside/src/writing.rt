@@ -3,7 +3,8 @@ ghost use Rattle.std.specs.Io.KnownBytes.{Appends};
 ghost use Rattle.fare_outside.specs.Cause.{Rose};
 ghost use Rattle.fare_outside.specs.Sink.{AppendsPrefix};
 
-use crate::{Failed, Sink};
+use crate::failed::Failed;
+use crate::sink::Sink;
 
 /// Writes all of these bytes. After `Failed` a prefix of them was written, and not all.
 pub fn write_all<K: Sink>(out: &mut K, bytes: &[u8]) -> Result<(), Failed>
