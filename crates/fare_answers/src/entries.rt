@@ -7,7 +7,7 @@ ghost use Rattle.fare_answers.specs.BestText.{entries_text, entry_text, first_te
 use crate::first_of::FirstOf;
 use fare_calc::{Priced, Sheets, push_line, push_no_fare};
 use fare_codes::MOST_BEST;
-use fare_outside::NoMemory;
+use fare_ports::NoMemory;
 use fare_text::{push_hundredths, push_labelled};
 use std::alloc::Global;
 

@@ -4,7 +4,7 @@ ghost use Rattle.std.specs.Prelude.{◌≡◌, ◌++◌, IfOk, OnOk};
 ghost use Rattle.fare_answers.specs.List.{list_line, list_text};
 
 use fare_book::Book;
-use fare_outside::NoMemory;
+use fare_ports::NoMemory;
 use fare_tariff::Edition;
 use fare_text::{push_code, push_labelled};
 use std::alloc::Global;

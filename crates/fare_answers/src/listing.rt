@@ -12,7 +12,7 @@ use fare_best::first_k;
 use fare_book::Book;
 use fare_calc::push_edition;
 use fare_codes::MOST_BEST;
-use fare_outside::NoMemory;
+use fare_ports::NoMemory;
 use fare_tariff::Edition;
 use fare_trip::Trip;
 use std::alloc::Global;

@@ -4,7 +4,7 @@ ghost use Rattle.std.specs.Prelude.{◌≡◌};
 ghost use Rattle.fare_answers.specs.declared.quote_fault.QuoteFault.TheVariants.{Memory};
 
 use fare_codes::{City, Day};
-use fare_outside::NoMemory;
+use fare_ports::NoMemory;
 
 /// Why a trip isn't quoted.
 #[derive(Clone, Copy, Debug, PartialEq, Eq)]

@@ -8,7 +8,7 @@ use crate::quote_fault::QuoteFault;
 use crate::selecting::edition_for;
 use fare_book::Book;
 use fare_calc::{Priced, no_fare_text, priced_text};
-use fare_outside::NoMemory;
+use fare_ports::NoMemory;
 use fare_tariff::Edition;
 use fare_trip::Trip;
 use fare_units::Quoter;

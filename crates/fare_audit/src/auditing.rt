@@ -15,7 +15,7 @@ use crate::filing::{construction_of, unrecorded};
 use crate::verdict::Verdict;
 use fare_calc::{Priced, Sheets, line_by};
 use fare_line::Line;
-use fare_outside::NoMemory;
+use fare_ports::NoMemory;
 use fare_tariff::Edition;
 use fare_trip::Trip;
 use fare_units::{Construction, MOST_PARTS, Quoter, lawful_price};

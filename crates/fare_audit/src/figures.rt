@@ -7,7 +7,7 @@ ghost use Rattle.fare_audit.specs.Figures.{same_pair};
 
 use fare_codes::{City, MOST_SECTORS};
 use fare_line::{Letter, Line, LinePart, print_line, text_tells};
-use fare_outside::NoMemory;
+use fare_ports::NoMemory;
 use std::alloc::Global;
 
 /// Whether two lines are the same: they have one text.

@@ -8,7 +8,7 @@ ghost use Rattle.fare_audit.specs.AuditText.{beside, line_string, trip_member};
 
 use crate::fault::AuditFault;
 use fare_line::{BadLine, Line, read_line};
-use fare_outside::NoMemory;
+use fare_ports::NoMemory;
 use fare_trip::{Member, Trip, TripFault, read_json, trip_of};
 use serde_json::Value;
 use std::alloc::Global;

@@ -3,7 +3,7 @@
 ghost use Rattle.std.specs.Prelude.{◌≡◌, ◌++◌, IfOk, OnOk};
 ghost use Rattle.fare_audit.specs.VerdictText.{verdict_text, verdict_words};
 
-use fare_outside::NoMemory;
+use fare_ports::NoMemory;
 use fare_rules::Broken;
 use fare_text::{push_decimal, push_labelled};
 use std::alloc::Global;

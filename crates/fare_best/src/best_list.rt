@@ -5,7 +5,7 @@ ghost use Rattle.fare_best.specs.Ranking.{comes_before, first_with, is_behind, i
 ghost use Rattle.fare_best.specs.Ranking.{place_of, ranked_with};
 
 use fare_codes::MOST_BEST;
-use fare_outside::NoMemory;
+use fare_ports::NoMemory;
 use fare_units::{Construction, earlier};
 use std::alloc::Global;
 use std::marker::Model;

@@ -15,7 +15,7 @@ use fare_codes::MOST_BEST;
 use fare_component::Table;
 use fare_floors::{Partial, Stage, ahead_of, stack_of};
 use fare_homing::{Homing, add_barred, homing_of, number_at};
-use fare_outside::NoMemory;
+use fare_ports::NoMemory;
 use fare_rules::{PRICE_LIMIT, edition_is_valid, price_is_bounded};
 use fare_tariff::Edition;
 use fare_trip::Trip;

@@ -4,7 +4,7 @@ use Rattle.std.specs.List.{slice_get}
 use Rattle.std.proofs.lemmas.List.{at_drop_more, at_drop_all}
 use Rattle.std.proofs.lemmas.Option.{slice_get_within, slice_get-get_or}
 use Rattle.std.proofs.lemmas.Bool.Decides.{nat_tests}
-use Rattle.fare_outside.specs.Keeper.{ToldAfter, BodiesStay, body_at}
+use Rattle.fare_ports.specs.Keeper.{ToldAfter, BodiesStay, body_at}
 use Rattle.fare_tariff.specs.Tariff.{Tariff}
 use Rattle.fare_book.specs.declared.damage.Damage.TheVariants.{TooMany}
 use Rattle.fare_book.specs.declared.restore_fault.RestoreFault.{RestoreFault}

@@ -2,7 +2,7 @@
 use Rattle.std.proofs.Common.{◌≡◌, ◌∙◌, ◌≤◌, ℕ, inl, inr, List, [], length, map, Option, Some, None, Result, Ok, Err, true, Bool, IfSome, IfOk, IfErr, OnOk, refl, sym, ap, arith}
 use Rattle.std.specs.Prelude.{count_by}
 use Rattle.std.specs.Option.{ForSome}
-use Rattle.fare_outside.specs.Keeper.{ToldAfter, BodiesStay}
+use Rattle.fare_ports.specs.Keeper.{ToldAfter, BodiesStay}
 use Rattle.fare_tariff.specs.Tariff.{Tariff}
 use Rattle.fare_csv.specs.TariffText.{edition_of}
 use Rattle.fare_book.specs.declared.restore_fault.RestoreFault.{RestoreFault}

@@ -7,7 +7,7 @@ use Rattle.std.specs.Option.{ForSome}
 use Rattle.std.proofs.lemmas.List.{append-nil, drop_all, drop_more, get_or_at, get_or-map, length-map, length-take-le, map_more, map-set, set-get_or, set_at, take_all}
 use Rattle.std.proofs.lemmas.List.Sums.{count_by_more_yes, count_by_more_no, length-filter}
 use Rattle.std.proofs.lemmas.Slice.Eq.{bytes_eq-Decides}
-use Rattle.fare_outside.specs.Keeper.{ToldAfter, BodiesStay}
+use Rattle.fare_ports.specs.Keeper.{ToldAfter, BodiesStay}
 use Rattle.fare_tariff.specs.Tariff.{Tariff}
 use Rattle.fare_csv.specs.declared.text_fault.TextFault.{TextFault}
 use Rattle.fare_csv.specs.TariffText.{edition_of}

@@ -1,6 +1,6 @@
 -- How the steps of a publication make one.
 use Rattle.std.proofs.Common.{◌≡◌, ◌≢◌, inl, inr, ℕ, List, Some, None, Result, Ok, Err, true, false, Bool, MatchBool, refl}
-use Rattle.fare_outside.specs.Keeper.{ToldAfter, WhereTold, BodiesStay, BodyAppended, MayAppend}
+use Rattle.fare_ports.specs.Keeper.{ToldAfter, WhereTold, BodiesStay, BodyAppended, MayAppend}
 use Rattle.fare_tariff.specs.Tariff.{Tariff}
 use Rattle.fare_csv.specs.declared.text_fault.TextFault.{TextFault}
 use Rattle.fare_csv.specs.declared.text_fault.TextFault.TheVariants as tariff

@@ -5,9 +5,9 @@ use Rattle.std.specs.Option.{ForSome}
 use Rattle.std.proofs.lemmas.List.{set-get_or}
 use Rattle.std.proofs.lemmas.Option.{get_or_from_slice_get}
 use Rattle.std.proofs.lemmas.Slice.Eq.{bytes_eq-Decides}
-use Rattle.fare_outside.specs.declared.keeper.KeepFault.{KeepFault}
-use Rattle.fare_outside.specs.declared.keeper.KeepFault.TheVariants as keeping
-use Rattle.fare_outside.specs.Keeper.{ToldAfter, BodiesStay, BodyReplaced, HasPlace, MayReplace, body_at}
+use Rattle.fare_ports.specs.declared.keeper.KeepFault.{KeepFault}
+use Rattle.fare_ports.specs.declared.keeper.KeepFault.TheVariants as keeping
+use Rattle.fare_ports.specs.Keeper.{ToldAfter, BodiesStay, BodyReplaced, HasPlace, MayReplace, body_at}
 use Rattle.fare_tariff.specs.Tariff.{Tariff}
 use Rattle.fare_csv.specs.TariffText.{edition_of}
 use Rattle.fare_csv.specs.CanonicalText.{canonical_text}

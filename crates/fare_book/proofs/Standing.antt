@@ -1,6 +1,6 @@
 -- Bodies that stand for a book still do after a publication.
 use Rattle.std.proofs.Common.{◌≡◌, ◌∙◌, ℕ, inl, inr, List, Some, None, Ok, Err, true, false, Bool, refl, sym, ap}
-use Rattle.fare_outside.specs.Keeper.{WhereTold, MayAppend}
+use Rattle.fare_ports.specs.Keeper.{WhereTold, MayAppend}
 use Rattle.fare_tariff.specs.Tariff.{Tariff}
 use Rattle.fare_csv.specs.TariffText.{edition_of}
 use Rattle.fare_csv.specs.CanonicalText.{canonical_text}

@@ -1,7 +1,7 @@
 -- What a migration makes of a book and of the stored bodies.
 use Rattle.std.specs.Prelude.{◌≡◌, ◌⊎◌, ℕ, ◌-◌, Bool, true, List, [], ◌++◌, map, take, drop, slice_set}
 use Rattle.std.specs.Prelude.{slice_index_or, ⊤, Result, Ok, Err, not, bytes_eq, count_by}
-use Rattle.fare_outside.specs.Keeper.{HasPlace}
+use Rattle.fare_ports.specs.Keeper.{HasPlace}
 use Rattle.fare_tariff.specs.Tariff.{Tariff}
 use Rattle.fare_csv.specs.declared.text_fault.TextFault.{TextFault}
 use Rattle.fare_csv.specs.TariffText.{edition_of}

@@ -1,7 +1,7 @@
 -- What a call answers that publishes a text, and the book and the bodies that it leaves.
 use Rattle.std.specs.Prelude.{◌≡◌, ◌≢◌, ◌⊎◌, ◌≤◌, ◌<◌, ℕ, true, false, List, [], ◌∷◌, ◌++◌, length, Some, None, Result}
 use Rattle.std.specs.Prelude.{Ok, Err}
-use Rattle.fare_outside.specs.Keeper.{ToldAfter, BodyAppended, MayAppend}
+use Rattle.fare_ports.specs.Keeper.{ToldAfter, BodyAppended, MayAppend}
 use Rattle.fare_tariff.specs.Tariff.{Tariff}
 use Rattle.fare_csv.specs.TariffText.{edition_of}
 use Rattle.fare_csv.specs.CanonicalText.{canonical_text}

@@ -1,7 +1,7 @@
 -- How a book is opened before an edition is offered to it.
 use Rattle.std.specs.Prelude.{◌≡◌, ℕ, Bool, false, List, Option, Result, Ok, Err, MatchBool, IsTrue, ◌≤◌}
-use Rattle.fare_outside.specs.Cause.{Rose}
-use Rattle.fare_outside.specs.Keeper.{ToldAfter, WhereTold, BodiesStay}
+use Rattle.fare_ports.specs.Cause.{Rose}
+use Rattle.fare_ports.specs.Keeper.{ToldAfter, WhereTold, BodiesStay}
 use Rattle.fare_tariff.specs.Tariff.{Tariff}
 use Rattle.fare_book.specs.declared.restore_fault.RestoreFault.{RestoreFault}
 use Rattle.fare_book.specs.declared.restore_fault.RestoreFault.TheVariants.{Memory, KeeperFault, Damaged}

@@ -1,7 +1,7 @@
 -- How a restoring answers what the bodies stand for.
 use Rattle.std.specs.Prelude.{◌≡◌, ◌≢◌, ⊤, Result, Ok, Err}
-use Rattle.fare_outside.specs.declared.keeper.KeepFault.{KeepFault}
-use Rattle.fare_outside.specs.declared.keeper.KeepFault.TheVariants as keeper
+use Rattle.fare_ports.specs.declared.keeper.KeepFault.{KeepFault}
+use Rattle.fare_ports.specs.declared.keeper.KeepFault.TheVariants as keeper
 use Rattle.fare_csv.specs.declared.text_fault.TextFault.TheVariants as tariff
 use Rattle.fare_book.specs.declared.damage.Damage.{Damage}
 use Rattle.fare_book.specs.declared.damage.Damage.TheVariants.{Text, Repeat, TooMany}

@@ -2,7 +2,7 @@ ghost use Rattle.std.specs.Prelude.{◌≡◌, ◌<◌, [], ◌∷◌, ◌++◌,
 ghost use Rattle.std.specs.Option.{option_copied};
 ghost use Rattle.fare_book.specs.Book.{BookState, IsBook, numbered, has_number};
 
-use fare_outside::NoMemory;
+use fare_ports::NoMemory;
 use fare_tariff::Edition;
 use std::alloc::Global;
 use std::marker::Model;

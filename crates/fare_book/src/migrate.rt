@@ -2,8 +2,8 @@
 
 ghost use Rattle.std.specs.Prelude.{◌≡◌, ◌≤◌, length, true, IfOk, IfErr, IfSome, OnOk, IsErrOf, IsTrue, count_by};
 ghost use Rattle.std.specs.Option.{ForSome};
-ghost use Rattle.fare_outside.specs.Cause.{Rose};
-ghost use Rattle.fare_outside.specs.Keeper.{ToldAfter};
+ghost use Rattle.fare_ports.specs.Cause.{Rose};
+ghost use Rattle.fare_ports.specs.Keeper.{ToldAfter};
 ghost use Rattle.fare_book.specs.Migration.{IsCutOff, IsMigrated, LeavesBook, MayRespell, Migrates, ReadAs, Respells};
 ghost use Rattle.fare_book.specs.Migration.{SameEditions, StandsAt, StopsShort, is_old};
 ghost use Rattle.fare_book.specs.Reopens.{IsServed};
@@ -12,7 +12,7 @@ ghost use Rattle.fare_book.specs.Restored.{CarriesDamage};
 use crate::book::{Book, MOST_EDITIONS};
 use crate::restore_fault::RestoreFault;
 use fare_csv::edition_text;
-use fare_outside::Keeper;
+use fare_ports::Keeper;
 use fare_tariff::Edition;
 use std::alloc::Global;
 use std::thread::Threads;

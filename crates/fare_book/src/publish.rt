@@ -1,8 +1,8 @@
 //! A text, or an edition, is published in a book.
 
 ghost use Rattle.std.specs.Prelude.{◌≡◌, ◌≤◌, ◌++◌, ◌∷◌, ◌↔◌, [], true, IfErr, IsErrOf, IsTrue, OnOk};
-ghost use Rattle.fare_outside.specs.Cause.{Rose};
-ghost use Rattle.fare_outside.specs.Keeper.{WhereTold};
+ghost use Rattle.fare_ports.specs.Cause.{Rose};
+ghost use Rattle.fare_ports.specs.Keeper.{WhereTold};
 ghost use Rattle.fare_book.specs.Faults.{CarriesFault};
 ghost use Rattle.fare_book.specs.Publish.{IsNewTo, Offers, Publishes, PublishesEdition};
 ghost use Rattle.fare_book.specs.Reopens.{IsServed, Opens, Stay};
@@ -14,7 +14,7 @@ use crate::publish_fault::PublishFault;
 use crate::published::Published;
 use crate::restore_fault::RestoreFault;
 use fare_csv::{edition_text, read_edition};
-use fare_outside::{KeepFault, Keeper};
+use fare_ports::{KeepFault, Keeper};
 use fare_tariff::{Edition, same_records};
 use std::alloc::Global;
 use std::thread::Threads;

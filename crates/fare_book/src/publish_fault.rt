@@ -6,7 +6,7 @@ ghost use Rattle.fare_book.specs.declared.publish_fault.PublishFault.TheVariants
 use crate::damage::Damage;
 use crate::restore_fault::RestoreFault;
 use fare_csv::TextFault;
-use fare_outside::NoMemory;
+use fare_ports::NoMemory;
 
 /// Why a text isn't published.
 #[derive(Clone, Copy, Debug, PartialEq, Eq)]

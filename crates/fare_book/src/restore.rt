@@ -2,7 +2,7 @@
 
 ghost use Rattle.std.specs.Prelude.{◌≡◌, ◌≢◌, ◌<◌, ◌≤◌, ◌+◌, [], length, true, None, position, IfOk, IfErr, IfSome};
 ghost use Rattle.std.specs.Prelude.{OnOk, IsErrOf, IsTrue, Err, option_map};
-ghost use Rattle.fare_outside.specs.Cause.{Rose};
+ghost use Rattle.fare_ports.specs.Cause.{Rose};
 ghost use Rattle.fare_csv.specs.TariffText.{edition_of};
 ghost use Rattle.fare_book.specs.Book.{has_number, numbered};
 ghost use Rattle.fare_book.specs.Editions.{DamageAt, edition_behind, editions_of, place_of, read_behind, with_body};
@@ -14,7 +14,7 @@ use crate::book::{Book, MOST_EDITIONS, has_number};
 use crate::damage::Damage;
 use crate::restore_fault::RestoreFault;
 use fare_csv::{TextFault, read_edition};
-use fare_outside::Keeper;
+use fare_ports::Keeper;
 use fare_tariff::Edition;
 use std::alloc::Global;
 use std::thread::Threads;

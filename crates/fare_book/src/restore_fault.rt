@@ -4,7 +4,7 @@ ghost use Rattle.std.specs.Prelude.{◌≡◌};
 ghost use Rattle.fare_book.specs.declared.restore_fault.RestoreFault.TheVariants.{Memory};
 
 use crate::damage::Damage;
-use fare_outside::{KeepFault, NoMemory};
+use fare_ports::{KeepFault, NoMemory};
 
 /// Why a book isn't restored.
 #[derive(Clone, Copy, Debug, PartialEq, Eq)]

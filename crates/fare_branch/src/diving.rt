@@ -60,13 +60,7 @@ fn is_no_dearer(found: &Step, floor: u64) -> bool {
 /// The one with the lesser floor of what was found and some first parts that one more follows, where these can bring
 /// anything and their floor isn't below a number.
 #[tactic(auto, using(crate::proofs::DiveLemmas::goes_next))]
-fn lesser_step(
-    stage: &Stage,
-    part: Part,
-    guess: Option<u64>,
-    wanted: Wanted,
-    found: Step,
-) -> Step
+fn lesser_step(stage: &Stage, part: Part, guess: Option<u64>, wanted: Wanted, found: Step) -> Step
     requires stage { IsStage stage.now.table.now stage.now.homing.now stage.now.front.now stage.now.ahead.now }
     requires found { IfSome found (GoesFrom stage.now.table.now stage.now.front.now) }
     ensures { IfSome result (GoesFrom stage.now.table.now stage.now.front.now) }
@@ -94,13 +88,7 @@ fn lesser_step(
 }
 
 /// Over the units of a part that ends at a point and has a fare.
-fn least_by_units(
-    stage: &Stage,
-    end: usize,
-    entry: &Entry,
-    wanted: Wanted,
-    found: Step,
-) -> Step
+fn least_by_units(stage: &Stage, end: usize, entry: &Entry, wanted: Wanted, found: Step) -> Step
     requires stage { IsStage stage.now.table.now stage.now.homing.now stage.now.front.now stage.now.ahead.now }
     requires within { end ≤ count stage.now.table.now.trip }
     requires bounds { IsInBounds entry.now }
@@ -176,7 +164,13 @@ pub(crate) fn least_step(table: &Table, homing: &Homing, front: &Partial, from: 
 }
 
 /// Over the choices of a piece.
-fn least_by_choices(stage: &Stage, counts: &Counts, piece: Piece, wanted: Wanted, found: Step) -> Step
+fn least_by_choices(
+    stage: &Stage,
+    counts: &Counts,
+    piece: Piece,
+    wanted: Wanted,
+    found: Step,
+) -> Step
     requires stage { IsStage stage.now.table.now stage.now.homing.now stage.now.front.now stage.now.ahead.now }
     requires none { stage.now.front.now ≡ [] }
     requires counts { AreCounts stage.now.table.now.edition stage.now.table.now.trip counts.now }

@@ -10,7 +10,7 @@ use crate::pieces::{Piece, choices};
 use crate::searching::search;
 use fare_bounds::Rest;
 use fare_component::Table;
-use fare_outside::NoMemory;
+use fare_ports::NoMemory;
 use fare_rules::first_part_is_a_choice;
 use fare_tariff::Edition;
 use fare_trip::Trip;

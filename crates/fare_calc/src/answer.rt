@@ -12,7 +12,7 @@ use crate::priced::Priced;
 use crate::sheets::Sheets;
 use crate::worksheet::push_worksheet;
 use fare_line::print_line;
-use fare_outside::NoMemory;
+use fare_ports::NoMemory;
 use fare_tariff::Edition;
 use fare_text::{push_code, push_labelled};
 use fare_trip::Trip;

@@ -14,7 +14,7 @@ use crate::numbered_unit::NumberedUnit;
 use crate::part_sheet::PartSheet;
 use crate::priced::Priced;
 use crate::sheets::Sheets;
-use fare_outside::NoMemory;
+use fare_ports::NoMemory;
 use fare_tariff::Edition;
 use fare_trip::Trip;
 use fare_units::Construction;

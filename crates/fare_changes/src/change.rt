@@ -4,7 +4,7 @@ ghost use Rattle.std.specs.Prelude.{◌≡◌, ◌++◌, OnOk};
 ghost use Rattle.fare_codes.specs.Numbers.{nuc_text};
 ghost use Rattle.fare_changes.specs.CompareText.{change_text, total_change, total_text};
 
-use fare_outside::NoMemory;
+use fare_ports::NoMemory;
 use fare_text::push_decimal;
 
 /// The decimals of an amount in NUC.

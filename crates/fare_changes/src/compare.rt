@@ -11,7 +11,7 @@ use crate::item_line::push_items;
 use crate::side_by_side::add_compared;
 use crate::sum_line::push_sum_line;
 use crate::watch::Watch;
-use fare_outside::NoMemory;
+use fare_ports::NoMemory;
 use fare_units::Quoter;
 use serde_json::Value;
 use std::alloc::Global;

@@ -5,7 +5,7 @@ ghost use Rattle.fare_changes.specs.Diff.{added, removed, same_count};
 ghost use Rattle.fare_changes.specs.DiffText.{diff_line, diff_text};
 
 use crate::missing::lines_of_missing;
-use fare_outside::NoMemory;
+use fare_ports::NoMemory;
 use fare_tariff::Edition;
 use fare_text::push_labelled;
 use std::alloc::Global;

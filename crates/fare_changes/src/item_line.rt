@@ -6,7 +6,7 @@ ghost use Rattle.fare_changes.specs.CompareText.{item_line, item_lines, words_of
 use crate::change::{push_total, push_total_change};
 use crate::compared::Compared;
 use fare_codes::City;
-use fare_outside::NoMemory;
+use fare_ports::NoMemory;
 use fare_text::{push_code, push_whole};
 
 /// Appends what stands behind the number of an item.

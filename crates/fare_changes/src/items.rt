@@ -1,11 +1,11 @@
 //! The items of a batch.
 
-ghost use Rattle.fare_outside.specs.Memory.{Gives};
+ghost use Rattle.fare_ports.specs.Memory.{Gives};
 ghost use Rattle.serde_json.specs.View.{view};
 ghost use Rattle.fare_changes.specs.Items.{array_items, items_of, items_seen};
 ghost use Rattle.serde_json.specs.Find.{as_array};
 
-use fare_outside::NoMemory;
+use fare_ports::NoMemory;
 use fare_trip::{Member, TripFault, read_json};
 use serde_json::Value;
 use std::alloc::Global;

@@ -7,7 +7,7 @@ ghost use Rattle.fare_changes.specs.Known.{IsKnown};
 
 use crate::same::same_record;
 use fare_index::{Index, Key};
-use fare_outside::NoMemory;
+use fare_ports::NoMemory;
 use fare_tariff::{Record, own_key};
 use std::alloc::{AllocError, Global};
 

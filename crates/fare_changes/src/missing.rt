@@ -8,7 +8,7 @@ ghost use Rattle.fare_changes.specs.Known.{IsKnown};
 
 use crate::known::{Known, known_of, place_of};
 use fare_csv::record_line;
-use fare_outside::NoMemory;
+use fare_ports::NoMemory;
 use fare_tariff::{MOST_RECORDS, Record};
 use std::alloc::Global;
 

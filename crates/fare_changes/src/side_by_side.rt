@@ -12,7 +12,7 @@ ghost use Rattle.fare_changes.specs.SideBySide.{AreAnswered};
 use crate::compared::Compared;
 use crate::comparer::Comparer;
 use crate::totals::item_compared;
-use fare_outside::NoMemory;
+use fare_ports::NoMemory;
 use fare_units::Quoter;
 use serde_json::Value;
 use std::alloc::Global;

@@ -7,7 +7,7 @@ use crate::change::{push_amount, push_change};
 use crate::compared::Compared;
 use crate::outcome::{Outcome, count_of};
 use crate::sums::sums_of;
-use fare_outside::NoMemory;
+use fare_ports::NoMemory;
 use fare_text::{push_labelled, push_whole};
 
 /// Appends how many items have an outcome, behind its name.

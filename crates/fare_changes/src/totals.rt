@@ -8,7 +8,7 @@ ghost use Rattle.fare_changes.specs.Compared.{IsCompared, IsTotal, IsTripCompare
 use crate::compared::Compared;
 use crate::comparer::Comparer;
 use crate::unknown::unknown_place;
-use fare_outside::NoMemory;
+use fare_ports::NoMemory;
 use fare_tariff::Edition;
 use fare_trip::{Trip, trip_of};
 use fare_units::Quoter;

@@ -4,7 +4,7 @@ use Rattle.std.specs.Prelude.{Result, Ok, Err, ◌==◌}
 use Rattle.std.specs.Option.{option_or}
 use Rattle.std.specs.Str.{bytes_eq}
 use Rattle.std.proofs.lemmas.Bool.Decides.{nat_tests}
-use Rattle.fare_outside.specs.Memory.{◌>>=◌}
+use Rattle.fare_ports.specs.Memory.{◌>>=◌}
 use Rattle.fare_codes.specs.declared.day.Day.{Day}
 use Rattle.std.proofs.lemmas.Slice.Eq.{bytes_eq-Decides}
 use Rattle.fare_records.specs.declared.record.Record.{Record}

@@ -3,7 +3,7 @@ use Rattle.std.proofs.Common.{◌≡◌, ℕ, true, List, [], ◌∷◌, map, Op
 use Rattle.std.specs.Prelude.{Result, Ok, Err}
 use Rattle.std.proofs.lemmas.List.{append-nil}
 use Rattle.fare_records.specs.declared.record.Record.{Record}
-use Rattle.fare_outside.specs.Memory.{◌>>=◌}
+use Rattle.fare_ports.specs.Memory.{◌>>=◌}
 use Rattle.fare_tariff.specs.declared.check.check_fault.CheckFault.{CheckFault}
 use Rattle.fare_tariff.specs.Check.{check_edition, first_fault, unless}
 use Rattle.fare_tariff.specs.Tariff.{Tariff}

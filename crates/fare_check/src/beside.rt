@@ -11,7 +11,7 @@ use crate::grounds::Grounds;
 use crate::reading::tell_row;
 use crate::report::Report;
 use fare_csv::{Row, Rows};
-use fare_outside::NoMemory;
+use fare_ports::NoMemory;
 use fare_tariff::MOST_PLACES;
 use std::alloc::Global;
 

@@ -14,7 +14,7 @@ use crate::reading::{tell_reading, version_of};
 use crate::report::Report;
 use fare_codes::Day;
 use fare_csv::{Spelled, TextFault, read_spelled};
-use fare_outside::NoMemory;
+use fare_ports::NoMemory;
 use fare_tariff::{Filed, MOST_PLACES};
 use fare_text::{push_code, push_labelled, push_whole};
 use std::alloc::Global;

@@ -8,7 +8,7 @@ ghost use Rattle.fare_csv.specs.CheckedFault.{checked_fault};
 ghost use Rattle.fare_check.specs.Faults.{faulty_from, stands_first};
 
 use fare_csv::TextFault;
-use fare_outside::NoMemory;
+use fare_ports::NoMemory;
 use fare_tariff::{Filed, MOST_PLACES, has_kind};
 use rayon::prelude::*;
 use std::alloc::{AllocError, Global};

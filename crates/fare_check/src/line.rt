@@ -11,7 +11,7 @@ use crate::grounds::Grounds;
 use crate::report::MOST_BYTES;
 use crate::sentence::push_sentence;
 use fare_csv::{Row, TextFault};
-use fare_outside::NoMemory;
+use fare_ports::NoMemory;
 use std::alloc::{AllocError, Global};
 
 /// A byte as a line shows it.

@@ -15,7 +15,7 @@ use crate::report::Report;
 use fare_csv::{
     Row, Rows, TextFault, Version, counted, is_end, is_head, read_head, read_record, read_version,
 };
-use fare_outside::NoMemory;
+use fare_ports::NoMemory;
 use std::alloc::Global;
 
 /// The version that a first row tells.

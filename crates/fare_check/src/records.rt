@@ -5,7 +5,7 @@ ghost use Rattle.fare_csv.specs.Rows.{rows_of};
 ghost use Rattle.fare_check.specs.Faults.{filed_records};
 
 use fare_csv::{TextFault, read_spelled};
-use fare_outside::NoMemory;
+use fare_ports::NoMemory;
 use fare_tariff::Record;
 use std::alloc::Global;
 use std::thread::Threads;

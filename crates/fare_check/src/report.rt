@@ -8,7 +8,7 @@ ghost use Rattle.fare_check.specs.Reports.{WasTold, finished};
 use crate::grounds::Grounds;
 use crate::line::{push_bare_line, push_line};
 use fare_csv::{Row, TextFault};
-use fare_outside::NoMemory;
+use fare_ports::NoMemory;
 use fare_text::push_whole;
 use std::alloc::Global;
 

@@ -11,7 +11,7 @@ use crate::grounds::Grounds;
 use crate::shape::{Shape, shape_of};
 use fare_codes::City;
 use fare_csv::{Row, TextFault};
-use fare_outside::NoMemory;
+use fare_ports::NoMemory;
 use fare_tariff::{CheckKind, Filed, is_unknown_city};
 use fare_text::{push_code, push_labelled, push_number, push_whole};
 

@@ -9,7 +9,7 @@ use crate::reading::version_of;
 use crate::records::records_of_text;
 use crate::sentence::push_sentence;
 use fare_csv::{Row, Rows, TextFault};
-use fare_outside::NoMemory;
+use fare_ports::NoMemory;
 use fare_tariff::Filed;
 use fare_text::push_labelled;
 use std::alloc::Global;

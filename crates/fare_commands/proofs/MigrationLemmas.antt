@@ -3,7 +3,7 @@ use Rattle.std.proofs.Common.{◌≡◌, ◌≢◌, ◌⊎◌, ◌∙◌, ℕ, i
 use Rattle.std.proofs.Common.{refl}
 use Rattle.std.proofs.Math.Seq.{take-length, drop-length}
 use Rattle.std.proofs.lemmas.List.{append-nil}
-use Rattle.fare_outside.specs.Keeper.{BodiesStay, ToldAfter, WhereTold}
+use Rattle.fare_ports.specs.Keeper.{BodiesStay, ToldAfter, WhereTold}
 use Rattle.fare_book.specs.declared.restore_fault.RestoreFault.{RestoreFault}
 use Rattle.fare_book.specs.declared.restore_fault.RestoreFault.TheVariants.{Memory, KeeperFault, Damaged}
 use Rattle.fare_book.specs.Book.{BookState}

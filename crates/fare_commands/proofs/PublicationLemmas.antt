@@ -1,6 +1,6 @@
 -- What a publication answers and leaves, from the opening of its store on.
 use Rattle.std.proofs.Common.{◌≡◌, ◌∙◌, ℕ, inl, inr, List, Some, None, Ok, Err, IfErr, sym, refl}
-use Rattle.fare_outside.specs.Keeper.{BodiesStay, ToldAfter, WhereTold}
+use Rattle.fare_ports.specs.Keeper.{BodiesStay, ToldAfter, WhereTold}
 use Rattle.fare_tariff.specs.Tariff.{Tariff}
 use Rattle.fare_csv.specs.TariffText.{edition_of}
 use Rattle.fare_book.specs.Reopens.{Stay}

@@ -9,10 +9,10 @@ use Rattle.fare_book.specs.declared.restore_fault.RestoreFault.TheVariants as re
 use Rattle.fare_answers.specs.declared.quote_fault.QuoteFault.{QuoteFault}
 use Rattle.fare_answers.specs.declared.quote_fault.QuoteFault.TheVariants as quoting
 use Rattle.fare_answers.specs.Quotation.{Quotation}
-use Rattle.fare_outside.specs.declared.keeper.KeepFault.{KeepFault}
-use Rattle.fare_outside.specs.declared.keeper.KeepFault.TheVariants as keeping
-use Rattle.fare_outside.specs.declared.reading.ReadEnd.{ReadEnd}
-use Rattle.fare_outside.specs.declared.reading.ReadEnd.TheVariants as reading
+use Rattle.fare_ports.specs.declared.keeper.KeepFault.{KeepFault}
+use Rattle.fare_ports.specs.declared.keeper.KeepFault.TheVariants as keeping
+use Rattle.fare_ports.specs.declared.reading.ReadEnd.{ReadEnd}
+use Rattle.fare_ports.specs.declared.reading.ReadEnd.TheVariants as reading
 use Rattle.fare_commands.specs.declared.exit.Exit.{Exit}
 use Rattle.fare_commands.specs.declared.exit.Exit.TheVariants as ended
 

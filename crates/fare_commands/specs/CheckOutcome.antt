@@ -12,7 +12,7 @@ use Rattle.fare_json.specs.JsonText.{json_line}
 use Rattle.fare_commands.specs.declared.exit.Exit.{Exit}
 use Rattle.fare_commands.specs.declared.exit.Exit.TheVariants as ended
 use Rattle.fare_commands.specs.Answer.{Answer, ExitAndText}
-use Rattle.fare_outside.specs.declared.limits.TheConstants.{MOST_TEXT}
+use Rattle.fare_ports.specs.declared.limits.TheConstants.{MOST_TEXT}
 
 -- the end of `check`: `BadTariff` of the first fault, where there is one
 abbrev pub checked_end : Option TextFault → Exit

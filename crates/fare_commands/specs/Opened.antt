@@ -1,6 +1,6 @@
 -- By which name a command opens its store.
 use Rattle.std.specs.Prelude.{◌≡◌, ◌⊎◌, ℕ, List, Option, Result, Ok, Err, ⊤}
-use Rattle.fare_outside.specs.Keeper.{first_name}
+use Rattle.fare_ports.specs.Keeper.{first_name}
 use Rattle.fare_commands.specs.declared.exit.Exit.{Exit}
 use Rattle.fare_commands.specs.declared.exit.Exit.TheVariants as ended
 

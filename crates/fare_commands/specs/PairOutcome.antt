@@ -8,7 +8,7 @@ use Rattle.fare_changes.specs.DiffText.{diff_text}
 use Rattle.fare_changes.specs.Items.{items_of}
 use Rattle.fare_commands.specs.declared.exit.Exit.TheVariants as ended
 use Rattle.fare_commands.specs.Answer.{Answer, done}
-use Rattle.fare_outside.specs.declared.limits.TheConstants.{MOST_TEXT}
+use Rattle.fare_ports.specs.declared.limits.TheConstants.{MOST_TEXT}
 use Rattle.fare_commands.specs.StoreOutcome.{AnswersOver, Bodies}
 
 -- the answer to two numbers over editions: `NoSuch` of the first that names none, and else that to the two editions

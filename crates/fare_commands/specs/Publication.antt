@@ -1,6 +1,6 @@
 -- What `publish` may do to the bodies of its store.
 use Rattle.std.specs.Prelude.{◌≡◌, ◌⊎◌, ℕ, List, Ok, ⊤}
-use Rattle.fare_outside.specs.Keeper.{BodiesStay, BodyAppended}
+use Rattle.fare_ports.specs.Keeper.{BodiesStay, BodyAppended}
 use Rattle.fare_tariff.specs.Tariff.{Tariff}
 use Rattle.fare_csv.specs.TariffText.{edition_of}
 use Rattle.fare_csv.specs.CanonicalText.{canonical_text}

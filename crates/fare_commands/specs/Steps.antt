@@ -1,8 +1,8 @@
 -- What the functions below the run hand on to it.
 use Rattle.std.specs.Prelude.{◌≡◌, ◌≢◌, ◌⊎◌, ◌≤◌, ◌+◌, ℕ, List, Option, Vec, Result, Ok, Err, IsErrOf, ⊤}
 use Rattle.std.specs.Prelude.{true, false, length, nat_lt}
-use Rattle.fare_outside.specs.Cause.{Rose}
-use Rattle.fare_outside.specs.Source.{TakesJust, TakesUpTo}
+use Rattle.fare_ports.specs.Cause.{Rose}
+use Rattle.fare_ports.specs.Source.{TakesJust, TakesUpTo}
 use Rattle.fare_commands.specs.declared.exit.Exit.{Exit}
 use Rattle.fare_commands.specs.declared.exit.Exit.TheVariants as ended
 use Rattle.fare_commands.specs.Answer.{Answer}

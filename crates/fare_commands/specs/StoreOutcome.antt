@@ -2,7 +2,7 @@
 -- in which the refusals come: the length of the source, what it holds, the bodies of the store, and their editions.
 use Rattle.std.specs.Prelude.{◌≡◌, ℕ, Bool, true, false, List, Option, Some, Ok, Err, IfSome, MatchResult, MatchOption}
 use Rattle.std.specs.Prelude.{MatchBool, nat_lt, length, map, count_by, ⊤}
-use Rattle.fare_outside.specs.declared.limits.TheConstants.{MOST_TEXT}
+use Rattle.fare_ports.specs.declared.limits.TheConstants.{MOST_TEXT}
 use Rattle.fare_words.specs.declared.asked.Asked.{Asked}
 use Rattle.fare_words.specs.declared.asked.Asked.TheVariants as ask
 use Rattle.fare_trip.specs.Itinerary.{Itinerary}

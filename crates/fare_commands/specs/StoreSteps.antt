@@ -2,7 +2,7 @@
 use Rattle.std.specs.Prelude.{◌≡◌, ◌⊎◌, ℕ, List, Result, Ok, Err, IfSome, ⊤}
 use Rattle.fare_tariff.specs.Tariff.{Tariff}
 use Rattle.fare_csv.specs.CanonicalText.{canonical_text}
-use Rattle.fare_outside.specs.Keeper.{BodiesStay, BodyAppended, ToldAfter}
+use Rattle.fare_ports.specs.Keeper.{BodiesStay, BodyAppended, ToldAfter}
 use Rattle.fare_book.specs.declared.damage.Damage.{Damage}
 use Rattle.fare_book.specs.declared.restore_fault.RestoreFault.{RestoreFault}
 use Rattle.fare_book.specs.Book.{BookState}

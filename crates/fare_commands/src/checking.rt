@@ -11,7 +11,7 @@ use crate::outcome::Outcome;
 use crate::source::source_up_to;
 use fare_check::check_text;
 use fare_csv::TextFault;
-use fare_outside::{MOST_TEXT, NoMemory, Source};
+use fare_ports::{MOST_TEXT, NoMemory, Source};
 use std::thread::Threads;
 
 /// Tells every fault of the source's tariff.

@@ -2,7 +2,7 @@
 
 ghost use Rattle.std.specs.Prelude.{IfSome, IsErrOf};
 ghost use Rattle.serde_json.specs.View.{items_view};
-ghost use Rattle.fare_outside.specs.Keeper.{BodiesStay, WhereTold};
+ghost use Rattle.fare_ports.specs.Keeper.{BodiesStay, WhereTold};
 ghost use Rattle.fare_changes.specs.Items.{items_of, items_seen};
 ghost use Rattle.fare_commands.specs.Answer.{IsDoneOr};
 ghost use Rattle.fare_commands.specs.declared.exit.Exit.TheVariants.{BadTrip};
@@ -21,7 +21,7 @@ use crate::store::book_of;
 use fare_book::Book;
 use fare_branch::BranchQuoter;
 use fare_changes::{Comparer, Watch, compare_text, items_of};
-use fare_outside::{Keeper, MOST_TEXT, Source};
+use fare_ports::{Keeper, MOST_TEXT, Source};
 use fare_trip::TripFault;
 use serde_json::Value;
 use std::alloc::Global;

@@ -6,7 +6,7 @@ ghost use Rattle.fare_commands.specs.FaultText.{line, fault_line};
 
 use crate::exit::Exit;
 use fare_book::Damage;
-use fare_outside::NoMemory;
+use fare_ports::NoMemory;
 use fare_text::push_labelled;
 use std::alloc::Global;
 

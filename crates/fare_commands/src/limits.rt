@@ -1,6 +1,6 @@
 //! How many bytes the sources of commands may hold; a tariff, or an array of itineraries, is `MOST_TEXT` at most.
 
-use fare_outside::MOST_TEXT;
+use fare_ports::MOST_TEXT;
 
 /// The most bytes of an itinerary.
 pub const MOST_ITINERARY: u32 = 65_536;

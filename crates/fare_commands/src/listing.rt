@@ -1,6 +1,6 @@
 //! The command `list`.
 
-ghost use Rattle.fare_outside.specs.Keeper.{BodiesStay, WhereTold};
+ghost use Rattle.fare_ports.specs.Keeper.{BodiesStay, WhereTold};
 ghost use Rattle.fare_commands.specs.Answer.{IsDoneOr};
 ghost use Rattle.fare_commands.specs.Ends.{IsRefusalOfList};
 ghost use Rattle.fare_commands.specs.Opened.{Names};
@@ -15,7 +15,7 @@ use crate::store::book_of;
 use fare_answers::list_text;
 use fare_book::Book;
 use fare_json::list_json;
-use fare_outside::Keeper;
+use fare_ports::Keeper;
 use std::alloc::Global;
 use std::thread::Threads;
 

@@ -1,7 +1,7 @@
 //! The command `migrate`.
 
 ghost use Rattle.std.specs.Prelude.{◌≡◌, ◌≢◌, IfErr, IsTrue};
-ghost use Rattle.fare_outside.specs.Keeper.{BodiesStay, ToldAfter, WhereTold};
+ghost use Rattle.fare_ports.specs.Keeper.{BodiesStay, ToldAfter, WhereTold};
 ghost use Rattle.fare_book.specs.Reopens.{Stay};
 ghost use Rattle.fare_commands.specs.Answer.{IsDoneOr};
 ghost use Rattle.fare_commands.specs.Ends.{IsRefusalOfMigrate};
@@ -17,7 +17,7 @@ use crate::numbered_line::numbered_line;
 use crate::outcome::Outcome;
 use crate::store::book_of;
 use fare_book::Book;
-use fare_outside::Keeper;
+use fare_ports::Keeper;
 use std::thread::Threads;
 
 /// Brings the bodies of a store into the canonical spelling of their editions, and answers how many weren't in it.

@@ -20,7 +20,7 @@ use fare_book::Book;
 use fare_check::tariff_words;
 use fare_csv::{TextFault, read_edition};
 use fare_json::tariff_fault_json;
-use fare_outside::Source;
+use fare_ports::Source;
 use fare_tariff::Edition;
 use std::thread::Threads;
 

@@ -1,7 +1,7 @@
 //! The command `publish`.
 
 ghost use Rattle.std.specs.Prelude.{◌≡◌, true, IfErr, IfSome, IsErrOf, IsTrue};
-ghost use Rattle.fare_outside.specs.Keeper.{BodiesStay, ToldAfter, WhereTold};
+ghost use Rattle.fare_ports.specs.Keeper.{BodiesStay, ToldAfter, WhereTold};
 ghost use Rattle.fare_book.specs.Publish.{IsReadable};
 ghost use Rattle.fare_book.specs.Reopens.{Stay};
 ghost use Rattle.fare_commands.specs.Answer.{IsDoneOr};
@@ -21,7 +21,7 @@ use crate::outcome::Outcome;
 use crate::source::source_up_to;
 use crate::store::book_of;
 use fare_book::{Book, Published};
-use fare_outside::{Keeper, MOST_TEXT, Source};
+use fare_ports::{Keeper, MOST_TEXT, Source};
 use fare_tariff::Edition;
 use std::thread::Threads;
 

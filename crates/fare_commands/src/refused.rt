@@ -3,7 +3,7 @@
 use crate::exit::Exit;
 use fare_answers::QuoteFault;
 use fare_book::{PublishFault, RestoreFault};
-use fare_outside::{KeepFault, NoMemory, ReadEnd};
+use fare_ports::{KeepFault, NoMemory, ReadEnd};
 
 impl From<NoMemory> for Exit {
     ghost use Rattle.std.specs.Prelude.{◌≡◌};

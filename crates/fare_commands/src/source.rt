@@ -4,7 +4,7 @@ ghost use Rattle.std.specs.Prelude.{IfErr, IfSome};
 ghost use Rattle.fare_commands.specs.Steps.{HoldsUpTo, IsEndOfReading, IsReading};
 
 use crate::exit::Exit;
-use fare_outside::{Source, read_all};
+use fare_ports::{Source, read_all};
 use std::alloc::Global;
 
 /// All that the source holds, if that is at most so many bytes.

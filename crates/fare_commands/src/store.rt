@@ -1,7 +1,7 @@
 //! The store of a command: it is opened, and its book restored.
 
 ghost use Rattle.std.specs.Prelude.{◌≡◌, true, IfErr, IfOk, IsTrue, OnOk};
-ghost use Rattle.fare_outside.specs.Keeper.{BodiesStay, WhereTold};
+ghost use Rattle.fare_ports.specs.Keeper.{BodiesStay, WhereTold};
 ghost use Rattle.fare_commands.specs.Opened.{Names};
 ghost use Rattle.fare_commands.specs.Steps.{IsKeeping};
 ghost use Rattle.fare_commands.specs.StoreSteps.{AreStored, IsEndOfOpening};
@@ -9,7 +9,7 @@ ghost use Rattle.fare_commands.specs.StoreSteps.{AreStored, IsEndOfOpening};
 use crate::context::Context;
 use crate::exit::Exit;
 use fare_book::Book;
-use fare_outside::Keeper;
+use fare_ports::Keeper;
 use std::thread::Threads;
 
 /// The settled book of the store of a name, which is opened. It leaves the bodies.

@@ -1,7 +1,7 @@
 //! The command `quote`.
 
 ghost use Rattle.std.specs.Prelude.{IfSome, IsErrOf};
-ghost use Rattle.fare_outside.specs.Keeper.{BodiesStay, WhereTold};
+ghost use Rattle.fare_ports.specs.Keeper.{BodiesStay, WhereTold};
 ghost use Rattle.fare_words.specs.WithinLimits.{IsFew};
 ghost use Rattle.fare_commands.specs.Answer.{IsDoneOr};
 ghost use Rattle.fare_commands.specs.Ends.{IsRefusalOfQuote};
@@ -19,7 +19,7 @@ use crate::outcome::Outcome;
 use crate::quote::{Question, quote};
 use crate::source::source_up_to;
 use crate::store::book_of;
-use fare_outside::{Keeper, Source};
+use fare_ports::{Keeper, Source};
 use std::thread::Threads;
 
 /// Tells what is asked of the itinerary of the source over a store.

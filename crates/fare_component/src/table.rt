@@ -32,7 +32,7 @@ pub use entries::MOST_ENTRIES;
 pub use entry::Entry;
 use fare_codes::{FARE_LIMIT, Nuc};
 use fare_conditions::{Priced, all_indicators};
-use fare_outside::NoMemory;
+use fare_ports::NoMemory;
 use fare_rules::Amount;
 use fare_tariff::Edition;
 use fare_trip::Trip;

@@ -9,7 +9,7 @@ use fare_desk::{Clerk, body_reply, line_reply, refusal_reply, refused_reply};
 use fare_http::{Form, Reply, Status};
 use fare_json::{audit_json, fault_of_audit};
 use fare_line::Line;
-use fare_outside::NoMemory;
+use fare_ports::NoMemory;
 use fare_tariff::Edition;
 use fare_trip::Trip;
 use fare_units::Quoter;

@@ -12,7 +12,7 @@ use fare_codes::{MOST_BEST, read_number};
 use fare_desk::{body_reply, fault_reply, no_route_reply, refusal_reply};
 use fare_http::{Form, Reply, Status};
 use fare_json::best_json;
-use fare_outside::NoMemory;
+use fare_ports::NoMemory;
 use fare_trip::{Trip, TripFault, read_trip};
 use std::alloc::Global;
 

@@ -7,7 +7,7 @@ use crate::reasoner::Reasoner;
 use crate::routes::CounterRoutes;
 use fare_desk::{Desk, RequestParts};
 use fare_http::{Handler, Reply};
-use fare_outside::{Keeper, NoMemory};
+use fare_ports::{Keeper, NoMemory};
 use fare_units::Quoter;
 use http::Method;
 use std::alloc::Global;

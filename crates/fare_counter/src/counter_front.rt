@@ -12,7 +12,7 @@ use crate::tariff_replies::{check_reply, diff_reply};
 use crate::why_replies::why_reply;
 use fare_desk::{DeskFront, RequestParts, form_of, is_method, method_reply};
 use fare_http::{Front, Reply};
-use fare_outside::NoMemory;
+use fare_ports::NoMemory;
 use http::Method;
 use std::alloc::Global;
 use std::thread::Threads;

@@ -4,7 +4,7 @@ ghost use Rattle.std.specs.Prelude.{◌≡◌, OnOk};
 ghost use Rattle.fare_counter.specs.Routes.{counter_route_of, counter_rows, method_of, with_pattern};
 
 use fare_json::OneMethod;
-use fare_outside::NoMemory;
+use fare_ports::NoMemory;
 use matchit::Router;
 use std::alloc::Global;
 

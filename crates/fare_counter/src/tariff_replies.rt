@@ -11,7 +11,7 @@ use fare_check::check_text;
 use fare_csv::TextFault;
 use fare_desk::{body_reply, edition_number, no_route_reply, no_such_edition_reply};
 use fare_http::{Form, Reply, Status};
-use fare_outside::NoMemory;
+use fare_ports::NoMemory;
 use std::alloc::Global;
 use std::thread::Threads;
 

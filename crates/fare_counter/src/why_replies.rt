@@ -7,7 +7,7 @@ ghost use Rattle.fare_counter.specs.WhyReply.{IsReasonsReply, IsWhyReply};
 use crate::reasoner::Reasoner;
 use fare_desk::{Clerk, body_reply, fault_reply, refusal_reply};
 use fare_http::{Reply, Status};
-use fare_outside::NoMemory;
+use fare_ports::NoMemory;
 use fare_trip::{Trip, TripFault, read_trip};
 use std::alloc::Global;
 use std::thread::Threads;

@@ -9,7 +9,7 @@ use Rattle.fare_csv.specs.declared.head.Version.TheVariants as version
 use Rattle.fare_csv.specs.declared.record_kind.RecordKind.{RecordKind}
 use Rattle.fare_csv.specs.declared.record_kind.RecordKind.TheVariants as kind
 use Rattle.fare_csv.specs.declared.text_fault.TextFault.{TextFault}
-use Rattle.fare_outside.specs.Memory.{◌>>=◌}
+use Rattle.fare_ports.specs.Memory.{◌>>=◌}
 use Rattle.fare_csv.specs.Fields.{counted, field, in_form}
 use Rattle.fare_csv.specs.RecordText.{allowance_of, city_of, currency_of, fare_key_of, fare_of, fare_one_of, fare_two_of, mileage_of, pair_of, rule_of}
 use Rattle.fare_csv.specs.Rows.{Fields}

@@ -10,7 +10,7 @@ use Rattle.fare_csv.specs.declared.head.Version.TheVariants.{One, Two}
 use Rattle.fare_csv.specs.declared.head.Head.{Head}
 use Rattle.fare_csv.specs.Rows.{Fields}
 use Rattle.fare_csv.specs.Numbers.{above_zero}
-use Rattle.fare_outside.specs.Memory.{◌>>=◌}
+use Rattle.fare_ports.specs.Memory.{◌>>=◌}
 use Rattle.fare_csv.specs.Fields.{field, counted, in_form}
 
 -- the version that bytes spell

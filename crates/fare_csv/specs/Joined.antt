@@ -1,7 +1,7 @@
 -- The records of all pieces of a text in one list.
 use Rattle.std.specs.Prelude.{List, [], ◌∷◌, ◌++◌, Result, Ok}
 use Rattle.std.specs.Global.{Vec}
-use Rattle.fare_outside.specs.Memory.{◌>>=◌}
+use Rattle.fare_ports.specs.Memory.{◌>>=◌}
 use Rattle.fare_records.specs.declared.record.Record.{Record}
 use Rattle.fare_csv.specs.declared.pieces.NotInPieces.{NotInPieces}
 

@@ -22,7 +22,7 @@ use Rattle.fare_csv.specs.declared.text_fault.TextFault.{TextFault}
 use Rattle.fare_csv.specs.Rows.{Fields}
 use Rattle.fare_csv.specs.NameList.{read_names}
 use Rattle.fare_csv.specs.Numbers.{above_zero}
-use Rattle.fare_outside.specs.Memory.{◌>>=◌}
+use Rattle.fare_ports.specs.Memory.{◌>>=◌}
 use Rattle.fare_csv.specs.Fields.{field, counted, in_form}
 
 -- CITY: the code, the country and the area

@@ -14,7 +14,7 @@ use Rattle.fare_csv.specs.declared.record_kind.RecordKind.TheVariants as kind
 use Rattle.fare_csv.specs.RecordKind.{kind_named}
 use Rattle.fare_csv.specs.CheckedFault.{checked_fault}
 use Rattle.fare_csv.specs.Rows.{Fields, rows_of}
-use Rattle.fare_outside.specs.Memory.{◌>>=◌}
+use Rattle.fare_ports.specs.Memory.{◌>>=◌}
 use Rattle.fare_csv.specs.Fields.{field, counted}
 use Rattle.fare_csv.specs.Head.{head_of}
 use Rattle.fare_csv.specs.RecordText.{allowance_of, city_of, currency_of, fare_of, mileage_of, pair_of, rule_of}

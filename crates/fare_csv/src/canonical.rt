@@ -9,7 +9,7 @@ use crate::write_record::{
     write_allowance, write_city, write_currency, write_end, write_fare, write_head, write_mileage,
     write_pair, write_rule,
 };
-use fare_outside::NoMemory;
+use fare_ports::NoMemory;
 use fare_tariff::{Edition, Record};
 use std::alloc::{AllocError, Global};
 

@@ -1,4 +1,4 @@
-ghost use Rattle.fare_outside.specs.Memory.{Gives};
+ghost use Rattle.fare_ports.specs.Memory.{Gives};
 ghost use Rattle.fare_csv.specs.TariffText.{edition_of};
 
 use crate::spelling::read_spelled;

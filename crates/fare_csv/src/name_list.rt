@@ -5,7 +5,7 @@ ghost use Rattle.fare_records.specs.Record.{name_count};
 ghost use Rattle.fare_csv.specs.NameList.{names_of, pieces_of, read_list, read_name, read_names};
 
 use fare_codes::RuleId;
-use fare_outside::NoMemory;
+use fare_ports::NoMemory;
 use fare_tariff::{MOST_NAMES, Names, RuleList};
 use std::alloc::{AllocError, Global};
 

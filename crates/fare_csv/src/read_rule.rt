@@ -1,7 +1,7 @@
 //! RULE records.
 
 ghost use Rattle.std.specs.Prelude.{◌≡◌};
-ghost use Rattle.fare_outside.specs.Memory.{Gives};
+ghost use Rattle.fare_ports.specs.Memory.{Gives};
 ghost use Rattle.fare_csv.specs.RecordText.{read_excess, rule_of};
 
 use crate::field_list::FieldList;

@@ -1,7 +1,7 @@
 //! The records of a text, row by row.
 
 ghost use Rattle.std.specs.Prelude.{◌≡◌, [], ◌∷◌, ◌<◌, ◌≤◌, IfOk, Ok};
-ghost use Rattle.fare_outside.specs.Memory.{Gives};
+ghost use Rattle.fare_ports.specs.Memory.{Gives};
 ghost use Rattle.fare_csv.specs.TariffText.{end_of, record_of, records_of, tariff_of};
 ghost use Rattle.fare_csv.specs.Spelled.{is_end, is_head, spelled_tariff};
 ghost use Rattle.fare_csv.specs.Rows.{rows_of};

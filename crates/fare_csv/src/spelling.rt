@@ -2,7 +2,7 @@
 //! else row by row.
 
 ghost use Rattle.std.specs.Prelude.{◌≡◌, ◌<◌, ◌≤◌, IfOk, Ok};
-ghost use Rattle.fare_outside.specs.Memory.{Gives};
+ghost use Rattle.fare_ports.specs.Memory.{Gives};
 ghost use Rattle.fare_csv.specs.Spelled.{spelled_tariff};
 ghost use Rattle.fare_csv.specs.Pieces.{IsHeadAlone};
 ghost use Rattle.fare_csv.specs.Rows.{rows_of};

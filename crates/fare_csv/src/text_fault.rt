@@ -3,7 +3,7 @@
 ghost use Rattle.std.specs.Prelude.{◌≡◌};
 ghost use Rattle.fare_csv.specs.declared.text_fault.TextFault.TheVariants.{Memory};
 
-use fare_outside::NoMemory;
+use fare_ports::NoMemory;
 use fare_tariff::{CheckFault, CheckKind};
 use std::alloc::{AllocError, AllocFailed};
 

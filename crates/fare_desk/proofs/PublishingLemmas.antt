@@ -1,6 +1,6 @@
 -- A publication for which there was no room.
 use Rattle.std.proofs.Common.{ℕ, List, None, Some, Err, refl, inl, arith}
-use Rattle.fare_outside.specs.Keeper.{WhereTold}
+use Rattle.fare_ports.specs.Keeper.{WhereTold}
 use Rattle.fare_book.specs.Book.{BookState}
 use Rattle.fare_book.specs.Reopens.{Stay, Told}
 use Rattle.fare_book.specs.Stands.{KeepsStanding}

@@ -1,7 +1,7 @@
 -- What a desk does with a request: it publishes an edition, or answers and changes nothing.
 use Rattle.std.specs.Prelude.{◌≡◌, ◌≤◌, ℕ, List, ◌++◌, Option, Some, None, Ok, Err, IfSome, codes, decimal}
-use Rattle.fare_outside.specs.Cause.{Rose}
-use Rattle.fare_outside.specs.Keeper.{WhereTold}
+use Rattle.fare_ports.specs.Cause.{Rose}
+use Rattle.fare_ports.specs.Keeper.{WhereTold}
 use Rattle.fare_csv.specs.FaultText.{fault_text}
 use Rattle.fare_book.specs.Book.{BookState}
 use Rattle.fare_book.specs.DamageText.{damage_text}

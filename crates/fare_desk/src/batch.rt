@@ -10,7 +10,7 @@ use crate::clerk::fault_reply;
 use crate::replies::{body_reply, refused_reply};
 use fare_http::{Form, Reply, Status};
 use fare_json::Fault;
-use fare_outside::NoMemory;
+use fare_ports::NoMemory;
 use fare_trip::{TripFault, read_json};
 use serde_json::Value;
 use std::alloc::Global;

@@ -7,7 +7,7 @@ ghost use Rattle.fare_desk.specs.Batching.{AreItemsOf, IsMadeOf, batch_body, ite
 use crate::batcher::MOST_ITEMS;
 use fare_http::{Form, Reply};
 use fare_json::{push_batch_begin, push_batch_end, push_batch_item};
-use fare_outside::NoMemory;
+use fare_ports::NoMemory;
 use fare_text::push_labelled;
 use std::alloc::Global;
 

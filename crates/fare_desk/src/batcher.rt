@@ -5,7 +5,7 @@ ghost use Rattle.std.specs.Thread.{IsSync};
 ghost use Rattle.fare_desk.specs.Batching.{AreReplied};
 
 use fare_http::{Form, Reply};
-use fare_outside::NoMemory;
+use fare_ports::NoMemory;
 use serde_json::Value;
 use std::alloc::Global;
 use std::thread::Threads;

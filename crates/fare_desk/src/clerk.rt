@@ -11,7 +11,7 @@ use fare_answers::{QuoteFault, quote_text};
 use fare_book::Book;
 use fare_http::{Form, Reply, Status};
 use fare_json::{Fault, quote_json};
-use fare_outside::NoMemory;
+use fare_ports::NoMemory;
 use fare_trip::{Trip, TripFault, read_trip, trip_of};
 use fare_units::Quoter;
 use serde_json::Value;

@@ -10,7 +10,7 @@ use crate::routes::{Route, Routes};
 use fare_book::Book;
 use fare_http::{Handler, Reply};
 use fare_json::OneMethod;
-use fare_outside::{Keeper, NoMemory};
+use fare_ports::{Keeper, NoMemory};
 use fare_units::Quoter;
 use http::Method;
 use std::alloc::Global;

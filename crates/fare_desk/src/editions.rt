@@ -12,7 +12,7 @@ use fare_codes::{LAST_EDITION, read_number};
 use fare_csv::edition_text;
 use fare_http::{Form, Reply, Status};
 use fare_json::list_json;
-use fare_outside::NoMemory;
+use fare_ports::NoMemory;
 use fare_text::{push_short_number, short_text};
 use std::alloc::Global;
 

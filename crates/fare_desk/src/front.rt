@@ -13,7 +13,7 @@ use crate::request_parts::RequestParts;
 use crate::routes::{Route, Routes};
 use fare_book::Book;
 use fare_http::{Form, Front, Reply};
-use fare_outside::NoMemory;
+use fare_ports::NoMemory;
 use fare_units::Quoter;
 use http::Method;
 use std::alloc::Global;

@@ -7,7 +7,7 @@ use crate::batcher::Batcher;
 use crate::clerk::Clerk;
 use fare_book::Book;
 use fare_http::{Form, Reply};
-use fare_outside::NoMemory;
+use fare_ports::NoMemory;
 use fare_units::Quoter;
 use serde_json::Value;
 use std::alloc::Global;

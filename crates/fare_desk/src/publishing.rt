@@ -12,7 +12,7 @@ use arrayvec::ArrayString;
 use fare_book::{Damage, PublishFault, Published};
 use fare_codes::number_text;
 use fare_http::{Form, Reply, Status};
-use fare_outside::NoMemory;
+use fare_ports::NoMemory;
 use fare_text::{push_short_number, short_text};
 
 /// The most bytes of a reply to a publication.

@@ -6,7 +6,7 @@ ghost use Rattle.fare_desk.specs.Replies.{allowed, fault_body, form_of, line, no
 
 use fare_http::{Allow, Form, Reply, Status};
 use fare_json::{Fault, OneMethod, fault_json, fault_text};
-use fare_outside::{Bytes, NoMemory};
+use fare_ports::{Bytes, NoMemory};
 use http::Method;
 use std::alloc::Global;
 

@@ -4,7 +4,7 @@ ghost use Rattle.std.specs.Prelude.{◌≡◌, OnOk};
 ghost use Rattle.fare_desk.specs.Routes.{desk_rows, method_of, route_of, with_pattern};
 
 use fare_json::OneMethod;
-use fare_outside::NoMemory;
+use fare_ports::NoMemory;
 use matchit::Router;
 use std::alloc::Global;
 

@@ -10,7 +10,7 @@ ghost use Rattle.fare_desk.specs.Quoting.{IsQuoteReply};
 
 use crate::clerk::Clerk;
 use fare_http::Reply;
-use fare_outside::NoMemory;
+use fare_ports::NoMemory;
 use fare_units::Quoter;
 use serde_json::Value;
 use std::alloc::Global;

@@ -1,6 +1,6 @@
 ghost use Rattle.std.specs.Prelude.{◌≡◌, None};
 
-use fare_outside::{Failed, Sink, raised};
+use fare_ports::{Failed, Sink, raised};
 use std::io::Write;
 use std::marker::Model;
 

@@ -1,6 +1,6 @@
 ghost use Rattle.std.specs.Prelude.{◌≡◌, None};
 
-use fare_outside::{Failed, Source, raised};
+use fare_ports::{Failed, Source, raised};
 use std::io::Read;
 use std::marker::Model;
 

@@ -1,12 +1,12 @@
 ghost use Rattle.std.specs.Prelude.{◌≡◌, ◌≤◌, IfOk, OnErr, None, false, Some};
-ghost use Rattle.fare_outside.specs.Cause.{Rose};
+ghost use Rattle.fare_ports.specs.Cause.{Rose};
 ghost use Rattle.fare_devices.specs.OpenDoor.{places_of, place_of};
 
 use crate::TcpLimits;
 use crate::tcp_arrivals::TcpArrivals;
 use crate::tcp_peer::TcpPeer;
 use arrayvec::ArrayVec;
-use fare_outside::{Door, Failed, MOST_HELD, raised};
+use fare_ports::{Door, Failed, MOST_HELD, raised};
 use std::marker::Model;
 
 /// A door over a port of this machine's own address, 127.0.0.1. It tells nothing of what is sent,

@@ -1,5 +1,5 @@
 use crate::*;
-use fare_outside::{read_all, write_all};
+use fare_ports::{read_all, write_all};
 use std::test::Fail;
 
 #[test]

@@ -5,7 +5,7 @@ ghost use Rattle.std.specs.List.{range_with_len};
 ghost use Rattle.fare_drill.specs.Cities.{letter, city, country_of, extra_city, city_record, extra_record};
 
 use fare_codes::{Area, City, Country};
-use fare_outside::NoMemory;
+use fare_ports::NoMemory;
 use fare_tariff::{CityRec, Record};
 use std::alloc::Global;
 

@@ -6,7 +6,7 @@ ghost use Rattle.fare_drill.specs.Drill.{drill_tariff, drill_trip};
 
 use crate::edition::drill_edition;
 use crate::trip::drill_trip;
-use fare_outside::NoMemory;
+use fare_ports::NoMemory;
 use fare_tariff::Edition;
 use fare_trip::Trip;
 use std::alloc::Global;

@@ -6,7 +6,7 @@ ghost use Rattle.fare_drill.specs.Drill.{drill_tariff};
 
 use crate::days::sale_day;
 use crate::records::drill_records;
-use fare_outside::NoMemory;
+use fare_ports::NoMemory;
 use fare_tariff::{CheckFault, Edition};
 use std::alloc::Global;
 use std::thread::Threads;

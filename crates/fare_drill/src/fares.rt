@@ -8,7 +8,7 @@ use crate::cities::city;
 use crate::draws::{next_state, upper_half};
 use crate::way::Way;
 use fare_codes::{Cabin, Indicator, Kind, Nuc, Season};
-use fare_outside::NoMemory;
+use fare_ports::NoMemory;
 use fare_tariff::{FareRec, Record};
 
 /// Appends the fares of ways, each with the draw of its number.

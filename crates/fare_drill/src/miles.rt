@@ -8,7 +8,7 @@ ghost use Rattle.fare_drill.specs.Miles.{NumberPair, pairs, pairs_from, permitte
 use crate::cities::city;
 use crate::pair::Pair;
 use fare_codes::{City, Indicator};
-use fare_outside::NoMemory;
+use fare_ports::NoMemory;
 use fare_tariff::{MileRec, PairRec, Record};
 
 /// Appends the permitted miles of pairs of cities.

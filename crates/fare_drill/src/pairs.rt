@@ -5,7 +5,7 @@ ghost use Rattle.fare_drill.specs.Miles.{pairs, pairs_from};
 
 use crate::pair::Pair;
 use fare_codes::MOST_SECTORS;
-use fare_outside::NoMemory;
+use fare_ports::NoMemory;
 use std::alloc::Global;
 
 /// The pairs of numbers below a count.

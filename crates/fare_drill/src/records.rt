@@ -14,7 +14,7 @@ use crate::miles::{push_extra_miles, push_permitted, push_ticketed};
 use crate::pairs::pairs;
 use crate::ways::ways;
 use fare_codes::{Country, Currency, MOST_SECTORS, Mode, RuleId};
-use fare_outside::NoMemory;
+use fare_ports::NoMemory;
 use fare_tariff::{
     CurRec, FiledRule, MOST_DAYS, MOST_STOPS, MOST_TRANSFERS, Names, Record, RuleRec,
 };

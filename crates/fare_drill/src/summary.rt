@@ -4,7 +4,7 @@ ghost use Rattle.std.specs.Prelude.{◌≡◌, ◌++◌, OnOk, IfOk};
 ghost use Rattle.std.specs.Option.{option_copied};
 ghost use Rattle.fare_drill.specs.Summary.{drill_text, result_lines};
 
-use fare_outside::NoMemory;
+use fare_ports::NoMemory;
 use fare_text::{push_decimal, push_labelled};
 use fare_units::{Construction, unit_count};
 use std::alloc::Global;

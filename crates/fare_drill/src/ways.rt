@@ -7,7 +7,7 @@ ghost use Rattle.fare_drill.specs.Fares.{carriers, rules, ways_between, ways_to,
 
 use crate::way::Way;
 use fare_codes::{Carrier, Kind, RuleId};
-use fare_outside::NoMemory;
+use fare_ports::NoMemory;
 use std::alloc::Global;
 
 /// The ways from each of so many cities to each other one.

@@ -4,7 +4,7 @@ use Rattle.std.proofs.Math.Seq.{take-append-add}
 use Rattle.std.proofs.lemmas.List.{take-append-le}
 use Rattle.std.specs.Prelude.{OnErr, OnOk, codes, decimal}
 use Rattle.std.specs.Fmt.{digits}
-use Rattle.fare_outside.specs.Door.{with_more_at}
+use Rattle.fare_ports.specs.Door.{with_more_at}
 use Rattle.fare_http.specs.Sending.{sent_more, Sends, SendsPrefix}
 
 -- a list that grew twice at a place grew by both pieces

@@ -1,6 +1,6 @@
 -- An exchange is served or cut off as its answer was sent.
 use Rattle.std.proofs.Common.{◌≡◌, ◌≤◌, ◌⊎◌, inl, inr, ℕ, List, [], Option, take, refl, sym, ◌∙◌, arith}
-use Rattle.fare_outside.specs.Cause.{Rose}
+use Rattle.fare_ports.specs.Cause.{Rose}
 use Rattle.fare_http.specs.declared.reply.Reply.{Reply}
 use Rattle.fare_http.specs.declared.sending.Exchange.{Exchange}
 use Rattle.fare_http.specs.declared.sending.Exchange.TheVariants.{Served, Cut}

@@ -6,7 +6,7 @@ use Rattle.std.specs.Char.{is_ascii_digit}
 use Rattle.std.specs.Str.{str_eq_ignore_ascii_case}
 use Rattle.std.specs.Str.Parse.{digits_value}
 use Rattle.httparse.specs.Spans.{IsWithin, span_bytes}
-use Rattle.fare_outside.specs.declared.limits.TheConstants.{MOST_TEXT}
+use Rattle.fare_ports.specs.declared.limits.TheConstants.{MOST_TEXT}
 use Rattle.fare_http.specs.declared.lengths.BodyFault.{BodyFault}
 use Rattle.fare_http.specs.declared.lengths.BodyFault.TheVariants.{Coded, BadLength, TooLong}
 use Rattle.fare_http.specs.declared.lengths.Named.{Named}

@@ -1,6 +1,6 @@
 -- What is sent on the current connection.
 use Rattle.std.specs.Prelude.{◌≡◌, ℕ, ◌<◌, List, Option, length, take, option_map}
-use Rattle.fare_outside.specs.Door.{with_more_at}
+use Rattle.fare_ports.specs.Door.{with_more_at}
 
 -- what was sent, where it is told, with these bytes more on the current connection
 abbrev pub sent_more : Option ℕ → Option (List (List ℕ)) → List ℕ → Option (List (List ℕ))

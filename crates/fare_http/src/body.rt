@@ -1,10 +1,10 @@
 ghost use Rattle.std.specs.Prelude.{◌≡◌, ◌<◌, ◌≤◌, ◌++◌, length, vec_len, IfOk, IsErrOf};
 ghost use Rattle.std.specs.Io.KnownBytes.{IsAtEnd};
-ghost use Rattle.fare_outside.specs.Cause.{Rose};
+ghost use Rattle.fare_ports.specs.Cause.{Rose};
 ghost use Rattle.fare_http.specs.Heads.{Grows, Takes};
 
 use crate::piece::{NoPiece, read_piece};
-use fare_outside::Door;
+use fare_ports::Door;
 
 /// The whole body, of which the first bytes came behind the head. It takes no byte behind it.
 pub fn read_body<D: Door>(

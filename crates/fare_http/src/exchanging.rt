@@ -1,9 +1,9 @@
 ghost use Rattle.std.specs.Prelude.{◌≡◌, ◌≤◌, None};
-ghost use Rattle.fare_outside.specs.Cause.{Rose};
+ghost use Rattle.fare_ports.specs.Cause.{Rose};
 ghost use Rattle.fare_http.specs.Serving.{ExchangesAt};
 
 use crate::{Exchange, Handler, Taken, read_request, send};
-use fare_outside::Door;
+use fare_ports::Door;
 use std::alloc::Global;
 use std::thread::Threads;
 

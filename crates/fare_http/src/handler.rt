@@ -3,7 +3,7 @@ ghost use Rattle.std.specs.Result.{result_ok};
 ghost use Rattle.std.specs.Thread.{IsSync};
 
 use crate::Reply;
-use fare_outside::NoMemory;
+use fare_ports::NoMemory;
 use http::Method;
 use std::alloc::Global;
 use std::thread::Threads;

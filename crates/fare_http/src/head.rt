@@ -3,11 +3,11 @@ ghost use Rattle.std.specs.Prelude.{IfOk, IfSome, OnOk, IsErrOf};
 ghost use Rattle.std.specs.Io.KnownBytes.{Consumes, IsAtEnd};
 ghost use Rattle.httparse.specs.Grammar.{HasNoRequest, NeverHasRequest};
 ghost use Rattle.httparse.specs.Spans.{IsRequestWithin, IsRequestOf, RequestExceeds, RequestOverflows};
-ghost use Rattle.fare_outside.specs.Cause.{Rose};
+ghost use Rattle.fare_ports.specs.Cause.{Rose};
 ghost use Rattle.fare_http.specs.Heads.{Takes, IsOverLimit, EndsEarly, head_fault};
 
 use crate::piece::{NoPiece, read_piece};
-use fare_outside::Door;
+use fare_ports::Door;
 use httparse::spans::{HeaderSpan, RequestSpans, parse_request};
 use httparse::{Error, Status};
 use std::alloc::Global;

@@ -1,7 +1,7 @@
 ghost use Rattle.std.specs.Prelude.{◌≡◌, IfOk};
 ghost use Rattle.httparse.specs.Grammar.{IsToken};
 
-use fare_outside::NoMemory;
+use fare_ports::NoMemory;
 use http::Method;
 use http::method::MethodError;
 use std::alloc::Global;

@@ -5,7 +5,7 @@ ghost use Rattle.httparse.specs.Spans.{IsHeaderWithin, header_bytes};
 ghost use Rattle.fare_http.specs.Lengths.{body_length, length_of, number_up_to, has_name, values_named};
 ghost use Rattle.fare_http.specs.Lengths.{AreNamed, IsOneWithin};
 
-use fare_outside::MOST_TEXT;
+use fare_ports::MOST_TEXT;
 use httparse::spans::{HeaderSpan, Span};
 
 /// Why a head says nothing that can be taken about its body's length.

@@ -1,10 +1,10 @@
 ghost use Rattle.std.specs.Prelude.{◌≡◌, ◌<◌, ◌≤◌, [], vec_len, OnOk, IsErrOf};
 ghost use Rattle.std.specs.Io.KnownBytes.{Consumes, IsAtEnd};
-ghost use Rattle.fare_outside.specs.Cause.{Rose};
+ghost use Rattle.fare_ports.specs.Cause.{Rose};
 ghost use Rattle.fare_http.specs.Heads.{Grows};
 ghost use Rattle.fare_http.specs.declared.piece.NoPiece.TheVariants.{Memory, Failed as ReadFailed};
 
-use fare_outside::{Door, Failed};
+use fare_ports::{Door, Failed};
 use std::alloc::AllocError;
 
 /// The most bytes that one read asks for.

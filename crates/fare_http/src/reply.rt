@@ -1,7 +1,7 @@
 ghost use Rattle.std.specs.Prelude.{◌≡◌};
 ghost use Rattle.fare_http.specs.Answers.{allow_line, form_line, status_number, status_text};
 
-use fare_outside::Bytes;
+use fare_ports::Bytes;
 
 /// What a request is answered.
 #[derive(Drop)]

@@ -5,7 +5,7 @@ ghost use Rattle.fare_http.specs.Requests.{announced, path_of};
 
 use crate::head_method::head_method;
 use crate::{BodyFault, Head, PathText, body_length};
-use fare_outside::NoMemory;
+use fare_ports::NoMemory;
 use http::Method;
 use httparse::spans::HeaderSpan;
 use std::alloc::{AllocError, Global};

@@ -1,8 +1,8 @@
 ghost use Rattle.std.specs.Prelude.{◌≡◌, ◌≤◌, OnOk, OnErr};
-ghost use Rattle.fare_outside.specs.Cause.{Rose};
+ghost use Rattle.fare_ports.specs.Cause.{Rose};
 ghost use Rattle.fare_http.specs.Sending.{Sends, SendsPrefix};
 
-use fare_outside::{Door, Failed};
+use fare_ports::{Door, Failed};
 
 /// Writes all of these bytes to the current connection. After `Failed` a prefix of them was
 /// written, and not all.

@@ -1,11 +1,11 @@
 ghost use Rattle.std.specs.Prelude.{◌≡◌, ◌≤◌, None, option_copied, OnOk, OnErr};
-ghost use Rattle.fare_outside.specs.Cause.{Rose};
+ghost use Rattle.fare_ports.specs.Cause.{Rose};
 ghost use Rattle.fare_http.specs.Answers.{answer_bytes, reply_bytes, status_line};
 ghost use Rattle.fare_http.specs.Sending.{sent_more, Sends, SendsPrefix, SentPrefix};
 
 use crate::send_all::send_all;
 use crate::{Reply, Status};
-use fare_outside::{Door, Failed};
+use fare_ports::{Door, Failed};
 use itoa::Buffer;
 
 /// How an exchange ended.

@@ -1,5 +1,5 @@
 ghost use Rattle.std.specs.Prelude.{◌≡◌, ◌≤◌, ◌⊎◌};
-ghost use Rattle.fare_outside.specs.Cause.{Rose};
+ghost use Rattle.fare_ports.specs.Cause.{Rose};
 ghost use Rattle.fare_http.specs.Heads.{Takes};
 ghost use Rattle.fare_http.specs.Requests.{IsWhole};
 ghost use Rattle.fare_http.specs.Refusals.{IfWhole, IfFixed, OnCut, IsRefused, EndsInside, IsFixed};
@@ -7,7 +7,7 @@ ghost use Rattle.fare_http.specs.Refusals.{IfWhole, IfFixed, OnCut, IsRefused, E
 use crate::{
     Allow, BodyFault, Form, NoHead, NoPiece, NoRequest, Reply, Request, Status, read_whole,
 };
-use fare_outside::{Bytes, Door, NoMemory};
+use fare_ports::{Bytes, Door, NoMemory};
 use std::alloc::Global;
 
 /// What was read from a connection.

@@ -7,7 +7,7 @@ ghost use Rattle.fare_index.specs.Key.{same_key};
 use crate::hashed::{hash_each, hash_side_by_side};
 use crate::key::Key;
 use crate::places::{Places, places_of, seek};
-use fare_outside::NoMemory;
+use fare_ports::NoMemory;
 use std::alloc::Global;
 use std::marker::{Model, Sync};
 use std::thread::Threads;

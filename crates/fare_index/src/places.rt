@@ -12,7 +12,7 @@ ghost use Rattle.fare_index.specs.Places.{ArePlaces, LeadsOn};
 use crate::key::Key;
 use crate::link::Link;
 use crate::slots::Slots;
-use fare_outside::NoMemory;
+use fare_ports::NoMemory;
 use std::alloc::Global;
 
 /// With more places than these in one slot a list is linked by the order of its hashes. An edition has at most 64

@@ -10,7 +10,7 @@ use crate::edition::push_edition;
 use crate::writing::push_string;
 use fare_audit::Verdict;
 use fare_line::Line;
-use fare_outside::NoMemory;
+use fare_ports::NoMemory;
 use fare_sentences::verdict_words;
 use fare_tariff::Edition;
 use fare_text::{push_decimal, push_labelled};

@@ -3,7 +3,7 @@
 ghost use Rattle.std.specs.Prelude.{◌≡◌, ◌++◌, OnOk};
 ghost use Rattle.fare_json.specs.BatchData.{batch_begin, batch_end, comma_before, item_json, without_line_end};
 
-use fare_outside::NoMemory;
+use fare_ports::NoMemory;
 use fare_text::push_labelled;
 
 /// Appends what stands before the items of a batch.

@@ -19,7 +19,7 @@ use crate::unit::push_unit;
 use crate::writing::{push_money, push_named, push_string};
 use fare_calc::{NumberedUnit, PartSheet, Sheets, line_by, print_line};
 use fare_codes::{MOST_DECIMALS, rate_text};
-use fare_outside::NoMemory;
+use fare_ports::NoMemory;
 use fare_tariff::CurRec;
 use fare_text::{push_decimal, push_whole};
 use std::alloc::Global;

@@ -7,7 +7,7 @@ ghost use Rattle.fare_json.specs.Spelled.{refusal_json};
 
 use crate::writing::push_string;
 use fare_csv::TextFault;
-use fare_outside::NoMemory;
+use fare_ports::NoMemory;
 use fare_sentences::{Fault, fault_text, fault_words};
 use std::alloc::Global;
 

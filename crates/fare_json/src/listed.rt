@@ -8,7 +8,7 @@ ghost use Rattle.fare_json.specs.Spelled.{after_comma, list_json, listed_edition
 
 use crate::writing::push_named;
 use fare_book::Book;
-use fare_outside::NoMemory;
+use fare_ports::NoMemory;
 use fare_tariff::Edition;
 use fare_text::push_labelled;
 use std::alloc::Global;

@@ -10,7 +10,7 @@ use crate::writing::{push_flag, push_money, push_named, push_string};
 use fare_calc::PartSheet;
 use fare_codes::{Cabin, Carrier, City, Kind, Nuc, RuleId};
 use fare_mileage::{Mileage, Miles};
-use fare_outside::NoMemory;
+use fare_ports::NoMemory;
 use fare_tariff::FareRec;
 use fare_text::push_labelled;
 

@@ -12,7 +12,7 @@ use crate::edition::push_edition;
 use fare_answers::{QuoteFault, edition_for};
 use fare_book::Book;
 use fare_calc::{Priced, Sheets};
-use fare_outside::NoMemory;
+use fare_ports::NoMemory;
 use fare_tariff::Edition;
 use fare_trip::Trip;
 use fare_units::Quoter;

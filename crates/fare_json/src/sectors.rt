@@ -3,7 +3,7 @@
 ghost use Rattle.std.specs.Prelude.{◌≡◌, ◌++◌, ◌+◌, ◌<◌, ◌^◌, OnOk};
 ghost use Rattle.fare_json.specs.Spelled.{counted_json, numbers_json, sectors_json};
 
-use fare_outside::NoMemory;
+use fare_ports::NoMemory;
 use fare_text::push_labelled;
 
 /// Appends the numbers of the sectors between two points of a trip.

@@ -7,7 +7,7 @@ ghost use Rattle.fare_json.specs.Spelled.{checked_json, minimum_json, unit_json}
 
 use crate::writing::push_money;
 use fare_calc::NumberedUnit;
-use fare_outside::NoMemory;
+use fare_ports::NoMemory;
 use fare_text::push_labelled;
 use fare_units::UnitKind;
 

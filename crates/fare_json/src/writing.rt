@@ -8,7 +8,7 @@ ghost use Rattle.fare_json.specs.Spelled.{flag_json, money_json, string_json};
 
 use arrayvec::ArrayString;
 use fare_codes::Nuc;
-use fare_outside::NoMemory;
+use fare_ports::NoMemory;
 
 /// Appends a string: the bytes between quotation marks, each as JSON spells it. After want of memory the text may hold
 /// a part of it.

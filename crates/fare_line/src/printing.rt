@@ -14,7 +14,7 @@ use crate::line::plus_up::PlusUp;
 use crate::line::sector::LineSector;
 use arrayvec::ArrayString;
 use fare_codes::{Cabin, Carrier, City, Kind, RuleId, rate_text};
-use fare_outside::NoMemory;
+use fare_ports::NoMemory;
 use fare_text::{push_code, push_hundredths, push_number};
 use std::alloc::Global;
 

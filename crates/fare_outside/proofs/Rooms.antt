@@ -2,7 +2,7 @@
 use Rattle.std.proofs.Common.{◌≡◌, ℕ, ◌<◌, ◌≤◌, List, [], Option, Some, None, length, get_or, take, slice_set, refl}
 use Rattle.std.proofs.Common.{false, IsTrue, IfSome, MatchOption}
 use Rattle.std.proofs.lemmas.List.{map-set, get_or-map}
-use Rattle.fare_outside.specs.Door.{with_more_at}
+use Rattle.fare_ports.specs.Door.{with_more_at}
 use Rattle.fare_outside.specs.Room.{Filled, fitting, is_refused, after_put}
 use Rattle.fare_outside.specs.ListedDoor.{empty_room, taken_into, room_at}
 

@@ -2,9 +2,9 @@
 use Rattle.std.specs.Prelude.{ℕ, ◌==◌, Bool, List, Option, Some, None, Result, Ok, Err, is_some, if◌then◌else◌}
 use Rattle.std.specs.List.{find}
 use Rattle.fare_outside.specs.declared.fail_at.FailAt.{FailAt}
-use Rattle.fare_outside.specs.declared.keeper.KeepFault.{KeepFault}
-use Rattle.fare_outside.specs.declared.keeper.KeepFault.TheVariants.{Failed}
-use Rattle.fare_outside.specs.Cause.{one_more}
+use Rattle.fare_ports.specs.declared.keeper.KeepFault.{KeepFault}
+use Rattle.fare_ports.specs.declared.keeper.KeepFault.TheVariants.{Failed}
+use Rattle.fare_ports.specs.Cause.{one_more}
 use Rattle.fare_outside.specs.Calls.{call_after}
 
 -- the calls that fail, and the number of the last call made

@@ -1,11 +1,5 @@
-pub mod Cause
-pub mod Source
-pub mod Sink
-pub mod Keeper
-pub mod Door
 pub mod Calls
 pub mod Failures
 pub mod Room
 pub mod Objects
 pub mod ListedDoor
-pub mod Memory

@@ -2,7 +2,7 @@
 use Rattle.std.specs.Prelude.{ℕ, ◌≡◌, Bool, List, [], ◌∷◌, ◌++◌, Option, Some, None, length, slice_get, slice_set}
 use Rattle.std.specs.Prelude.{map, if◌then◌else◌}
 use Rattle.std.specs.Option.{option_and_then, unwrap_or}
-use Rattle.fare_outside.specs.Cause.{one_more}
+use Rattle.fare_ports.specs.Cause.{one_more}
 use Rattle.fare_outside.specs.Calls.{CallList}
 use Rattle.fare_outside.specs.Room.{Filled}
 

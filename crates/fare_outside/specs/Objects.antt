@@ -2,7 +2,7 @@
 use Rattle.std.specs.Prelude.{ℕ, List, Option, MatchBool}
 use Rattle.fare_outside.specs.Calls.{CallList}
 use Rattle.fare_outside.specs.declared.fail_at.FailAt.{FailAt}
-use Rattle.fare_outside.specs.Keeper.{BodiesStay}
+use Rattle.fare_ports.specs.Keeper.{BodiesStay}
 use Rattle.fare_outside.specs.Failures.{FailureList, next_failure, after_next, counted}
 use Rattle.fare_outside.specs.Room.{Filled}
 

@@ -3,13 +3,12 @@ ghost use Rattle.std.specs.Prelude.{MatchOption};
 ghost use Rattle.std.specs.Io.{ReadsAtMost};
 ghost use Rattle.std.specs.Io.KnownBytes.{ReadConsumes};
 ghost use Rattle.fare_outside.specs.Room.{fitting, is_refused, after_put};
-ghost use Rattle.fare_outside.specs.Door.{with_more_at};
+ghost use Rattle.fare_ports.specs.Door.{with_more_at};
 ghost use Rattle.fare_outside.specs.ListedDoor.{empty_room, room_at, left_at, taken_into, at_place, with_at};
 
-use crate::room::Room;
-use crate::failed::Failed;
 use crate::plain_source::PlainSource;
-use crate::source::Source;
+use crate::room::Room;
+use fare_ports::{Failed, Source};
 
 /// Reads from the source at a place: nothing, where there is none.
 pub fn read_at(

@@ -5,24 +5,20 @@ ghost use Rattle.std.specs.Prelude.{IfOk, IsSome, OnErr, MatchBool, MatchResult,
 ghost use Rattle.std.specs.Bool.{OnTrue, OnFalse};
 ghost use Rattle.std.specs.Io.{ReadsAtMost, WritesAtMost};
 ghost use Rattle.std.specs.Io.KnownBytes.{ReadConsumes};
-ghost use Rattle.fare_outside.specs.Cause.{Rose};
+ghost use Rattle.fare_ports.specs.Cause.{Rose};
 ghost use Rattle.fare_outside.specs.Calls.{fails_next, after_call};
 ghost use Rattle.fare_outside.specs.Room.{fitting, is_refused, after_put};
-ghost use Rattle.fare_outside.specs.Door.{is_taken, TakesFirst, with_one_more, with_more_at, TakesHeld};
+ghost use Rattle.fare_ports.specs.Door.{is_taken, TakesFirst, with_one_more, with_more_at, TakesHeld};
 ghost use Rattle.fare_outside.specs.ListedDoor.{empty_room, left_at, current_left, current_room, taken_into};
 ghost use Rattle.fare_outside.specs.ListedDoor.{with_at, counted_if};
 ghost use Rattle.fare_outside.specs.ListedDoor.{FirstTaken, NoneTaken};
 
 use crate::at_place::{put_at, read_at};
 use crate::calls::Calls;
-use crate::count::raised;
-use crate::room::Room;
-use crate::bodies::Bodies;
-use crate::door::{Door, MOST_HELD};
-use crate::failed::Failed;
-use crate::no_memory::NoMemory;
 use crate::plain_source::PlainSource;
+use crate::room::Room;
 use arrayvec::ArrayVec;
+use fare_ports::{Bodies, Door, Failed, MOST_HELD, NoMemory, raised};
 use std::alloc::Global;
 use std::collections::VecDeque;
 use std::marker::Model;

@@ -2,17 +2,14 @@ ghost use Rattle.std.specs.Prelude.{◌≡◌, ◌≤◌, ◌↔◌, None, Some,
 ghost use Rattle.std.specs.Prelude.{IsErr, IsErrOf};
 ghost use Rattle.std.specs.Prelude.{IsSome, IsSomeAnd};
 ghost use Rattle.std.specs.Option.{ForSome};
-ghost use Rattle.fare_outside.specs.Cause.{Rose};
+ghost use Rattle.fare_ports.specs.Cause.{Rose};
 ghost use Rattle.fare_outside.specs.Failures.{next_failure, answer_or};
 ghost use Rattle.fare_outside.specs.Objects.{called, Kept};
-ghost use Rattle.fare_outside.specs.Keeper.{BodiesStay, BodyAppended, BodyReplaced, HasPlace, body_at, first_name};
+ghost use Rattle.fare_ports.specs.Keeper.{BodiesStay, BodyAppended, BodyReplaced, HasPlace, body_at, first_name};
 
-use crate::count::raised;
-use crate::failures::Failures;
-use crate::bodies::Bodies;
 use crate::fail_at::FailAt;
-use crate::first_name::FirstName;
-use crate::keeper::{KeepFault, Keeper};
+use crate::failures::Failures;
+use fare_ports::{Bodies, FirstName, KeepFault, Keeper, raised};
 use std::alloc::Global;
 use std::marker::Model;
 

@@ -1,14 +1,12 @@
 ghost use Rattle.std.specs.Prelude.{◌≡◌, ◌≤◌, Some, length, min, is_err, if◌then◌else◌, IfOk, OnErr};
 ghost use Rattle.std.specs.Io.{ReadsAtMost};
 ghost use Rattle.std.specs.Io.KnownBytes.{ReadConsumes};
-ghost use Rattle.fare_outside.specs.Cause.{Rose, one_more};
+ghost use Rattle.fare_ports.specs.Cause.{Rose, one_more};
 ghost use Rattle.fare_outside.specs.Calls.{fails_next, after_call};
 
 use crate::calls::Calls;
-use crate::count::raised;
-use crate::failed::Failed;
 use crate::plain_source::PlainSource;
-use crate::source::Source;
+use fare_ports::{Failed, Source, raised};
 use std::marker::Model;
 
 /// A source in memory whose listed reads fail.

@@ -1,7 +1,6 @@
 ghost use Rattle.std.specs.Prelude.{◌≡◌, [], Some, None, false};
 
-use crate::door::Door;
-use crate::failed::Failed;
+use fare_ports::{Door, Failed};
 
 /// A door to which no connection comes.
 #[derive(Drop)]

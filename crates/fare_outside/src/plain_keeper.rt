@@ -1,10 +1,8 @@
 ghost use Rattle.std.specs.Prelude.{◌≡◌, None, Ok, Some, length, is_some, IfErr, IsSome, OnOk};
-ghost use Rattle.fare_outside.specs.declared.keeper.KeepFault.TheVariants.{Memory};
-ghost use Rattle.fare_outside.specs.Keeper.{first_name};
+ghost use Rattle.fare_ports.specs.declared.keeper.KeepFault.TheVariants.{Memory};
+ghost use Rattle.fare_ports.specs.Keeper.{first_name};
 
-use crate::bodies::Bodies;
-use crate::first_name::FirstName;
-use crate::keeper::{KeepFault, Keeper};
+use fare_ports::{Bodies, FirstName, KeepFault, Keeper};
 use std::alloc::Global;
 use std::marker::Model;
 

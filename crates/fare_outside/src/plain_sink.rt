@@ -1,14 +1,11 @@
 ghost use Rattle.std.specs.Prelude.{◌≡◌, ◌<◌, ◌≤◌, [], Some, length, is_err, if◌then◌else◌, IfOk, OnErr};
 ghost use Rattle.std.specs.Io.{WritesAtMost};
 ghost use Rattle.std.specs.Io.KnownBytes.{WriteAppends};
-ghost use Rattle.fare_outside.specs.Cause.{Rose, one_more};
+ghost use Rattle.fare_ports.specs.Cause.{Rose, one_more};
 ghost use Rattle.fare_outside.specs.Room.{fitting, is_refused, after_put};
 
-use crate::count::raised;
 use crate::room::Room;
-use crate::failed::Failed;
-use crate::no_memory::NoMemory;
-use crate::sink::Sink;
+use fare_ports::{Failed, NoMemory, Sink, raised};
 use std::alloc::Global;
 use std::marker::Model;
 

@@ -1,10 +1,9 @@
 ghost use Rattle.std.specs.Prelude.{◌≡◌, ◌≤◌, Some, Ok, length, min, take, drop, OnErr};
 ghost use Rattle.std.specs.Io.{ReadsAtMost};
 ghost use Rattle.std.specs.Io.KnownBytes.{ReadConsumes};
-ghost use Rattle.fare_outside.specs.Cause.{Rose};
+ghost use Rattle.fare_ports.specs.Cause.{Rose};
 
-use crate::failed::Failed;
-use crate::source::Source;
+use fare_ports::{Failed, Source};
 use std::marker::Model;
 
 /// A source in memory that never fails. It is seen as the bytes that it still holds.

@@ -1,6 +1,6 @@
 ghost use Rattle.std.specs.Prelude.{◌≡◌, [], false, IfOk, MatchOption, IsTrue};
 
-use crate::no_memory::NoMemory;
+use fare_ports::NoMemory;
 use std::alloc::Global;
 use std::marker::Model;
 

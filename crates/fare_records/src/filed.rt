@@ -13,7 +13,7 @@ use crate::fare_record::FareRec;
 use crate::guesses::Guesses;
 use crate::record::Record;
 use fare_index::{FEWEST_APART, Index, Key};
-use fare_outside::NoMemory;
+use fare_ports::NoMemory;
 use rayon::prelude::*;
 use std::alloc::{AllocError, Global};
 use std::marker::{Model, Sync};

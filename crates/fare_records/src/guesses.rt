@@ -6,7 +6,7 @@ ghost use Rattle.fare_records.specs.Spelling.{spelled_rule};
 
 use fare_codes::{City, RuleId};
 use fare_index::Key;
-use fare_outside::NoMemory;
+use fare_ports::NoMemory;
 use std::alloc::Global;
 use std::hash::{Hash, Hasher};
 

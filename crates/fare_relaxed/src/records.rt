@@ -5,7 +5,7 @@ ghost use Rattle.fare_relaxed.specs.Relax.{relaxed_record, relaxed_records};
 
 use crate::rules::relaxed_rule;
 use crate::term::Term;
-use fare_outside::NoMemory;
+use fare_ports::NoMemory;
 use fare_tariff::{FiledRule, Record};
 use std::alloc::Global;
 

@@ -5,7 +5,7 @@ ghost use Rattle.fare_relaxed.specs.Relax.{relax};
 
 use crate::records::relaxed_records;
 use crate::term::Term;
-use fare_outside::NoMemory;
+use fare_ports::NoMemory;
 use fare_tariff::{CheckFault, Edition};
 use std::alloc::Global;
 use std::thread::Threads;

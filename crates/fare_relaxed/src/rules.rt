@@ -5,7 +5,7 @@ ghost use Rattle.fare_relaxed.specs.Relax.{relaxed_rule};
 
 use crate::term::Term;
 use fare_codes::RuleId;
-use fare_outside::NoMemory;
+use fare_ports::NoMemory;
 use fare_tariff::{MOST_DAYS, MOST_STOPS, MOST_TRANSFERS, Names, RuleList, RuleRec};
 use std::alloc::Global;
 

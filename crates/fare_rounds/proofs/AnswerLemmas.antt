@@ -4,8 +4,8 @@ use Rattle.std.specs.Prelude.{option_map}
 use Rattle.std.proofs.Math.Seq.{drop-cons}
 use Rattle.std.proofs.lemmas.List.{drop-set-lt, length-map, map-append, take_more, take_more_set}
 use Rattle.std.proofs.lemmas.List.Elements.{All-append, All-cons, All-nil}
-use Rattle.fare_outside.specs.Cause.{Rose}
-use Rattle.fare_outside.specs.Door.{TakesHeld, with_more_at}
+use Rattle.fare_ports.specs.Cause.{Rose}
+use Rattle.fare_ports.specs.Door.{TakesHeld, with_more_at}
 use Rattle.fare_http.specs.declared.reply.Reply.{Reply}
 use Rattle.fare_http.specs.declared.sending.Exchange.{Exchange}
 use Rattle.fare_http.specs.declared.sending.Exchange.TheVariants.{Served, Cut}

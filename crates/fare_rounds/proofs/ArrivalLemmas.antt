@@ -1,6 +1,6 @@
 -- What was read from a connection, as an arrival.
 use Rattle.std.proofs.Common.{◌≡◌, ◌⊎◌, ◌≤◌, inl, inr, ℕ, List, Option, None, Some, refl, subst, arith}
-use Rattle.fare_outside.specs.Cause.{Rose}
+use Rattle.fare_ports.specs.Cause.{Rose}
 use Rattle.fare_http.specs.declared.taken.Taken.{Taken}
 use Rattle.fare_http.specs.declared.taken.Taken.TheVariants.{Whole, Fixed, NoMemory, Cut}
 use Rattle.fare_http.specs.Heads.{Takes}

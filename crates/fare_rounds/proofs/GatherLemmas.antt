@@ -3,7 +3,7 @@ use Rattle.std.proofs.Common.{◌≡◌, ◌⊎◌, inl, inr, ℕ, ◌+◌, ◌<
 use Rattle.std.specs.Prelude.{IfSome, option_to_list, is_some}
 use Rattle.std.proofs.lemmas.List.{map-append, length-map}
 use Rattle.std.proofs.lemmas.List.Elements.{All-append, All-cons, All-nil}
-use Rattle.fare_outside.specs.Door.{NoneWaits, TakesFirst, with_one_more}
+use Rattle.fare_ports.specs.Door.{NoneWaits, TakesFirst, with_one_more}
 use Rattle.fare_rounds.specs.Entries.{connection_count}
 use Rattle.fare_rounds.specs.Taking.{Arrival, cut_off, held, connection_of, entries_of, cut_among, failed_reads, places_from, held_places}
 use Rattle.fare_rounds.specs.Taking.{IsRead, RoseBy, TakesEach, with_lists, Gathering, Gathers, TakesOne, none_taken}

@@ -5,7 +5,7 @@ use Rattle.fare_http.specs.declared.reply.Reply.{Reply}
 use Rattle.fare_http.specs.declared.sending.Exchange.{Exchange}
 use Rattle.fare_http.specs.declared.sending.Exchange.TheVariants.{Served, Cut}
 use Rattle.fare_http.specs.Serving.{Exchanges, IsServed, whole, fixed, wanting, ended, unread, unsent}
-use Rattle.fare_outside.specs.Cause.{Rose}
+use Rattle.fare_ports.specs.Cause.{Rose}
 use Rattle.fare_rounds.specs.Entries.{is_publication}
 use Rattle.fare_rounds.specs.Rounds.{Exchanged, IsRound, RoundStep, failures_of}
 use Rattle.fare_rounds.specs.Taking.{RoseBy}

@@ -4,7 +4,7 @@ use Rattle.std.specs.Prelude.{All, IfSome, MatchBool, option_map}
 use Rattle.std.specs.List.{AllZip}
 use Rattle.std.proofs.lemmas.List.{length-map}
 use Rattle.std.proofs.lemmas.List.Elements.{All-head, All-tail, length_all_zip}
-use Rattle.fare_outside.specs.Door.{with_more_at}
+use Rattle.fare_ports.specs.Door.{with_more_at}
 use Rattle.fare_http.specs.declared.reply.Reply.{Reply}
 use Rattle.fare_http.specs.declared.request.Request.{Request}
 use Rattle.fare_http.specs.declared.sending.Exchange.{Exchange}

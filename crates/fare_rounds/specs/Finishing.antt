@@ -6,7 +6,7 @@ use Rattle.fare_http.specs.declared.sending.Exchange.{Exchange}
 use Rattle.fare_http.specs.declared.sending.Exchange.TheVariants.{Served, Cut}
 use Rattle.fare_http.specs.Answers.{answer_bytes}
 use Rattle.fare_http.specs.Serving.{IsFrontOf}
-use Rattle.fare_outside.specs.Door.{with_more_at}
+use Rattle.fare_ports.specs.Door.{with_more_at}
 use Rattle.fare_rounds.specs.declared.entry.Entry.{Entry}
 use Rattle.fare_rounds.specs.Entries.{is_publication}
 use Rattle.fare_rounds.specs.Taking.{RoseBy}

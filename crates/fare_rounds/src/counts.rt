@@ -2,7 +2,7 @@ ghost use Rattle.std.specs.Prelude.{◌≡◌, ◌<◌, ◌+◌, [], ◌∷◌};
 ghost use Rattle.fare_rounds.specs.Finishing.{cut_count, served_count};
 
 use fare_http::Exchange;
-use fare_outside::MOST_HELD;
+use fare_ports::MOST_HELD;
 
 /// How many exchanges of a round ended in which way.
 #[derive(Clone, Copy, Debug, PartialEq, Eq)]

@@ -2,7 +2,7 @@
 //! use.
 
 ghost use Rattle.std.specs.Prelude.{◌∷◌, [], ℕ};
-ghost use Rattle.fare_outside.specs.Cause.{Rose};
+ghost use Rattle.fare_ports.specs.Cause.{Rose};
 ghost use Rattle.fare_http.specs.Serving.{Exchanges};
 ghost use Rattle.fare_rounds.specs.Rounds.{Exchanged, IsRound, failures_of};
 ghost use Rattle.fare_rounds.specs.Taking.{RoseBy};

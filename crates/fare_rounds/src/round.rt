@@ -2,7 +2,7 @@ ghost use Rattle.std.specs.Prelude.{◌≡◌, []};
 
 use crate::Entry;
 use arrayvec::ArrayVec;
-use fare_outside::MOST_HELD;
+use fare_ports::MOST_HELD;
 use std::marker::Model;
 
 /// The connections of a round that the door holds, with what each one brought, and the number of those that were cut
@@ -15,7 +15,7 @@ pub struct Round {
 
 impl Model for Round {
     ghost use Rattle.std.specs.Prelude.{◌+◌, ◌≤◌, length};
-    ghost use Rattle.fare_outside.specs.declared.door.TheConstants.{MOST_HELD};
+    ghost use Rattle.fare_ports.specs.declared.door.TheConstants.{MOST_HELD};
     ghost use Rattle.fare_rounds.specs.Entries.{Row};
 
     ghost Value = { Row };

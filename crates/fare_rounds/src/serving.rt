@@ -1,13 +1,13 @@
 ghost use Rattle.std.specs.Prelude.{◌≡◌, ◌≢◌, ◌≤◌, ◌+◌, [], List, None, IfSome, length, map, min};
-ghost use Rattle.fare_outside.specs.Cause.{Rose};
-ghost use Rattle.fare_outside.specs.Door.{NoneWaits};
+ghost use Rattle.fare_ports.specs.Cause.{Rose};
+ghost use Rattle.fare_ports.specs.Door.{NoneWaits};
 ghost use Rattle.fare_rounds.specs.Finishing.{cut_count, served_count};
 ghost use Rattle.fare_rounds.specs.Rounds.{Exchanged, IsRound, failures_of};
 ghost use Rattle.fare_rounds.specs.Taking.{RoseBy, TakesEach, with_lists};
 
 use crate::{Counts, DoorEnd, Round, take_round};
 use fare_http::Handler;
-use fare_outside::{Door, MOST_HELD};
+use fare_ports::{Door, MOST_HELD};
 use std::alloc::Global;
 use std::thread::Threads;
 

@@ -1,13 +1,13 @@
 ghost use Rattle.std.specs.Prelude.{◌≡◌, ◌≢◌, ◌<◌, ◌≤◌, [], ◌∷◌, List, None, Ok, Err, length, min, false};
 ghost use Rattle.std.specs.Prelude.{IfErr, IfSome, IsSome, OnErr, OnOk};
-ghost use Rattle.fare_outside.specs.Cause.{Rose};
-ghost use Rattle.fare_outside.specs.Door.{NoneWaits};
+ghost use Rattle.fare_ports.specs.Cause.{Rose};
+ghost use Rattle.fare_ports.specs.Door.{NoneWaits};
 ghost use Rattle.fare_rounds.specs.Entries.{connection_count};
 ghost use Rattle.fare_rounds.specs.Taking.{Arrival, Gathers, TakesNone, TakesOne, gathering, none_taken};
 
 use crate::{DoorEnd, Entry, Round};
 use fare_http::read_request;
-use fare_outside::{Door, Failed, MOST_HELD};
+use fare_ports::{Door, Failed, MOST_HELD};
 use std::alloc::Global;
 
 /// Takes the connections of a round, at most `most` of them: the first one, and each further one that is known to wait.

@@ -4,7 +4,7 @@ use Rattle.std.proofs.Common.{suc, arith}
 use Rattle.std.specs.Prelude.{IfSome}
 use Rattle.fare_words.specs.declared.command.Command.{Command}
 use Rattle.fare_words.specs.declared.command.Command.TheVariants as command
-use Rattle.fare_outside.specs.Sink.{AppendsPrefix}
+use Rattle.fare_ports.specs.Sink.{AppendsPrefix}
 use Rattle.fare_commands.specs.declared.exit.Exit.{Exit}
 use Rattle.fare_commands.specs.declared.exit.Exit.TheVariants as ended
 use Rattle.fare_commands.specs.Answer.{ExitAndText}

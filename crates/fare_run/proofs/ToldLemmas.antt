@@ -4,7 +4,7 @@ use Rattle.std.proofs.Common.{◌≡◌, ◌≢◌, inl, inr, ◌∙◌, sym, ap
 use Rattle.std.proofs.Common.{List, [], ℕ, Ok, Err, IfOk, IfErr, IfSome, IsErrOf, OnOk}
 use Rattle.fare_words.specs.declared.command.Command.{Command}
 use Rattle.fare_words.specs.declared.command.Command.TheVariants as command
-use Rattle.fare_outside.specs.Keeper.{BodiesStay, WhereTold}
+use Rattle.fare_ports.specs.Keeper.{BodiesStay, WhereTold}
 use Rattle.fare_book.specs.declared.damage.Damage.{Damage}
 use Rattle.fare_serve.specs.Desk.{World}
 use Rattle.fare_sentences.specs.declared.fault.Fault.{Fault}

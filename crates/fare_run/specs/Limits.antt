@@ -2,7 +2,7 @@
 use Rattle.std.specs.Prelude.{ℕ, Option, Some}
 use Rattle.fare_words.specs.declared.command.Command.{Command}
 use Rattle.fare_words.specs.declared.command.Command.TheVariants as command
-use Rattle.fare_outside.specs.declared.limits.TheConstants.{MOST_TEXT}
+use Rattle.fare_ports.specs.declared.limits.TheConstants.{MOST_TEXT}
 use Rattle.fare_commands.specs.declared.limits.TheConstants.{MOST_ITINERARY, MOST_PRICED}
 
 -- the most bytes that the source of a command may hold; one that doesn't read the source asks for none of it

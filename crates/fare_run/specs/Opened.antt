@@ -2,7 +2,7 @@
 use Rattle.std.specs.Prelude.{◌≡◌, ◌⊎◌, ℕ, Bool, true, List, Option, Some, None, IfSome}
 use Rattle.fare_words.specs.declared.command.Command.{Command}
 use Rattle.fare_words.specs.declared.command.Command.TheVariants as command
-use Rattle.fare_outside.specs.Keeper.{first_name}
+use Rattle.fare_ports.specs.Keeper.{first_name}
 use Rattle.fare_commands.specs.declared.exit.Exit.{Exit}
 use Rattle.fare_commands.specs.declared.exit.Exit.TheVariants as ended
 use Rattle.fare_commands.specs.Opened.{IsNamed}

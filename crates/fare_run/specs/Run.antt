@@ -1,14 +1,14 @@
 -- How a run ends, whatever happens to its reads, its writes and the calls of its store.
 use Rattle.std.specs.Prelude.{◌≡◌, ◌≢◌, ◌⊎◌, ℕ, List, Option, Some, None, ⊤}
 use Rattle.std.specs.Io.KnownBytes.{Appends}
-use Rattle.fare_outside.specs.Keeper.{BodiesStay}
-use Rattle.fare_outside.specs.Sink.{AppendsPrefix}
+use Rattle.fare_ports.specs.Keeper.{BodiesStay}
+use Rattle.fare_ports.specs.Sink.{AppendsPrefix}
 use Rattle.fare_words.specs.declared.command.Command.{Command}
 use Rattle.fare_words.specs.declared.command.Command.TheVariants as command
 use Rattle.fare_commands.specs.declared.exit.Exit.{Exit}
 use Rattle.fare_commands.specs.declared.exit.Exit.TheVariants as ended
 use Rattle.fare_commands.specs.Answer.{Answer, ExitAndText}
-use Rattle.fare_outside.specs.declared.limits.TheConstants.{MOST_TEXT}
+use Rattle.fare_ports.specs.declared.limits.TheConstants.{MOST_TEXT}
 use Rattle.fare_commands.specs.declared.limits.TheConstants.{MOST_ITINERARY}
 use Rattle.fare_commands.specs.Publication.{MayPublish, PublishesNothing}
 use Rattle.fare_commands.specs.Readable.{HoldsBatch, HoldsItinerary, HoldsTariff}

@@ -3,8 +3,8 @@ use Rattle.std.specs.Prelude.{◌≡◌, ℕ, List, Option, Some, Ok, Err, true,
 use Rattle.std.specs.Io.KnownBytes.{Appends}
 use Rattle.fare_words.specs.declared.command.Command.{Command}
 use Rattle.fare_words.specs.declared.command.Command.TheVariants as command
-use Rattle.fare_outside.specs.Keeper.{BodiesStay, WhereTold}
-use Rattle.fare_outside.specs.Sink.{AppendsPrefix}
+use Rattle.fare_ports.specs.Keeper.{BodiesStay, WhereTold}
+use Rattle.fare_ports.specs.Sink.{AppendsPrefix}
 use Rattle.fare_book.specs.Book.{BookState}
 use Rattle.fare_serve.specs.Desk.{CounterServesAll, CounterServesSome, World, world_of}
 use Rattle.fare_commands.specs.declared.exit.Exit.{Exit}

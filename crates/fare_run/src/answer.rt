@@ -2,8 +2,8 @@
 
 ghost use Rattle.std.specs.Prelude.{◌≡◌, ◌≤◌, [], IfErr, IfOk, IfSome, IsErrOf, OnOk};
 ghost use Rattle.fare_codes.specs.declared.limits.TheConstants.{MOST_WORKERS};
-ghost use Rattle.fare_outside.specs.Cause.{Rose};
-ghost use Rattle.fare_outside.specs.Keeper.{BodiesStay, WhereTold};
+ghost use Rattle.fare_ports.specs.Cause.{Rose};
+ghost use Rattle.fare_ports.specs.Keeper.{BodiesStay, WhereTold};
 ghost use Rattle.fare_serve.specs.Desk.{world_of};
 ghost use Rattle.fare_serve.specs.Service.{door_state};
 ghost use Rattle.fare_commands.specs.Opened.{Names};
@@ -23,7 +23,7 @@ use fare_commands::{
     Comparison, Context, Exit, Outcome, Question, check, compare, diff, drill, export, list,
     migrate, price, publish, stored_quote,
 };
-use fare_outside::{Door, Keeper, Source};
+use fare_ports::{Door, Keeper, Source};
 use fare_serve::Service;
 use fare_split::{SplitQuoter, Turnstile};
 use fare_words::Command;

@@ -8,7 +8,7 @@ ghost use Rattle.fare_run.specs.Refusal.{IsRefused, wants_json};
 use crate::limits::limit_of;
 use fare_commands::{Exit, Outcome};
 use fare_json::fault_json;
-use fare_outside::NoMemory;
+use fare_ports::NoMemory;
 use fare_sentences::Fault;
 use fare_words::Command;
 use std::alloc::Global;

@@ -4,7 +4,7 @@ ghost use Rattle.std.specs.Prelude.{◌≡◌};
 ghost use Rattle.fare_run.specs.Limits.{limit_of};
 
 use fare_commands::{MOST_ITINERARY, MOST_PRICED};
-use fare_outside::MOST_TEXT;
+use fare_ports::MOST_TEXT;
 use fare_words::Command;
 
 /// The most bytes that the source of a command may hold; one that doesn't read the source asks for none of it.

@@ -1,7 +1,7 @@
 //! The command `serve`.
 
 ghost use Rattle.std.specs.Prelude.{◌≡◌, ◌≤◌, [], IfErr, IsErrOf};
-ghost use Rattle.fare_outside.specs.Cause.{Rose};
+ghost use Rattle.fare_ports.specs.Cause.{Rose};
 ghost use Rattle.fare_serve.specs.Desk.{world_of};
 ghost use Rattle.fare_serve.specs.Service.{door_state};
 ghost use Rattle.fare_commands.specs.Answer.{IsDoneOr};
@@ -13,7 +13,7 @@ ghost use Rattle.fare_run.specs.Serve.{ServesStore};
 
 use fare_codes::MOST_WORKERS;
 use fare_commands::{Context, Exit, Outcome, book_of};
-use fare_outside::{Door, Keeper, MOST_HELD};
+use fare_ports::{Door, Keeper, MOST_HELD};
 use fare_serve::{ServeFault, Service, serve as serve_book};
 use std::thread::Threads;
 

@@ -1,9 +1,9 @@
 //! What a command comes to: its answer, or its refusal with the text that tells it.
 
 ghost use Rattle.std.specs.Prelude.{◌≡◌, ◌≤◌, ◌+◌, [], IfSome};
-ghost use Rattle.fare_outside.specs.Cause.{Rose};
-ghost use Rattle.fare_outside.specs.Keeper.{BodiesStay, WhereTold};
-ghost use Rattle.fare_outside.specs.Source.{TakesJust, TakesUpTo};
+ghost use Rattle.fare_ports.specs.Cause.{Rose};
+ghost use Rattle.fare_ports.specs.Keeper.{BodiesStay, WhereTold};
+ghost use Rattle.fare_ports.specs.Source.{TakesJust, TakesUpTo};
 ghost use Rattle.fare_serve.specs.Desk.{world_of};
 ghost use Rattle.fare_serve.specs.Service.{door_state};
 ghost use Rattle.fare_commands.specs.Opened.{IsNamed};
@@ -20,7 +20,7 @@ use crate::answer::answer;
 use crate::json_fault::refused;
 use fare_changes::Watch;
 use fare_commands::{Context, Exit, Outcome};
-use fare_outside::{Door, Keeper, Source};
+use fare_ports::{Door, Keeper, Source};
 use fare_words::Command;
 use std::alloc::Global;
 use std::thread::Threads;

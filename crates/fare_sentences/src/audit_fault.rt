@@ -5,7 +5,7 @@ ghost use Rattle.fare_sentences.specs.AuditFault.{audit_fault, audited_trip_faul
 
 use crate::fault::Fault;
 use fare_audit::AuditFault;
-use fare_outside::NoMemory;
+use fare_ports::NoMemory;
 use fare_trip::{Member, TripFault, read_json};
 use std::alloc::Global;
 

@@ -5,7 +5,7 @@ ghost use Rattle.fare_sentences.specs.BrokenWords.{broken_words, rule_words};
 ghost use Rattle.fare_sentences.specs.Sentence.{around};
 
 use crate::sentence::push_around;
-use fare_outside::NoMemory;
+use fare_ports::NoMemory;
 use fare_rules::Rule;
 
 /// Appends the sentence of the rule of a number that is broken at a place: the number of a part or of a unit, as the

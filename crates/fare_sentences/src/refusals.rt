@@ -10,7 +10,7 @@ use crate::sentence::push_around;
 use crate::trip_words::push_trip_words;
 use fare_book::Damage;
 use fare_codes::{City, Day};
-use fare_outside::NoMemory;
+use fare_ports::NoMemory;
 use fare_text::{push_code, push_labelled};
 use std::alloc::Global;
 

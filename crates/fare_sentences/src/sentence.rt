@@ -3,7 +3,7 @@
 ghost use Rattle.std.specs.Prelude.{◌≡◌, ◌++◌, OnOk};
 ghost use Rattle.fare_sentences.specs.Sentence.{around};
 
-use fare_outside::NoMemory;
+use fare_ports::NoMemory;
 use fare_text::push_number;
 
 /// Appends a number with what stands before and behind it.

@@ -5,7 +5,7 @@ ghost use Rattle.fare_trip.specs.FaultText.{member_name};
 ghost use Rattle.fare_sentences.specs.TripWords.{bad_member_words, bad_words, form_words, trip_words, whole_words};
 
 use crate::sentence::push_around;
-use fare_outside::NoMemory;
+use fare_ports::NoMemory;
 use fare_text::push_labelled;
 use fare_trip::{Member, TripFault};
 

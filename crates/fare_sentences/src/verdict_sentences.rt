@@ -7,7 +7,7 @@ ghost use Rattle.fare_sentences.specs.VerdictWords.{verdict_words};
 use crate::broken_words::push_broken;
 use crate::sentence::push_around;
 use fare_audit::Verdict;
-use fare_outside::NoMemory;
+use fare_ports::NoMemory;
 use fare_text::push_decimal;
 use std::alloc::Global;
 

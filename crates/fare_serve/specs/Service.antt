@@ -2,9 +2,9 @@
 use Rattle.std.specs.Prelude.{◌≡◌, ◌⊎◌, ◌≤◌, ◌+◌, ◌-◌, ℕ, List, [], ◌∷◌, ◌++◌, Option, Some, IfSome, length, map, min}
 use Rattle.std.specs.Prelude.{Result, Vec, Ok, Err, codes, decimal}
 use Rattle.fare_http.specs.declared.reply.Reply.{Reply}
-use Rattle.fare_outside.specs.declared.failed.Failed.{Failed}
-use Rattle.fare_outside.specs.Cause.{Rose}
-use Rattle.fare_outside.specs.Door.{NoneWaits}
+use Rattle.fare_ports.specs.declared.failed.Failed.{Failed}
+use Rattle.fare_ports.specs.Cause.{Rose}
+use Rattle.fare_ports.specs.Door.{NoneWaits}
 use Rattle.fare_rounds.specs.Finishing.{cut_count, served_count}
 use Rattle.fare_rounds.specs.Rounds.{Exchanged, IsRound, failures_of}
 use Rattle.fare_rounds.specs.Taking.{RoseBy, TakesEach, with_lists}

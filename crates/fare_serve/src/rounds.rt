@@ -1,13 +1,13 @@
 //! Rounds of connections, one after the other.
 
 ghost use Rattle.std.specs.Prelude.{◌≡◌, ◌<◌, ◌≤◌, ◌+◌, [], List};
-ghost use Rattle.fare_outside.specs.Cause.{Rose};
-ghost use Rattle.fare_outside.specs.Door.{NoneWaits};
+ghost use Rattle.fare_ports.specs.Cause.{Rose};
+ghost use Rattle.fare_ports.specs.Door.{NoneWaits};
 ghost use Rattle.fare_rounds.specs.Rounds.{Exchanged};
 ghost use Rattle.fare_serve.specs.Service.{AreRounds, IsNextRound, door_state, standing};
 
 use crate::Service;
-use fare_outside::{Door, MOST_HELD};
+use fare_ports::{Door, MOST_HELD};
 use fare_rounds::{Counts, DoorEnd, RoundHandler, serve_round};
 use std::alloc::Global;
 use std::cmp::min;

@@ -1,4 +1,4 @@
-use fare_outside::NoMemory;
+use fare_ports::NoMemory;
 
 /// Why connections aren't served to the end.
 #[derive(Clone, Copy, Debug, PartialEq, Eq)]

@@ -7,7 +7,7 @@ use fare_book::Book;
 use fare_counter::{Counter, CounterRoutes};
 use fare_desk::{Desk, Routes};
 use fare_http::{Handler, Reply};
-use fare_outside::{Keeper, NoMemory};
+use fare_ports::{Keeper, NoMemory};
 use fare_rounds::{Round, RoundHandler};
 use fare_split::{SplitQuoter, Turnstile};
 use http::Method;

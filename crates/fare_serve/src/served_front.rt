@@ -10,7 +10,7 @@ use fare_counter::CounterFront;
 use fare_desk::{Batcher, Clerk, Route, SideBySide, batch_reply, form_of, is_method};
 use fare_http::{Form, Front, Reply};
 use fare_json::OneMethod;
-use fare_outside::NoMemory;
+use fare_ports::NoMemory;
 use fare_split::{SplitQuoter, Turnstile};
 use http::Method;
 use serde_json::Value;

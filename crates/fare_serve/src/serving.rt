@@ -1,7 +1,7 @@
 //! Connections are served over the book of a store.
 
 ghost use Rattle.std.specs.Prelude.{◌≡◌, ◌≤◌, [], Err, vec_capacity, IsTrue, OnErr};
-ghost use Rattle.fare_outside.specs.Cause.{Rose};
+ghost use Rattle.fare_ports.specs.Cause.{Rose};
 ghost use Rattle.fare_serve.specs.Desk.{ServesBook, world_of};
 ghost use Rattle.fare_serve.specs.Service.{ServesPort, door_state, summary};
 
@@ -11,7 +11,7 @@ use fare_book::Book;
 use fare_codes::{MOST_WORKERS, number_text};
 use fare_counter::CounterRoutes;
 use fare_desk::Routes;
-use fare_outside::{Door, Failed, Keeper, MOST_HELD};
+use fare_ports::{Door, Failed, Keeper, MOST_HELD};
 use fare_rounds::{Counts, DoorEnd, RoundHandler};
 use fare_split::SplitQuoter;
 use std::alloc::Global;

@@ -6,7 +6,7 @@ ghost use Rattle.fare_split.specs.PriceWord.{first_view, floor_of};
 use crate::word::{Seat, Word};
 use fare_branch::NO_PRICE;
 use fare_component::Table;
-use fare_outside::NoMemory;
+use fare_ports::NoMemory;
 use std::alloc::Global;
 
 /// A word that holds no price, and its first seat, which knows none.

@@ -7,7 +7,7 @@ use crate::shares::{choices_within, whole_work};
 use fare_branch::{Piece, choices};
 use fare_codes::MOST_WORKERS;
 use fare_component::Table;
-use fare_outside::NoMemory;
+use fare_ports::NoMemory;
 use std::alloc::Global;
 
 /// As many pieces as workers, which share out the first-part choices of a table: each lies in exactly one.

@@ -13,7 +13,7 @@ use fare_bounds::Rest;
 use fare_branch::Piece;
 use fare_codes::MOST_WORKERS;
 use fare_component::Table;
-use fare_outside::{Gate, NoMemory};
+use fare_ports::{Gate, NoMemory};
 use fare_rules::edition_is_valid;
 use fare_tariff::Edition;
 use fare_trip::Trip;

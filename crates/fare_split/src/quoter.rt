@@ -11,7 +11,7 @@ use crate::turnstile::Turnstile;
 use fare_branch::BranchQuoter;
 use fare_codes::MOST_WORKERS;
 use fare_component::Table;
-use fare_outside::{Gate, NoMemory, OpenGate};
+use fare_ports::{Gate, NoMemory, OpenGate};
 use fare_tariff::Edition;
 use fare_trip::Trip;
 use fare_units::{Construction, Quoter};

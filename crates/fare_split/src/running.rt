@@ -9,7 +9,7 @@ use crate::word::Word;
 use crate::worker::{Worker, search_at};
 use fare_bounds::Rest;
 use fare_component::Table;
-use fare_outside::Gate;
+use fare_ports::Gate;
 use std::marker::Brand;
 
 /// Lets a worker of a number search its piece, once the gate has let it through.

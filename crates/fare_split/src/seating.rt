@@ -8,7 +8,7 @@ ghost use Rattle.fare_split.specs.Workers.{AreMade};
 use crate::word::{Copies, Seat, Word};
 use crate::worker::Worker;
 use fare_branch::Piece;
-use fare_outside::NoMemory;
+use fare_ports::NoMemory;
 use std::alloc::Global;
 
 /// A worker for each piece. None has begun.

@@ -12,7 +12,7 @@ use crate::{Prepared, SplitQuoter};
 use fare_branch::{Bound, NO_PRICE};
 use fare_component::Table;
 use fare_drill::drill_input;
-use fare_outside::{Gate, OpenGate};
+use fare_ports::{Gate, OpenGate};
 use fare_rules::edition_is_valid;
 use fare_tariff::Edition;
 use fare_trip::Trip;

@@ -11,7 +11,7 @@ use crate::worker::Worker;
 use fare_bounds::Rest;
 use fare_codes::MOST_WORKERS;
 use fare_component::Table;
-use fare_outside::Gate;
+use fare_ports::Gate;
 use std::thread;
 use std::thread::Threads;
 

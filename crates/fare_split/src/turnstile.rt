@@ -1,6 +1,6 @@
 //! A gate that counts.
 
-use fare_outside::Gate;
+use fare_ports::Gate;
 use std::sync::atomic::{AtomicU64, Ordering};
 
 /// A gate that lets every worker through at once, and counts how many have begun. No answer depends on the count.

@@ -11,7 +11,7 @@ use Rattle.sqlite_sql.specs.Aggregate.{count}
 use Rattle.sqlite.specs.Effect.{Database}
 use Rattle.sqlite.specs.State.{HasCleanDisk, QueriesRow, State}
 use Rattle.fare_sqlite.specs.Bodies.{blob_of, has_no_body, placed_body, rows_at}
-use Rattle.fare_outside.specs.Keeper.{HasPlace, body_at}
+use Rattle.fare_ports.specs.Keeper.{HasPlace, body_at}
 use Rattle.fare_sqlite.specs.Kept.{HasTable, Speaks, Stays, kept, rows_of}
 use Rattle.fare_sqlite.proofs.Places.{stand_for}
 use Rattle.fare_sqlite.proofs.States.{Told, open_is_clean, still_table, tells, tells_bodies, told, told_stays_back}

@@ -13,7 +13,7 @@ use Rattle.sqlite.specs.State.{CommitsBy, Executes, HasCleanDisk, MayCommit, May
 use Rattle.sqlite.proofs.Callers.{statement_of}
 use Rattle.fare_sqlite.specs.Bodies.{bodies_in}
 use Rattle.fare_sqlite.specs.EditionTable.{edition_schema}
-use Rattle.fare_outside.specs.Keeper.{HasPlace}
+use Rattle.fare_ports.specs.Keeper.{HasPlace}
 use Rattle.fare_sqlite.specs.Kept.{LeavesAsBefore, LeavesJust, LeavesOr, Speaks, Stays, kept, rows_of}
 use Rattle.fare_sqlite.proofs.Changes.{given}
 use Rattle.fare_sqlite.proofs.Queries.{at_place, row_query}

@@ -13,7 +13,7 @@ use Rattle.sqlite_wal.specs.Recovery.{Image}
 use Rattle.sqlite.specs.Effect.{Database, IsDatabase}
 use Rattle.sqlite.specs.Start.{FindsIn}
 use Rattle.sqlite.specs.State.{HasCleanDisk, IsLive, Opens, State}
-use Rattle.fare_outside.specs.Keeper.{BodiesStay, WhereTold}
+use Rattle.fare_ports.specs.Keeper.{BodiesStay, WhereTold}
 use Rattle.fare_sqlite.specs.EditionTable.{edition_table}
 use Rattle.fare_sqlite.specs.Found.{HoldsBodies}
 use Rattle.fare_sqlite.specs.Kept.{bodies_of, kept}

@@ -12,7 +12,7 @@ use Rattle.sqlite.specs.Listing.{understood}
 use Rattle.sqlite.specs.State.{Executes, ExecutesIn, FailsToQuery, FailsToShow, HasCleanDisk, IsNotRun, IsRolledBack, IsUnchanged, QueriesRow, RunsCommand, Shown, ShowsRows, State, Survives, CommitsShowing, shows_rows}
 use Rattle.sqlite.proofs.Callers.{IsPlain, never_commits}
 use Rattle.fare_sqlite.specs.Bodies.{bodies_in}
-use Rattle.fare_outside.specs.Keeper.{BodiesStay, MayAppend, ToldAfter, WhereTold}
+use Rattle.fare_ports.specs.Keeper.{BodiesStay, MayAppend, ToldAfter, WhereTold}
 use Rattle.fare_sqlite.specs.Kept.{HasBodies, HasTable, IsSettled, LeavesAsBefore, Speaks, Stays, bodies_of, kept}
 use Rattle.fare_sqlite.specs.Ours.{is_blank, is_ours}
 use Rattle.fare_sqlite.proofs.Schemas.{edition_is_ours, ours_is}

@@ -25,7 +25,7 @@ use Rattle.sqlite.specs.State.{CommitsBy, Executes, MayCommit, QueriesRow, State
 use Rattle.sqlite.proofs.Callers.{IsPlain, command_of, first_as, runs_as, statement_of}
 use Rattle.fare_sqlite.specs.Bodies.{blob_of, bodies_in, body_of, has_no_body, placed_body, rows_at}
 use Rattle.fare_sqlite.specs.EditionTable.{blank_schema, edition_schema}
-use Rattle.fare_outside.specs.Keeper.{BodiesStay, HasPlace, ToldAfter}
+use Rattle.fare_ports.specs.Keeper.{BodiesStay, HasPlace, ToldAfter}
 use Rattle.fare_sqlite.specs.Kept.{HasBodies, HasTable, IsSettled, Speaks, bodies_of, kept, rows_of}
 use Rattle.fare_sqlite.specs.Ours.{is_blank, is_ours}
 use Rattle.fare_sqlite.proofs.Changes.{Puts, create_does, given, insert_does, stored, update_does}

@@ -1,7 +1,7 @@
 ghost use Rattle.std.specs.Prelude.{◌≡◌, ◌↔◌, ◌≤◌, OnOk, IsErrOf};
-ghost use Rattle.fare_outside.specs.Cause.{Rose};
+ghost use Rattle.fare_ports.specs.Cause.{Rose};
 
-use fare_outside::KeepFault;
+use fare_ports::KeepFault;
 use sqlite::{Error, ErrorCode};
 
 /// What a refused statement means to a keeper: `Memory` where memory was wanting, and else `Failed`.

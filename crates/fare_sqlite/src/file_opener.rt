@@ -1,13 +1,13 @@
 ghost use Rattle.std.specs.Prelude.{◌≡◌, [], false, true, None, IfOk};
 ghost use Rattle.sqlite.specs.Files.{file_state};
-ghost use Rattle.fare_outside.specs.Keeper.{BodiesStay, WhereTold};
+ghost use Rattle.fare_ports.specs.Keeper.{BodiesStay, WhereTold};
 ghost use Rattle.fare_sqlite.specs.Kept.{kept};
 
 use crate::count::fault_of;
 use crate::found::FoundFile;
 use crate::named_keeper::NamedKeeper;
 use crate::opener::Opener;
-use fare_outside::KeepFault;
+use fare_ports::KeepFault;
 use sqlite::{Connection, FileFrom, FileStore};
 use std::marker::PhantomData;
 

@@ -2,7 +2,7 @@
 
 ghost use Rattle.std.specs.Prelude.{◌≡◌, IsTrue};
 
-use fare_outside::{KeepFault, Keeper};
+use fare_ports::{KeepFault, Keeper};
 use std::alloc::Global;
 
 /// The body at a place, which fails where there is none.

@@ -1,9 +1,9 @@
 ghost use Rattle.std.specs.Prelude.{ℕ, List, Option, IfOk};
 ghost use Rattle.sqlite.specs.Held.{state};
-ghost use Rattle.fare_outside.specs.Keeper.{BodiesStay, WhereTold};
+ghost use Rattle.fare_ports.specs.Keeper.{BodiesStay, WhereTold};
 ghost use Rattle.fare_sqlite.specs.Kept.{kept};
 
-use fare_outside::KeepFault;
+use fare_ports::KeepFault;
 use sqlite::{Alter, Connection};
 
 /// What opens the database of a name, and opens it once more where a connection was shut.

@@ -3,14 +3,14 @@ ghost use Rattle.std.specs.Prelude.{IsSome, IsTrue, None};
 ghost use Rattle.std.specs.Option.{ForSome};
 ghost use Rattle.sqlite.specs.Held.{state};
 ghost use Rattle.sqlite.specs.State.{HasCleanDisk};
-ghost use Rattle.fare_outside.specs.Cause.{Rose};
-ghost use Rattle.fare_outside.specs.Keeper.{BodiesStay, BodyAppended, BodyReplaced, HasPlace, MayAppend, MayReplace};
-ghost use Rattle.fare_outside.specs.Keeper.{ToldAfter, WhereTold, first_name};
+ghost use Rattle.fare_ports.specs.Cause.{Rose};
+ghost use Rattle.fare_ports.specs.Keeper.{BodiesStay, BodyAppended, BodyReplaced, HasPlace, MayAppend, MayReplace};
+ghost use Rattle.fare_ports.specs.Keeper.{ToldAfter, WhereTold, first_name};
 ghost use Rattle.fare_sqlite.specs.Kept.{LeavesJust, LeavesOr, kept};
 
 use crate::count::counted;
 use crate::{statements, table};
-use fare_outside::{FirstName, KeepFault, Keeper};
+use fare_ports::{FirstName, KeepFault, Keeper};
 use sqlite::{Alter, Connection};
 use std::alloc::Global;
 use std::marker::Model;

@@ -10,14 +10,14 @@ ghost use Rattle.sqlite.specs.State.{HasCleanDisk};
 ghost use Rattle.sqlite_value.specs.declared.value.Value.TheVariants.{Int, Blob};
 ghost use Rattle.sqlite_value.specs.Order.{column};
 ghost use Rattle.fare_sqlite.specs.Bodies.{has_no_body, rows_at};
-ghost use Rattle.fare_outside.specs.Keeper.{BodiesStay, BodyAppended, BodyReplaced, HasPlace, ToldAfter};
-ghost use Rattle.fare_outside.specs.Keeper.{body_at};
+ghost use Rattle.fare_ports.specs.Keeper.{BodiesStay, BodyAppended, BodyReplaced, HasPlace, ToldAfter};
+ghost use Rattle.fare_ports.specs.Keeper.{body_at};
 ghost use Rattle.fare_sqlite.specs.Kept.{HasTable, IsSettled, LeavesAsBefore, LeavesJust, LeavesOr, Speaks, Stays};
 ghost use Rattle.fare_sqlite.specs.Kept.{kept, rows_of};
 ghost use Rattle.fare_sqlite.specs.Ours.{is_blank};
 
 use crate::count::fault_of;
-use fare_outside::KeepFault;
+use fare_ports::KeepFault;
 use sqlite::{Alter, Connection, Error, ErrorCode, Row, params};
 
 const CREATE: &str =

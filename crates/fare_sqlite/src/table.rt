@@ -6,13 +6,13 @@ ghost use Rattle.std.specs.Option.{ForSome};
 ghost use Rattle.sqlite.specs.Held.{state};
 ghost use Rattle.sqlite.specs.State.{HasCleanDisk};
 ghost use Rattle.fare_sqlite.specs.Bodies.{rows_at};
-ghost use Rattle.fare_outside.specs.Keeper.{BodiesStay, BodyAppended, BodyReplaced, HasPlace, MayAppend, MayReplace};
-ghost use Rattle.fare_outside.specs.Keeper.{ToldAfter, body_at};
+ghost use Rattle.fare_ports.specs.Keeper.{BodiesStay, BodyAppended, BodyReplaced, HasPlace, MayAppend, MayReplace};
+ghost use Rattle.fare_ports.specs.Keeper.{ToldAfter, body_at};
 ghost use Rattle.fare_sqlite.specs.Kept.{HasTable, IsSettled, LeavesJust, LeavesOr, Speaks, Stays, kept, rows_of};
 
 use crate::form::{holds_editions_alone, is_blank};
 use crate::statements;
-use fare_outside::KeepFault;
+use fare_ports::KeepFault;
 use sqlite::{Alter, Connection};
 
 /// Makes the table where the database is blank, and else asks that it is there, with just one row, and in

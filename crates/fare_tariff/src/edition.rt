@@ -1,5 +1,5 @@
 ghost use Rattle.std.specs.Prelude.{◌≡◌, ◌<◌, ◌≤◌, ℕ, Some, length};
-ghost use Rattle.fare_outside.specs.Memory.{Gives};
+ghost use Rattle.fare_ports.specs.Memory.{Gives};
 ghost use Rattle.fare_tariff.specs.Check.{IsEdition, check_edition};
 ghost use Rattle.fare_tariff.specs.Filed.{IsFiledFare};
 ghost use Rattle.fare_tariff.specs.Lookup.{fare_at};

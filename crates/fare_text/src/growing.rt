@@ -5,7 +5,7 @@ ghost use Rattle.fare_codes.specs.Numbers.{decimal_text, last_digits, nuc_text};
 
 use arrayvec::ArrayString;
 use fare_codes::{Nuc, number_text};
-use fare_outside::NoMemory;
+use fare_ports::NoMemory;
 use itoa::Buffer;
 
 /// Appends the text of a code or a number.

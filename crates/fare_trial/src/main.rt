@@ -7,7 +7,7 @@ use fare_answers::{QuoteFault, quote_text};
 use fare_book::Book;
 use fare_branch::BranchQuoter;
 use fare_csv::{TextFault, read_edition};
-use fare_outside::NoMemory;
+use fare_ports::NoMemory;
 use fare_trip::{Trip, TripFault, read_short, read_trip};
 use std::alloc::Global;
 use std::io::{Read, Write};

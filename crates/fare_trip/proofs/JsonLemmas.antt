@@ -12,7 +12,7 @@ use Rattle.fare_trip.specs.declared.fault.TripFault.{TripFault}
 use Rattle.fare_trip.specs.declared.fault.TripFault.TheVariants as fault
 use Rattle.fare_trip.specs.ItineraryText.{json_of, trip_of, trip_of_json, read_trip}
 use Rattle.fare_trip.specs.Itinerary.{Itinerary}
-use Rattle.fare_outside.specs.Memory.{Gives}
+use Rattle.fare_ports.specs.Memory.{Gives}
 
 -- the items of an array are as many as its values
 pub counted : (values : List Value) → items_len (items_view values) ≡ length values

@@ -23,7 +23,7 @@ use Rattle.fare_trip.specs.declared.fault.Member.TheVariants as member
 use Rattle.fare_trip.specs.declared.fault.TripFault.{TripFault}
 use Rattle.fare_trip.specs.declared.fault.TripFault.TheVariants as fault
 use Rattle.fare_trip.specs.Itinerary.{Itinerary}
-use Rattle.fare_outside.specs.Memory.{◌>>=◌}
+use Rattle.fare_ports.specs.Memory.{◌>>=◌}
 use Rattle.fare_trip.specs.Steps.{required, optional}
 use Rattle.fare_trip.specs.Trip.{make_trip, sector_fault, carried}
 

@@ -4,7 +4,7 @@ ghost use Rattle.std.specs.Prelude.{◌≡◌, ◌≤◌, IfOk, false, length, o
 ghost use Rattle.serde_json.specs.View.{view, items_view};
 ghost use Rattle.fare_trip.specs.ItineraryText.{sector_members, sector_of, placed_sector, sectors_of, counted_trip};
 ghost use Rattle.fare_trip.specs.ItineraryText.{placed_trip, trip_members, trip_of, read_trip, json_of};
-ghost use Rattle.fare_outside.specs.Memory.{Gives};
+ghost use Rattle.fare_ports.specs.Memory.{Gives};
 ghost use Rattle.fare_trip.specs.Steps.{seen};
 
 use crate::fault::{Member, TripFault};
@@ -14,7 +14,7 @@ use crate::sector::Sector;
 use crate::trip::{Trip, carried};
 use arrayvec::ArrayVec;
 use fare_codes::{City, Day, MOST_SECTORS};
-use fare_outside::NoMemory;
+use fare_ports::NoMemory;
 use serde_json::Value;
 use std::alloc::Global;
 

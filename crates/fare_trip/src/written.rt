@@ -7,7 +7,7 @@ ghost use Rattle.fare_trip.specs.Written.{ReadsBack, sector_data, trip_data, tri
 
 use crate::sector::Sector;
 use crate::trip::Trip;
-use fare_outside::NoMemory;
+use fare_ports::NoMemory;
 use serde_json::{Value, json};
 use std::alloc::{AllocError, Global};
 

@@ -16,7 +16,7 @@ use fare_branch::{best_of, best_under};
 use fare_calc::{Priced, Sheets, line_by};
 use fare_component::Table;
 use fare_line::print_line;
-use fare_outside::NoMemory;
+use fare_ports::NoMemory;
 use fare_relaxed::{
     Term, asks, lawful_stays_lawful, price_stays_the_same, relaxed, rules_are_in_range,
     unasked_stays_the_same,

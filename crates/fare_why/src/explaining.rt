@@ -12,7 +12,7 @@ use crate::explanation::Why;
 use crate::gathering::gathered;
 use crate::reason::Reason;
 use crate::searching::{Searches, searched};
-use fare_outside::NoMemory;
+use fare_ports::NoMemory;
 use fare_relaxed::all_terms;
 use fare_tariff::Edition;
 use fare_trip::Trip;

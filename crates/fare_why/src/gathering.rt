@@ -4,7 +4,7 @@ ghost use Rattle.std.specs.Prelude.{◌≡◌, IfOk, OnOk, All, IsSome};
 ghost use Rattle.fare_why.specs.Asked.{shown_at};
 
 use crate::reason::Reason;
-use fare_outside::NoMemory;
+use fare_ports::NoMemory;
 use std::alloc::Global;
 
 /// What is shown at some places, in their order. Where one of them isn't there, memory was wanting.

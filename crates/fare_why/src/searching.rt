@@ -8,7 +8,7 @@ ghost use Rattle.fare_why.specs.Asked.{AreSearched, Slot};
 use crate::alternative::shown_for;
 use crate::asked::Asked;
 use crate::reason::Reason;
-use fare_outside::NoMemory;
+use fare_ports::NoMemory;
 use fare_relaxed::Term;
 use std::alloc::Global;
 use std::thread;

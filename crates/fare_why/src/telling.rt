@@ -13,7 +13,7 @@ use crate::searching::Searches;
 use fare_answers::{QuoteFault, edition_for};
 use fare_book::Book;
 use fare_calc::{push_edition, push_no_fare};
-use fare_outside::NoMemory;
+use fare_ports::NoMemory;
 use fare_rules::Broken;
 use fare_tariff::Edition;
 use fare_text::{push_hundredths, push_labelled};

@@ -8,7 +8,7 @@ ghost use Rattle.fare_why_json.specs.WhyData.{WhyJsonOver, WhyJsonPlaced, why_da
 use crate::telling::spelled_why;
 use fare_answers::{QuoteFault, edition_for};
 use fare_book::Book;
-use fare_outside::NoMemory;
+use fare_ports::NoMemory;
 use fare_tariff::Edition;
 use fare_trip::Trip;
 use fare_units::Quoter;

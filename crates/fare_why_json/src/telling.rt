@@ -6,7 +6,7 @@ ghost use Rattle.fare_json.specs.Spelled.{after_comma, listed_json};
 ghost use Rattle.fare_why_json.specs.Spelled.{broken_json, money_if_json, reason_json, why_json};
 
 use fare_json::{push_broken, push_edition, push_money, push_string};
-use fare_outside::NoMemory;
+use fare_ports::NoMemory;
 use fare_rules::Broken;
 use fare_tariff::Edition;
 use fare_text::push_labelled;

@@ -7,7 +7,7 @@ use Rattle.clap.specs.Words.{App, Kinds, Row, Text, HasMatchesOf, IsAmong, fault
 use Rattle.clap.specs.Words.{is_simple, is_simple_and_free, matches_of, rows_of}
 use Rattle.clap.specs.declared.error.kind.ErrorKind.{ErrorKind}
 use Rattle.clap.specs.declared.error.kind.ErrorKind.TheVariants.{OutOfMemory}
-use Rattle.fare_outside.specs.declared.no_memory.NoMemory.{NoMemory}
+use Rattle.fare_ports.specs.declared.no_memory.NoMemory.{NoMemory}
 use Rattle.clap.specs.declared.parser.matches.ArgMatches.{ArgMatches}
 use Rattle.clap.proofs.WalkLemmas.{first_value-rows}
 use Rattle.fare_words.specs.Options.{options_of}

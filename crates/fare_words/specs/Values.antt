@@ -6,7 +6,7 @@ use Rattle.clap.specs.Words.{Row, Text, first_of}
 use Rattle.clap.specs.Walk.{is_empty}
 use Rattle.fare_codes.specs.declared.limits.TheConstants.{LAST_EDITION, LAST_SEED, MOST_BEST, MOST_EXTRA, MOST_SECTORS}
 use Rattle.fare_codes.specs.declared.limits.TheConstants.{MOST_WORKERS}
-use Rattle.fare_outside.specs.declared.door.TheConstants.{MOST_HELD}
+use Rattle.fare_ports.specs.declared.door.TheConstants.{MOST_HELD}
 use Rattle.fare_words.specs.declared.limits.TheConstants.{DEFAULT_EXTRA, DEFAULT_ROUND, DEFAULT_WORKERS, MOST_COUNT}
 use Rattle.fare_words.specs.declared.limits.TheConstants.{MOST_PORT}
 use Rattle.fare_words.specs.Options.{has_flag, number_between, number_in, number_or}

@@ -2,7 +2,7 @@
 use Rattle.std.specs.Prelude.{⊤}
 use Rattle.fare_codes.specs.declared.limits.TheConstants.{LAST_EDITION, LAST_SEED, MOST_BEST, MOST_EXTRA, MOST_SECTORS}
 use Rattle.fare_codes.specs.declared.limits.TheConstants.{MOST_WORKERS}
-use Rattle.fare_outside.specs.declared.door.TheConstants.{MOST_HELD}
+use Rattle.fare_ports.specs.declared.door.TheConstants.{MOST_HELD}
 use Rattle.fare_words.specs.Limits.{IsBetween}
 use Rattle.fare_words.specs.declared.limits.TheConstants.{MOST_COUNT, MOST_PORT}
 use Rattle.fare_words.specs.declared.asked.Asked.{Asked}

@@ -3,7 +3,7 @@
 //! - `command`: the eleven commands, with what their options hold; `store_name`: the name of a store; `asked`: what is
 //!   asked of a trip;
 //! - `limits`: how great a port and a count may be, and what stands for an option that is left out; the limits that
-//!   others share stand in `fare_codes` and `fare_outside`;
+//!   others share stand in `fare_codes` and `fare_ports`;
 //! - `name`: the command that the first word names;
 //! - `definitions`: each command's definition in `clap`;
 //! - `parsing`: what a definition finds in words; `options`: the options and flags in them, with the texts of their

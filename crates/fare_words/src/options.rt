@@ -1,7 +1,7 @@
 use crate::numbers::number_between;
 use crate::parsing::parsed;
 use clap::{ArgMatches, Command as Definition};
-use fare_outside::NoMemory;
+use fare_ports::NoMemory;
 use std::marker::Model;
 
 /// The options that a definition finds in words that it takes, with the texts of their values.

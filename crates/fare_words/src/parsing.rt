@@ -7,7 +7,7 @@ ghost use Rattle.fare_words.specs.Options.{options_of};
 
 use clap::error::ErrorKind;
 use clap::{ArgMatches, Command as Definition};
-use fare_outside::NoMemory;
+use fare_ports::NoMemory;
 
 /// What the definition finds in the words after the first; nothing where it doesn't take them.
 pub(crate) fn parsed<'a>(

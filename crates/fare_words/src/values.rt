@@ -13,7 +13,7 @@ use crate::numbers::number_between;
 use crate::options::Options;
 use crate::store_name::StoreName;
 use fare_codes::{LAST_EDITION, LAST_SEED, MOST_BEST, MOST_EXTRA, MOST_SECTORS, MOST_WORKERS};
-use fare_outside::MOST_HELD;
+use fare_ports::MOST_HELD;
 
 /// The store.
 #[tactic(auto, unfolding(crate::specs::Values::store_in))]

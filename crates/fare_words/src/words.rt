@@ -9,7 +9,7 @@ use crate::commands::command_in;
 use crate::definitions::definition_of;
 use crate::name::CommandName;
 use crate::options::Options;
-use fare_outside::NoMemory;
+use fare_ports::NoMemory;
 use std::alloc::Global;
 
 /// The options that the definition of a command finds in the words after the first.

@@ -6,7 +6,7 @@
 mod progress;
 
 use fare_devices::{StdSink, StdSource, TcpDoor};
-use fare_outside::NoMemory;
+use fare_ports::NoMemory;
 use fare_run::{Exit, fault_text, run};
 use fare_split::Turnstile;
 use fare_sqlite::{FileKeeper, FoundFile, Wary};

@@ -17,10 +17,8 @@ use cases::refusals::REFUSALS;
 use cases::units::UNITS;
 use cases::{Quotation, Refusal};
 use fare_changes::Unwatched;
-use fare_outside::{
-    Bodies, Door, Keeper, MemSink, MemSource, PlainDoor, PlainKeeper, PlainSink, PlainSource, Sink,
-    Source,
-};
+use fare_outside::{MemSink, MemSource, PlainDoor, PlainKeeper, PlainSink, PlainSource};
+use fare_ports::{Bodies, Door, Keeper, Sink, Source};
 use fare_run::{Exit, fault_text, run};
 use fare_split::Turnstile;
 use std::alloc::Global;

@@ -5,7 +5,7 @@ ghost use Rattle.std.specs.Prelude.{IsTrue, None};
 
 use crate::tests::{Database, MOST_CALLS};
 use fare_book::{Book, PublishFault, Published};
-use fare_outside::{KeepFault, Keeper};
+use fare_ports::{KeepFault, Keeper};
 use fare_sqlite::{NamedKeeper, Opener, SqliteKeeper};
 use sqlite::{Connection, FileStore, Files, Options};
 use sqlite_disk::{Disk, Fuse, Memory};

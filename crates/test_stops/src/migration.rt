@@ -3,7 +3,7 @@
 
 use crate::tests::{Database, Left, MOST_CALLS, Stopping, crashed};
 use fare_book::{Book, RestoreFault};
-use fare_outside::Keeper;
+use fare_ports::Keeper;
 use fare_sqlite::SqliteKeeper;
 use sqlite::{Connection, FileStore, Files, Options};
 use sqlite_disk::{Disk, Fuse, Memory};

@@ -3,7 +3,7 @@
 ghost use Rattle.std.specs.Prelude.{IsTrue};
 
 use fare_book::{Book, Published};
-use fare_outside::Keeper;
+use fare_ports::Keeper;
 use fare_sqlite::SqliteKeeper;
 use sqlite::{Connection, Error, FileStore, Files, Options};
 use sqlite_disk::{Crash, Disk, Fuse, Memory};

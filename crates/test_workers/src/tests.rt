@@ -10,7 +10,7 @@ use fare_branch::BranchQuoter;
 use fare_codes::{LAST_SEED, MOST_WORKERS};
 use fare_csv::read_edition;
 use fare_drill::drill_input;
-use fare_outside::OpenGate;
+use fare_ports::OpenGate;
 use fare_rules::Part;
 use fare_split::SplitQuoter;
 use fare_tariff::Edition;

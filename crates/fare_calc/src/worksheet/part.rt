@@ -10,7 +10,7 @@ use crate::part_sheet::PartSheet;
 use fare_codes::{City, Nuc};
 use fare_line::{Letter, push_letter, push_tag};
 use fare_mileage::{Mileage, Miles};
-use fare_outside::NoMemory;
+use fare_ports::NoMemory;
 use fare_tariff::FareRec;
 use fare_text::{push_code, push_labelled};
 

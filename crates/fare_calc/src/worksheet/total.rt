@@ -10,7 +10,7 @@ ghost use Rattle.fare_calc.specs.Worksheet.{currency_lines, local_text, total_li
 use crate::home::local_amount;
 use crate::sheets::Sheets;
 use fare_codes::{MOST_DECIMALS, rate_text};
-use fare_outside::NoMemory;
+use fare_ports::NoMemory;
 use fare_rules::PRICE_LIMIT;
 use fare_tariff::CurRec;
 use fare_text::{push_code, push_decimal, push_hundredths, push_whole};

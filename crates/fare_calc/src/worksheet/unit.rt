@@ -5,7 +5,7 @@ ghost use Rattle.fare_calc.specs.UnitSheets.{FitsUnit};
 ghost use Rattle.fare_calc.specs.Worksheet.{check_text, unit_kind_text, unit_line};
 
 use crate::numbered_unit::NumberedUnit;
-use fare_outside::NoMemory;
+use fare_ports::NoMemory;
 use fare_text::{push_hundredths, push_labelled};
 use fare_units::UnitKind;
 

@@ -12,7 +12,7 @@ use crate::table::cursor::Market;
 use crate::table::entry::{Entry, entry_of};
 use crate::table::forms::Forms;
 use fare_conditions::{Priced, Span, is_plain, span_of, surcharge_by};
-use fare_outside::NoMemory;
+use fare_ports::NoMemory;
 use std::alloc::Global;
 use std::marker::Model;
 

@@ -8,7 +8,7 @@ ghost use Rattle.fare_component.specs.References.{AreForms, IsOfForm};
 
 use crate::table::references::{References, is_of_form};
 use fare_conditions::Priced;
-use fare_outside::NoMemory;
+use fare_ports::NoMemory;
 use fare_tariff::FareRec;
 use fare_trip::Trip;
 use std::alloc::Global;

@@ -6,7 +6,7 @@ use crate::table::entries::{Entries, MOST_ENTRIES, entries_of};
 use crate::table::entry::Entry;
 use crate::table::forms::Forms;
 use fare_conditions::Priced;
-use fare_outside::NoMemory;
+use fare_ports::NoMemory;
 use std::alloc::Global;
 use std::marker::Model;
 

@@ -3,7 +3,7 @@ ghost use Rattle.std.specs.Prelude.{⊤};
 use super::tests::{dialed, listening, taken};
 use super::*;
 use fare_http::{Allow, Exchange, Form, Handler, Reply, Status, exchange, send};
-use fare_outside::{Bytes, NoMemory};
+use fare_ports::{Bytes, NoMemory};
 use http::Method;
 use std::alloc::Global;
 use std::io::{Read, Write};

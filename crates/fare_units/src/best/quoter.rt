@@ -4,7 +4,7 @@ ghost use Rattle.fare_rules.specs.Best.{IsBestAnswer};
 
 use crate::best::plain::plain_best;
 use crate::construction::Construction;
-use fare_outside::NoMemory;
+use fare_ports::NoMemory;
 use fare_tariff::Edition;
 use fare_trip::Trip;
 use std::alloc::Global;

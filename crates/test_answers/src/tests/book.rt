@@ -6,7 +6,8 @@ use fare_book::{
 };
 use fare_codes::Day;
 use fare_csv::{TextFault, edition_text, read_edition};
-use fare_outside::{Bodies, FailAt, Keeper, MemKeeper, PlainKeeper};
+use fare_outside::{FailAt, MemKeeper, PlainKeeper};
+use fare_ports::{Bodies, Keeper};
 use std::alloc::Global;
 use std::test::Fail;
 

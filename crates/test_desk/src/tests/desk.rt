@@ -3,7 +3,8 @@
 use fare_book::Book;
 use fare_desk::Desk;
 use fare_http::{Allow, Form, Front, Handler};
-use fare_outside::{Bodies, FailAt, Keeper, MemKeeper};
+use fare_outside::{FailAt, MemKeeper};
+use fare_ports::{Bodies, Keeper};
 use fare_units::PlainQuoter;
 use http::Method;
 use std::alloc::Global;

@@ -9,7 +9,8 @@ mod worked;
 
 use computed::COMPUTED;
 use fare_book::Book;
-use fare_outside::{Bodies, Keeper, MemDoor, MemKeeper};
+use fare_outside::{MemDoor, MemKeeper};
+use fare_ports::{Bodies, Keeper};
 use fare_serve::{Service, serve};
 use fare_split::Turnstile;
 use further::{FURTHER, IN_JSON};

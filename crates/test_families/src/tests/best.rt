@@ -5,7 +5,7 @@ ghost use Rattle.std.specs.Prelude.{◌≤◌};
 use super::sources::{LongSource, Source, input_of};
 use super::{few, long};
 use fare_codes::MOST_WORKERS;
-use fare_outside::OpenGate;
+use fare_ports::OpenGate;
 use fare_rules::Part;
 use fare_split::SplitQuoter;
 use fare_tariff::Edition;

@@ -1,8 +1,8 @@
 ghost use Rattle.std.specs.Prelude.{◌≡◌, ◌≢◌, ◌<◌, length, IfSome, OnOk, IsErrOf};
 ghost use Rattle.std.specs.Io.KnownBytes.{Appends, Keeps};
-ghost use Rattle.fare_outside.specs.Cause.{Rose};
-ghost use Rattle.fare_outside.specs.Sink.{AppendsPrefix};
-ghost use Rattle.fare_outside.specs.Keeper.{WhereTold, BodyAppended};
+ghost use Rattle.fare_ports.specs.Cause.{Rose};
+ghost use Rattle.fare_ports.specs.Sink.{AppendsPrefix};
+ghost use Rattle.fare_ports.specs.Keeper.{WhereTold, BodyAppended};
 
 use fare_outside::*;
 use std::alloc::Global;

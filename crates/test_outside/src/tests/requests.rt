@@ -1,7 +1,7 @@
 ghost use Rattle.std.specs.Prelude.{◌≡◌, ◌≤◌, None, [], false, vec_len, ⊤};
 
 use fare_http::*;
-use fare_outside::{Bytes, Door, Failed, NoMemory};
+use fare_ports::{Bytes, Door, Failed, NoMemory};
 use http::Method;
 use std::alloc::Global;
 use std::test::Fail;

@@ -7,7 +7,8 @@ mod seen;
 mod side_by_side;
 
 use fare_http::{Allow, Form, Front, Handler, Reply, Status};
-use fare_outside::{Bodies, Bytes, MemDoor, NoMemory};
+use fare_outside::MemDoor;
+use fare_ports::{Bodies, Bytes, NoMemory};
 use fare_rounds::*;
 use http::Method;
 use std::alloc::Global;

@@ -1,6 +1,6 @@
 ghost use Rattle.std.specs.Prelude.{IsTrue};
 
-use fare_outside::{KeepFault, Keeper};
+use fare_ports::{KeepFault, Keeper};
 use fare_sqlite::*;
 use sqlite::{Connection, Error, MemStore};
 use sqlite_disk::Wary;

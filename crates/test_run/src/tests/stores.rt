@@ -7,9 +7,8 @@ use super::cases::steps::{FAILURES, ONE_EDITION, REFUSED_SOURCES, THREE_EDITIONS
 use super::cases::{Failure, Kept, Step};
 use super::tariffs::{END, HEAD_1, MILES, PLACES, THROUGH, TWO_PLACES};
 use super::{Outside, ended, ended_over, joined};
-use fare_outside::{
-    Bodies, FailAt, Keeper, MemKeeper, MemSink, MemSource, PlainKeeper, PlainSink, PlainSource,
-};
+use fare_outside::{FailAt, MemKeeper, MemSink, MemSource, PlainKeeper, PlainSink, PlainSource};
+use fare_ports::{Bodies, Keeper};
 use fare_run::fault_text;
 use fare_split::Turnstile;
 use std::alloc::Global;

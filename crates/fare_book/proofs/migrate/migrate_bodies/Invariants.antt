@@ -1,5 +1,5 @@
 use Rattle.std.proofs.Common.{◌≡◌, ◌≤◌, IsTrue}
-use Rattle.fare_outside.specs.Keeper.{ToldAfter}
+use Rattle.fare_ports.specs.Keeper.{ToldAfter}
 use Rattle.fare_book.proofs.Migrations.{HasCome}
 use Rattle.fare_book.proofs.migrate.migrate_bodies.Given as goal
 

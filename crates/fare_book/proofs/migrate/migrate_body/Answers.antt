@@ -1,6 +1,6 @@
 use Rattle.std.proofs.Common.{◌≡◌, ◌∙◌, Err, true, false, rules, sym}
 use Rattle.std.specs.Prelude.{bytes_eq}
-use Rattle.fare_outside.specs.Keeper.{ToldAfter, BodyReplaced}
+use Rattle.fare_ports.specs.Keeper.{ToldAfter, BodyReplaced}
 use Rattle.fare_book.specs.Restored.{kept_fault}
 use Rattle.fare_book.proofs.Respellings.{refused, replaced, still_there, unchanged}
 use Rattle.fare_book.proofs.migrate.migrate_body.Goals as goal

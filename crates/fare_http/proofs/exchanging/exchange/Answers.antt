@@ -1,6 +1,6 @@
 use Rattle.std.proofs.Common.{◌⊎◌, inl, inr, ◌∙◌, refl}
 use Rattle.std.specs.Result.{result_ok}
-use Rattle.fare_outside.specs.Cause.{Rose}
+use Rattle.fare_ports.specs.Cause.{Rose}
 use Rattle.fare_http.specs.Answers.{answer_bytes, reply_bytes, no_memory_bytes}
 use Rattle.fare_http.specs.Serving.{BringsTooLittle, whole, fixed, wanting}
 use Rattle.fare_http.proofs.ServingLemmas.{answer-sent, nothing-sent}

@@ -1,5 +1,5 @@
 use Rattle.std.proofs.Common.{arith, take-add, length-drop, ◌∙◌}
-use Rattle.fare_outside.proofs.Pieces.{slice-end}
+use Rattle.fare_ports.proofs.Pieces.{slice-end}
 use Rattle.fare_http.proofs.SendingLemmas.{sends-both}
 use Rattle.fare_http.proofs.send_all.send_all.Goals as goal
 

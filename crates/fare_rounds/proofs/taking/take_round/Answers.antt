@@ -1,5 +1,5 @@
 use Rattle.std.proofs.Common.{◌≡◌, ◌≤◌, [], inl, inr, refl, ap, ◌∙◌, subst, arith, ◌+◌}
-use Rattle.fare_outside.specs.Door.{NoneWaits}
+use Rattle.fare_ports.specs.Door.{NoneWaits}
 use Rattle.fare_rounds.specs.Entries.{connection_count}
 use Rattle.fare_rounds.specs.Taking.{Gathering, TakesNone, gathering}
 use Rattle.fare_rounds.proofs.GatherLemmas.{all-taken, counts-next, gathers-next, gathers-none, none-waited}

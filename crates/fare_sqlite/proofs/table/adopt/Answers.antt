@@ -1,5 +1,5 @@
 use Rattle.sqlite.specs.Held.{state}
-use Rattle.fare_outside.specs.Keeper.{BodiesStay}
+use Rattle.fare_ports.specs.Keeper.{BodiesStay}
 use Rattle.fare_sqlite.specs.Kept.{kept}
 use Rattle.fare_sqlite.proofs.States.{kept_stays, still_speaks, told_then}
 use Rattle.fare_sqlite.proofs.table.adopt.Goals as goal

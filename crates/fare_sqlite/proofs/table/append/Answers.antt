@@ -1,6 +1,6 @@
 use Rattle.std.proofs.Common.{◌++◌, ◌∷◌, []}
 use Rattle.sqlite.specs.Held.{state}
-use Rattle.fare_outside.specs.Keeper.{BodiesStay, BodyAppended}
+use Rattle.fare_ports.specs.Keeper.{BodiesStay, BodyAppended}
 use Rattle.fare_sqlite.specs.Kept.{kept}
 use Rattle.fare_sqlite.proofs.States.{err_may_append, err_then_told, kept_stays, may_append, ok_then_told, on_err}
 use Rattle.fare_sqlite.proofs.Crashes.{just_then, leaves_still, leaves_then}

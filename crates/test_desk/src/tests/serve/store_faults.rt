@@ -4,7 +4,8 @@ ghost use Rattle.std.specs.Prelude.{Some, [], is_some};
 
 use super::door_of;
 use fare_book::Book;
-use fare_outside::{Bodies, FailAt, FirstName, KeepFault, Keeper, MemKeeper, PlainKeeper};
+use fare_outside::{FailAt, MemKeeper, PlainKeeper};
+use fare_ports::{Bodies, FirstName, KeepFault, Keeper};
 use fare_serve::{Service, serve};
 use fare_split::Turnstile;
 use std::alloc::Global;

@@ -4,7 +4,7 @@ ghost use Rattle.std.specs.Prelude.{⊤};
 
 use super::{NO_TEXT, door_of, reply, serve, was_sent};
 use fare_http::{Allow, Front, Handler, Reply, Status};
-use fare_outside::NoMemory;
+use fare_ports::NoMemory;
 use fare_rounds::*;
 use http::Method;
 use std::alloc::Global;

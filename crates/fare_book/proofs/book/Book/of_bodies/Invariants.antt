@@ -1,5 +1,5 @@
 use Rattle.std.proofs.Common.{◌≡◌, ◌≤◌, [], drop, length, IfSome, IsTrue, true}
-use Rattle.fare_outside.specs.Keeper.{ToldAfter, BodiesStay}
+use Rattle.fare_ports.specs.Keeper.{ToldAfter, BodiesStay}
 use Rattle.fare_book.specs.Editions.{with_bodies}
 use Rattle.fare_book.proofs.book.Book.of_bodies.Given as goal
 

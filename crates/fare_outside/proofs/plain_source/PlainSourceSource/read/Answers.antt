@@ -1,6 +1,6 @@
 use Rattle.std.proofs.Common.{◌+◌, arith, sym, ◌∙◌, length-drop}
 use Rattle.std.proofs.lemmas.List.{drop_all}
-use Rattle.fare_outside.proofs.Pieces.{slice-end, drop-piece}
+use Rattle.fare_ports.proofs.Pieces.{slice-end, drop-piece}
 use Rattle.fare_outside.proofs.plain_source.PlainSourceSource.read.Goals as goal
 
 pub returns-clause-bytes : goal.returns-clause-bytes

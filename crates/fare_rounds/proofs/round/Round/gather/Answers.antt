@@ -1,6 +1,6 @@
 use Rattle.std.proofs.Common.{◌≡◌, ◌<◌, ◌+◌, Bool, true, false, length, List, ℕ, refl, sym, ◌∙◌, arith, append-nil, add-zero}
 use Rattle.std.specs.Bool.{OnFalse}
-use Rattle.fare_outside.specs.declared.door.TheConstants.{MOST_HELD}
+use Rattle.fare_ports.specs.declared.door.TheConstants.{MOST_HELD}
 use Rattle.fare_rounds.specs.Taking.{RoseBy, cut_off, held}
 use Rattle.fare_rounds.proofs.ArrivalLemmas.{entry-brought, no-entry}
 use Rattle.fare_rounds.proofs.round.Round.gather.Goals as goal

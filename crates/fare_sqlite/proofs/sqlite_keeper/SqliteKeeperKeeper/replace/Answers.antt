@@ -1,7 +1,7 @@
 use Rattle.std.proofs.Common.{sym, subst}
 use Rattle.std.specs.Option.{ForSome}
 use Rattle.sqlite.specs.Held.{state}
-use Rattle.fare_outside.specs.Keeper.{HasPlace}
+use Rattle.fare_ports.specs.Keeper.{HasPlace}
 use Rattle.fare_sqlite.specs.Kept.{kept}
 use Rattle.fare_sqlite.proofs.sqlite_keeper.SqliteKeeperKeeper.replace.Goals as goal
 

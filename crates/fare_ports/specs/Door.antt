@@ -1,7 +1,7 @@
 -- What the calls of a door do to its connections.
 use Rattle.std.specs.Prelude.{◌≡◌, ℕ, List, [], ◌∷◌, ◌++◌, Bool, false, Option, Some, None, Result, Ok, Err, option_map}
 use Rattle.std.specs.Prelude.{slice_set, slice_index_or, ⊤}
-use Rattle.fare_outside.specs.declared.failed.Failed.{Failed}
+use Rattle.fare_ports.specs.declared.failed.Failed.{Failed}
 
 -- a call of `next` answered that it took a connection
 abbrev pub is_taken : Result Bool Failed → Bool

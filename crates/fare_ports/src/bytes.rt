@@ -46,7 +46,7 @@ impl Bytes {
     }
 
     /// The same bytes.
-    pub(crate) fn into_vec(self) -> Vec<u8>
+    pub fn into_vec(self) -> Vec<u8>
         ensures { result.items ≡ self }
     {
         self.items

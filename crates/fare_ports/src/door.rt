@@ -4,8 +4,8 @@ ghost use Rattle.std.specs.Prelude.{IsSome, IsTrue, OnErr, MatchBool, MatchResul
 ghost use Rattle.std.specs.Bool.{OnTrue, OnFalse};
 ghost use Rattle.std.specs.Io.{ReadsAtMost, WritesAtMost};
 ghost use Rattle.std.specs.Io.KnownBytes.{ReadConsumes};
-ghost use Rattle.fare_outside.specs.Cause.{Rose};
-ghost use Rattle.fare_outside.specs.Door.{is_taken, TakesFirst, NoneWaits, with_one_more, with_more_at, TakesHeld};
+ghost use Rattle.fare_ports.specs.Cause.{Rose};
+ghost use Rattle.fare_ports.specs.Door.{is_taken, TakesFirst, NoneWaits, with_one_more, with_more_at, TakesHeld};
 
 use crate::failed::Failed;
 

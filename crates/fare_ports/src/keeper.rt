@@ -1,10 +1,10 @@
 ghost use Rattle.std.specs.Prelude.{◌≡◌, ℕ, ◌≤◌, ◌||◌, Bool, List, Option, length, is_ok, IfOk, IfSome, OnOk, IsErrOf};
 ghost use Rattle.std.specs.Prelude.{IsTrue, Some, MatchResult};
 ghost use Rattle.std.specs.Option.{ForSome};
-ghost use Rattle.fare_outside.specs.declared.keeper.KeepFault.TheVariants.{Memory};
-ghost use Rattle.fare_outside.specs.Cause.{Rose};
-ghost use Rattle.fare_outside.specs.Keeper.{ToldAfter, WhereTold, BodiesStay, BodyAppended, MayAppend, BodyReplaced};
-ghost use Rattle.fare_outside.specs.Keeper.{MayReplace, HasPlace, body_at, first_name};
+ghost use Rattle.fare_ports.specs.declared.keeper.KeepFault.TheVariants.{Memory};
+ghost use Rattle.fare_ports.specs.Cause.{Rose};
+ghost use Rattle.fare_ports.specs.Keeper.{ToldAfter, WhereTold, BodiesStay, BodyAppended, MayAppend, BodyReplaced};
+ghost use Rattle.fare_ports.specs.Keeper.{MayReplace, HasPlace, body_at, first_name};
 
 use crate::no_memory::NoMemory;
 use std::alloc::{AllocError, AllocFailed, Global};

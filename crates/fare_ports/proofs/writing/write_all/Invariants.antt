@@ -1,6 +1,6 @@
 use Rattle.std.proofs.Common.{length, take, ◌-◌, ◌≤◌}
 use Rattle.std.specs.Io.KnownBytes.{Appends}
-use Rattle.fare_outside.proofs.writing.write_all.Given as goal
+use Rattle.fare_ports.proofs.writing.write_all.Given as goal
 
 -- the bytes before `at` were appended
 abbrev pub invariant-pieces : goal.invariant-pieces

@@ -1,6 +1,6 @@
 use Rattle.std.proofs.Common.{vec_len, ◌+◌, ◌-◌, ◌≤◌}
 use Rattle.std.specs.Io.KnownBytes.{Consumes}
-use Rattle.fare_outside.proofs.reading.read_all.Given as goal
+use Rattle.fare_ports.proofs.reading.read_all.Given as goal
 
 -- what was taken from the source is what stands in `bytes`
 abbrev pub invariant-pieces : goal.invariant-pieces

@@ -69,14 +69,14 @@ impl Bodies {
     }
 
     /// The bodies, in order.
-    pub(crate) fn into_items(self) -> Vec<Bytes>
+    pub fn into_items(self) -> Vec<Bytes>
         ensures { result.items ≡ self }
     {
         self.items
     }
 
     /// Puts another body at index `i`, counted from 0.
-    pub(crate) fn set(&mut self, i: usize, body: &[u8]) -> Result<(), NoMemory>
+    pub fn set(&mut self, i: usize, body: &[u8]) -> Result<(), NoMemory>
         requires { i < length self.old }
         ensures ok { OnOk result (self.new ≡ slice_set self.old i body.now) }
         ensures err { OnErr result (self.new ≡ self.old) }

@@ -1,7 +1,7 @@
 use Rattle.std.proofs.Common.{arith, take-add, length-drop}
 use Rattle.std.proofs.KnownBytes.{Appends-trans}
-use Rattle.fare_outside.proofs.Pieces.{slice-end}
-use Rattle.fare_outside.proofs.writing.write_all.Goals as goal
+use Rattle.fare_ports.proofs.Pieces.{slice-end}
+use Rattle.fare_ports.proofs.writing.write_all.Goals as goal
 
 pub pieces-preserved : goal.pieces-preserved
 pieces-preserved g c =

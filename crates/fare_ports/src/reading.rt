@@ -1,8 +1,8 @@
 ghost use Rattle.std.specs.Prelude.{◌≡◌, ◌+◌, ◌<◌, ◌≤◌, length, vec_len, IfOk, IfSome, OnOk, IsErrOf};
 ghost use Rattle.std.specs.Io.KnownBytes.{Consumes, IsAtEnd};
-ghost use Rattle.fare_outside.specs.declared.reading.ReadEnd.TheVariants.{Memory, ReadFault};
-ghost use Rattle.fare_outside.specs.Cause.{Rose};
-ghost use Rattle.fare_outside.specs.Source.{TakesUpTo, TakesJust};
+ghost use Rattle.fare_ports.specs.declared.reading.ReadEnd.TheVariants.{Memory, ReadFault};
+ghost use Rattle.fare_ports.specs.Cause.{Rose};
+ghost use Rattle.fare_ports.specs.Source.{TakesUpTo, TakesJust};
 
 use crate::failed::Failed;
 use crate::source::Source;

@@ -1,5 +1,5 @@
 ghost use Rattle.std.specs.Prelude.{◌≡◌, None, OnOk, OnErr};
-ghost use Rattle.fare_outside.specs.Keeper.{first_name};
+ghost use Rattle.fare_ports.specs.Keeper.{first_name};
 
 use crate::no_memory::NoMemory;
 use std::alloc::Global;
