@@ -1,4 +1,4 @@
-use fare_best::BestList;
+use fare_ranking::BestList;
 use fare_tariff::Edition;
 use fare_trip::Trip;
 

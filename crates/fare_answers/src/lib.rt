@@ -19,7 +19,7 @@ mod selecting;
 
 pub use first_of::FirstOf;
 pub use list::list_text;
-pub use listing::best_text;
+pub use listing::first_text;
 pub use quote_fault::QuoteFault;
 pub use quoting::quote_text;
 pub use selecting::edition_for;

@@ -1,51 +1,25 @@
-//! The text of the first constructions of a trip over a book.
+//! The text of the first constructions of a trip in an edition.
 
-ghost use Rattle.std.specs.Prelude.{◌≤◌, IfOk};
-ghost use Rattle.fare_answers.specs.Answers.{Answers};
-ghost use Rattle.fare_answers.specs.BestText.{BestOver, BestPlaced};
+ghost use Rattle.std.specs.Prelude.{◌≡◌, ◌++◌, All, IfOk};
+ghost use Rattle.fare_rules.specs.FirstK.{IsPriced};
+ghost use Rattle.fare_calc.specs.Answer.{edition_line};
+ghost use Rattle.fare_answers.specs.BestText.{first_text};
 
 use crate::entries::push_first;
 use crate::first_of::FirstOf;
-use crate::quote_fault::QuoteFault;
-use crate::selecting::edition_for;
-use fare_best::first_k;
-use fare_book::Book;
 use fare_calc::push_edition;
-use fare_codes::MOST_BEST;
 use fare_ports::NoMemory;
-use fare_tariff::Edition;
-use fare_trip::Trip;
 use std::alloc::Global;
 
-/// The line that names the edition that a trip's sale day selects, and then the first `k` lawful constructions of the
-/// trip, each with its number, its price and its calculation line, or `NO FARE` where none is lawful; or why there is
-/// no such edition, as `edition_for` answers it.
-#[tactic(auto, unfolding(crate::specs::BestText::BestOver))]
-pub fn best_text(alloc: Global, book: &Book, trip: &Trip, k: u32) -> Result<Vec<u8>, QuoteFault>
-    requires some { 1 ≤ k }
-    requires few { k ≤ MOST_BEST }
-    ensures { Answers (BestOver book.now.editions trip.now k) result }
+/// The line that names the edition, and then each construction with its number, its price and its calculation line, or
+/// `NO FARE` where there is none.
+pub fn first_text(alloc: Global, first: &FirstOf<'_>) -> Result<Vec<u8>, NoMemory>
+    requires { All (IsPriced first.now.edition.now first.now.trip.now) first.now.list.now }
+    ensures { IfOk result (λ text. text.items ≡ edition_line first.now.edition.now
+        ++ first_text first.now.edition.now first.now.trip.now first.now.list.now) }
 {
-    match edition_for(book, trip) {
-        Ok(edition) => Ok(best_placed(alloc, edition, trip, k)?),
-        Err(fault) => Err(fault),
-    }
-}
-
-/// The text in an edition that knows all points of the trip.
-fn best_placed(alloc: Global, edition: &Edition, trip: &Trip, k: u32) -> Result<Vec<u8>, NoMemory>
-    requires some { 1 ≤ k }
-    requires few { k ≤ MOST_BEST }
-    ensures { IfOk result (λ text. BestPlaced trip.now k edition.now text.items) }
-{
-    let list = first_k(alloc, edition, trip, k)?;
-    let first = FirstOf {
-        edition,
-        trip,
-        list: &list,
-    };
     let mut text = Vec::new(alloc);
-    push_edition(&mut text, edition)?;
-    push_first(&mut text, alloc, &first)?;
+    push_edition(&mut text, first.edition)?;
+    push_first(&mut text, alloc, first)?;
     Ok(text)
 }

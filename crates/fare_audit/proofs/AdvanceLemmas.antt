@@ -9,7 +9,7 @@ use Rattle.fare_codes.specs.declared.city.City.{City}
 use Rattle.fare_trip.specs.Itinerary.{Itinerary, count}
 use Rattle.fare_rules.specs.Construction.{begin_after, end_of, no_part, start_of}
 use Rattle.fare_rules.specs.Span.{is_surface}
-use Rattle.fare_lawful.specs.Advance.{Advances}
+use Rattle.fare_units.specs.Advance.{Advances}
 use Rattle.fare_line.specs.declared.line.part.LinePart.{LinePart}
 use Rattle.fare_line.specs.declared.line.sector.LineSector.{LineSector}
 use Rattle.fare_line.specs.Line.{CalculationLine, are_parts, flown_count, gap_count, is_amount, is_flown, is_led, is_line, is_plus, is_rate}

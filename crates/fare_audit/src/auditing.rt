@@ -3,7 +3,7 @@
 ghost use Rattle.std.specs.Prelude.{◌≡◌, ◌≤◌, IfOk, None, Ok, length};
 ghost use Rattle.fare_rules.specs.Best.{IsBest};
 ghost use Rattle.fare_rules.specs.Lawful.{lawful_price};
-ghost use Rattle.fare_lawful.specs.Advance.{Advances};
+ghost use Rattle.fare_units.specs.Advance.{Advances};
 ghost use Rattle.fare_calc.specs.LineOf.{line_of};
 ghost use Rattle.fare_audit.specs.Filing.{bare_parts};
 ghost use Rattle.fare_audit.specs.Verdict.{IsFiguresVerdict, IsPriceVerdict, IsRecordsVerdict, IsRulesVerdict};
@@ -18,7 +18,7 @@ use fare_line::Line;
 use fare_ports::NoMemory;
 use fare_tariff::Edition;
 use fare_trip::Trip;
-use fare_units::{Construction, MOST_PARTS, Quoter, lawful_price};
+use fare_units::{MOST_PARTS, Construction, Quoter, lawful_price};
 use std::alloc::Global;
 use std::thread::Threads;
 

@@ -3,13 +3,13 @@
 ghost use Rattle.std.specs.Prelude.{◌≡◌, ◌≤◌, ◌&&◌, ◌||◌, not, None, length, nat_lt};
 ghost use Rattle.fare_trip.specs.Itinerary.{count};
 ghost use Rattle.fare_rules.specs.Span.{is_transfer};
-ghost use Rattle.fare_lawful.specs.Advance.{Advances};
+ghost use Rattle.fare_units.specs.Advance.{Advances};
 ghost use Rattle.fare_audit.specs.Filing.{bare_parts};
 ghost use Rattle.fare_audit.specs.Legs.{difference, difference_from, differ, is_marked_otherwise, is_unlike};
 ghost use Rattle.fare_audit.specs.Legs.{reaches_other};
 
 use crate::legs::{Leg, legs_of};
-use fare_codes::{City, MOST_SECTORS};
+use fare_codes::{MOST_SECTORS, City};
 use fare_line::{Line, LineSector};
 use fare_trip::Trip;
 

@@ -5,7 +5,7 @@ ghost use Rattle.std.specs.List.{list_any};
 ghost use Rattle.std.specs.Option.{option_copied};
 ghost use Rattle.fare_trip.specs.Itinerary.{count};
 ghost use Rattle.fare_rules.specs.Construction.{end_of, unit_of};
-ghost use Rattle.fare_lawful.specs.Advance.{Advances};
+ghost use Rattle.fare_units.specs.Advance.{Advances};
 ghost use Rattle.fare_audit.specs.Filing.{bare_part, bare_parts, construction_of, is_one_way_in, is_round, is_turned};
 ghost use Rattle.fare_audit.specs.Filing.{key_between, key_of, lacks_record, record_for, record_of, recorded_part};
 ghost use Rattle.fare_audit.specs.Filing.{season_day, unrecorded};
@@ -16,7 +16,7 @@ use fare_points::indicator;
 use fare_rules::Part;
 use fare_tariff::{Edition, FareKey};
 use fare_trip::Trip;
-use fare_units::{Construction, MOST_PARTS, part_at, priced_back, start_of};
+use fare_units::{MOST_PARTS, Construction, part_at, priced_back, start_of};
 
 /// The parts of a line by their ends and units alone.
 fn bare_parts(line: &Line) -> Construction

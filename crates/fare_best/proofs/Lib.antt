@@ -1,3 +1,2 @@
-pub mod RankingLemmas
 pub mod WalkedLemmas
 pub mod OneLemmas

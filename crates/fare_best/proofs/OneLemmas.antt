@@ -8,8 +8,8 @@ use Rattle.fare_tariff.specs.Tariff.{Tariff}
 use Rattle.fare_rules.specs.FirstK.{Priced, IsPriced, IsBefore, IsFirstK}
 use Rattle.fare_rules.proofs.BestLemmas.{irreflexive}
 use Rattle.fare_rules.proofs.MemberLemmas.{Member}
-use Rattle.fare_best.specs.Ranking.{comes_before}
-use Rattle.fare_best.proofs.RankingLemmas.{Rising, contained, rising}
+use Rattle.fare_ranking.specs.Ranking.{comes_before}
+use Rattle.fare_ranking.proofs.RankingLemmas.{Rising, contained, rising}
 use Rattle.fare_best.proofs.WalkedLemmas.{through}
 
 true_false : true ≡ false → ⊥

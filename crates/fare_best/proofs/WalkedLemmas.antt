@@ -19,9 +19,9 @@ use Rattle.fare_rules.proofs.OrderLemmas.{before_tells, before_says}
 use Rattle.fare_units.specs.Walk.{Completes, IsList}
 use Rattle.fare_branch.specs.Sought.{AllBehindPassed, AllPassedFrom, IsWalk}
 use Rattle.fare_branch.proofs.WalkedLemmas.{before_longer}
-use Rattle.fare_best.specs.Ranking.{comes_before, comes_first, costs_below, costs_up_to, first_with, is_behind, is_beyond, is_dear, is_within, ranked_with}
+use Rattle.fare_ranking.specs.Ranking.{comes_before, comes_first, costs_below, costs_up_to, first_with, is_behind, is_beyond, is_dear, is_within, ranked_with}
 use Rattle.fare_best.specs.Walked.{IsListed, IsRanked, IsPlaced, IsPassed, IsWalked}
-use Rattle.fare_best.proofs.RankingLemmas.{contained, every_member, every_of_members, every_take, rising, all_pairs, all_up_to, take_rising, take_placed, with_every, with_kept, with_has, with_long, with_rising, full_before, costs_no_more}
+use Rattle.fare_ranking.proofs.RankingLemmas.{contained, every_member, every_of_members, every_take, rising, all_pairs, all_up_to, take_rising, take_placed, with_every, with_kept, with_has, with_long, with_rising, full_before, costs_no_more}
 
 true_false : true ≡ false → ⊥
 true_false e = cc

@@ -8,7 +8,6 @@ ghost use Rattle.fare_homing.specs.Rows.{AreHomingsOf};
 ghost use Rattle.fare_units.specs.Walk.{Completes};
 ghost use Rattle.fare_best.specs.Walked.{IsRanked, IsWalked};
 
-use crate::best_list::BestList;
 use crate::walking::{Wanted, walk};
 use fare_branch::{best_of, dived_front, is_far};
 use fare_codes::MOST_BEST;
@@ -16,6 +15,7 @@ use fare_component::Table;
 use fare_floors::{Partial, Stage, ahead_of, stack_of};
 use fare_homing::{Homing, add_barred, homing_of, number_at};
 use fare_ports::NoMemory;
+use fare_ranking::BestList;
 use fare_rules::{PRICE_LIMIT, edition_is_valid, price_is_bounded};
 use fare_tariff::Edition;
 use fare_trip::Trip;

@@ -3,14 +3,14 @@
 ghost use Rattle.std.specs.Prelude.{◌≡◌, ◌≤◌};
 ghost use Rattle.fare_units.specs.Walk.{Completes};
 ghost use Rattle.fare_floors.specs.Ahead.{IsStage};
-ghost use Rattle.fare_best.specs.Ranking.{is_dear};
+ghost use Rattle.fare_ranking.specs.Ranking.{is_dear};
 ghost use Rattle.fare_best.specs.Walked.{IsRanked, IsWalked};
 
-use crate::best_list::BestList;
 use fare_branch::Seeker;
 use fare_codes::MOST_BEST;
 use fare_component::Table;
 use fare_floors::{Partial, Stage};
+use fare_ranking::BestList;
 
 /// What a walk wants.
 #[derive(Clone, Copy)]

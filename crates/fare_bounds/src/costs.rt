@@ -1,6 +1,6 @@
 ghost use Rattle.std.specs.Prelude.{◌≡◌, ◌<◌, IfSome, All, option_map};
 ghost use Rattle.fare_component.specs.Table.{IsInBounds};
-ghost use Rattle.fare_conditions.specs.Usable.{IsAmount};
+ghost use Rattle.fare_component.specs.Usable.{IsAmount};
 ghost use Rattle.fare_bounds.specs.Covers.{hundredths_of, least_cost, lesser};
 ghost use Rattle.fare_bounds.specs.Search.{cheapest};
 

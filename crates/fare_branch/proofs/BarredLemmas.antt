@@ -13,8 +13,8 @@ use Rattle.fare_rules.proofs.CoverLemmas.{both_false}
 use Rattle.fare_rules.proofs.LawfulLemmas.{IsKept, kept}
 use Rattle.fare_rules.proofs.MemberLemmas.{Member, member_filter, member_numbers}
 use Rattle.fare_rules.proofs.NumberLemmas.{find_none}
-use Rattle.fare_lawful.specs.Barred.{is_uncombined, is_untimely}
-use Rattle.fare_lawful.specs.Shut.{is_shut}
+use Rattle.fare_units.specs.Barred.{is_uncombined, is_untimely}
+use Rattle.fare_units.specs.Shut.{is_shut}
 use Rattle.fare_units.proofs.ShutLemmas.{shut_has_parts}
 use Rattle.fare_units.proofs.NextLemmas.{any_same, front_unit, same_unit_front}
 use Rattle.fare_floors.specs.Floors.{HasNoCompletion}

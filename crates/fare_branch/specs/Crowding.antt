@@ -5,7 +5,7 @@ use Rattle.std.specs.Prelude.{filter, length, Contains, is_some, is_none, slice_
 use Rattle.std.specs.List.{list_any}
 use Rattle.fare_codes.specs.declared.rule_id.RuleId.{RuleId}
 use Rattle.fare_trip.specs.Itinerary.{Itinerary, count}
-use Rattle.fare_records.specs.Record.{FareRecord}
+use Rattle.fare_tariff.specs.Record.{FareRecord}
 use Rattle.fare_tariff.specs.Tariff.{Tariff}
 use Rattle.fare_tariff.specs.Lookup.{ends_ok}
 use Rattle.fare_rules.specs.declared.part.Part.{Part}

@@ -6,7 +6,7 @@ use Rattle.std.proofs.lemmas.Slice.Eq.{bytes_eq-Decides}
 use Rattle.fare_codes.specs.declared.city.City.{City}
 use Rattle.fare_trip.specs.Itinerary.{Itinerary, count, point}
 use Rattle.fare_tariff.specs.Filed.{IsFiledFare}
-use Rattle.fare_records.specs.Record.{FareRecord}
+use Rattle.fare_tariff.specs.Record.{FareRecord}
 use Rattle.fare_tariff.specs.Tariff.{Tariff}
 use Rattle.fare_tariff.specs.Lookup.{fare_at, city_record}
 use Rattle.fare_rules.specs.declared.part.Part.{Part}

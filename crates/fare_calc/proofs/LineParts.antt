@@ -5,7 +5,7 @@ use Rattle.std.specs.List.{cons_option, range_with_len, list_all}
 use Rattle.std.proofs.lemmas.Bool.{cases_Bool, and_parts, lt-leb, lt-ltb, le-leb}
 use Rattle.fare_codes.specs.declared.city.City.{City}
 use Rattle.fare_trip.specs.Itinerary.{Itinerary, count, point}
-use Rattle.fare_records.specs.Record.{FareRecord}
+use Rattle.fare_tariff.specs.Record.{FareRecord}
 use Rattle.fare_tariff.specs.Tariff.{Tariff}
 use Rattle.fare_rules.specs.declared.part.Part.{Part}
 use Rattle.fare_rules.specs.Numbers.{numbers}

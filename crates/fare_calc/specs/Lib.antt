@@ -2,7 +2,7 @@ pub use Rattle.fare_line.specs.Line
 pub use Rattle.fare_line.specs.LineText
 pub use Rattle.fare_line.specs.LongestFront
 pub use Rattle.fare_trip.specs.Itinerary
-pub use Rattle.fare_records.specs.Record
+pub use Rattle.fare_tariff.specs.Record
 pub use Rattle.fare_tariff.specs.Tariff
 pub use Rattle.fare_rules.specs.Construction
 pub use Rattle.fare_rules.specs.Lawful

@@ -4,7 +4,7 @@ use Rattle.std.specs.Prelude.{◌==◌, ◌&&◌, nat_lt, if◌then◌else◌}
 use Rattle.fare_codes.specs.declared.city.City.{City}
 use Rattle.fare_codes.specs.declared.nuc.Nuc.{Nuc}
 use Rattle.fare_trip.specs.Itinerary.{Itinerary, count, point, sector}
-use Rattle.fare_records.specs.Record.{CurrencyRecord}
+use Rattle.fare_tariff.specs.Record.{CurrencyRecord}
 use Rattle.fare_tariff.specs.Tariff.{Tariff}
 use Rattle.fare_rules.specs.declared.limits.TheConstants.{MOST_AMOUNT}
 use Rattle.fare_rules.specs.declared.miles.Mileage.{Mileage}

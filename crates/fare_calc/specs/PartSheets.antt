@@ -5,7 +5,7 @@ use Rattle.std.specs.Prelude.{if◌then◌else◌}
 use Rattle.fare_codes.specs.declared.city.City.{City}
 use Rattle.fare_codes.specs.declared.nuc.Nuc.{Nuc}
 use Rattle.fare_trip.specs.Itinerary.{Itinerary, point}
-use Rattle.fare_records.specs.Record.{FareRecord, CurrencyRecord}
+use Rattle.fare_tariff.specs.Record.{FareRecord, CurrencyRecord}
 use Rattle.fare_tariff.specs.Tariff.{Tariff}
 use Rattle.fare_tariff.specs.Lookup.{currency_of}
 use Rattle.fare_rules.specs.declared.miles.Mileage.{Mileage}

@@ -1,7 +1,7 @@
 -- All that is known of a lawful construction, from which its texts are made.
 use Rattle.std.specs.Prelude.{◌≡◌, ℕ, ◌<◌, List, Some, None, All}
 use Rattle.fare_trip.specs.Itinerary.{Itinerary}
-use Rattle.fare_records.specs.Record.{CurrencyRecord, IsCurrency}
+use Rattle.fare_tariff.specs.Record.{CurrencyRecord, IsCurrency}
 use Rattle.fare_tariff.specs.Tariff.{Tariff}
 use Rattle.fare_rules.specs.declared.limits.TheConstants.{PRICE_LIMIT}
 use Rattle.fare_rules.specs.declared.part.Part.{Part}

@@ -6,7 +6,7 @@ use Rattle.fare_codes.specs.declared.nuc.Nuc.{Nuc}
 use Rattle.fare_codes.specs.Amounts.{converted}
 use Rattle.fare_codes.specs.Numbers.{decimal_text, nuc_text, rate_text}
 use Rattle.fare_trip.specs.Itinerary.{Itinerary}
-use Rattle.fare_records.specs.Record.{FareRecord, CurrencyRecord}
+use Rattle.fare_tariff.specs.Record.{FareRecord, CurrencyRecord}
 use Rattle.fare_tariff.specs.Tariff.{Tariff}
 use Rattle.fare_rules.specs.declared.miles.Mileage.{Mileage}
 use Rattle.fare_rules.specs.declared.miles.Mileage.TheVariants.{Direct, Within, Excess, NoTpm, NoMpm, Over}

@@ -2,7 +2,7 @@
 
 ghost use Rattle.std.specs.Prelude.{◌≡◌, ◌<◌, IfSome, IsSome, None};
 ghost use Rattle.std.specs.Option.{option_copied};
-ghost use Rattle.fare_records.specs.Record.{IsCurrency};
+ghost use Rattle.fare_tariff.specs.Record.{IsCurrency};
 ghost use Rattle.fare_rules.specs.Lawful.{first_broken};
 ghost use Rattle.fare_calc.specs.PartSheets.{home_currency};
 ghost use Rattle.fare_calc.specs.Worksheet.{local_amount};

@@ -7,8 +7,8 @@ ghost use Rattle.fare_rules.specs.ComponentAmount.{component_amount};
 ghost use Rattle.fare_rules.specs.Indicator.{indicator};
 ghost use Rattle.fare_rules.specs.Mileage.{mileage};
 ghost use Rattle.fare_rules.specs.UnitPrice.{hundredths_of};
-ghost use Rattle.fare_lawful.specs.Advance.{Advances};
-ghost use Rattle.fare_lawful.specs.Places.{IsPlace};
+ghost use Rattle.fare_units.specs.Advance.{Advances};
+ghost use Rattle.fare_units.specs.Places.{IsPlace};
 ghost use Rattle.fare_calc.specs.PartSheets.{gap_after, gap_before, in_fare_direction, sheet_of_part, sheet_with};
 
 use fare_codes::{Cabin, Carrier, City, Indicator, Kind, Nuc, Season};

@@ -2,8 +2,8 @@
 
 ghost use Rattle.std.specs.Prelude.{◌≡◌, ◌<◌, ◌≤◌, None, All, IfSome, length};
 ghost use Rattle.fare_rules.specs.Lawful.{first_broken};
-ghost use Rattle.fare_lawful.specs.Advance.{Advances};
-ghost use Rattle.fare_lawful.specs.Places.{IsPlace};
+ghost use Rattle.fare_units.specs.Advance.{Advances};
+ghost use Rattle.fare_units.specs.Places.{IsPlace};
 ghost use Rattle.fare_calc.specs.LineOf.{FitsLine};
 ghost use Rattle.fare_calc.specs.PartSheets.{part_sheets, sheet_of_part};
 ghost use Rattle.fare_calc.specs.UnitSheets.{FitsUnit, unit_sheets};
@@ -18,7 +18,7 @@ use fare_codes::Nuc;
 use fare_rules::PRICE_LIMIT;
 use fare_tariff::{CurRec, Edition};
 use fare_trip::Trip;
-use fare_units::{Construction, MOST_PARTS, price_is_of_unbroken, unit_count};
+use fare_units::{MOST_PARTS, Construction, price_is_of_unbroken, unit_count};
 use std::marker::Model;
 
 /// The sheets of a lawful construction: its parts and its units with their figures, its price, and the currency of the
@@ -56,7 +56,7 @@ impl<'a> Model for Sheets<'a> {
 
 impl<'a> Sheets<'a> {
     ghost use Rattle.std.specs.Prelude.{Some, option_map};
-    ghost use Rattle.fare_records.specs.Record.{IsCurrency};
+    ghost use Rattle.fare_tariff.specs.Record.{IsCurrency};
     ghost use Rattle.fare_rules.specs.UnitPrice.{price};
     ghost use Rattle.fare_calc.specs.PartSheets.{home_currency};
     ghost use Rattle.fare_calc.specs.Worksheet.{local_amount};

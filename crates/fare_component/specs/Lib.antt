@@ -3,6 +3,7 @@ pub use Rattle.fare_records.specs.Record
 pub use Rattle.fare_tariff.specs.Tariff
 pub use Rattle.fare_rules.specs.Terms
 pub use Rattle.fare_rules.specs.ComponentAmount
+pub use Rattle.fare_conditions.specs.Usable
 pub mod Candidates
 pub mod References
 pub mod Table

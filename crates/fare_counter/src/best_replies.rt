@@ -6,12 +6,12 @@ ghost use Rattle.fare_answers.specs.Answers.{Answers};
 ghost use Rattle.fare_counter.specs.BestReply.{BestIn, IsBestReply, IsFirstOf, IsFirstReply, asked_count, before_count};
 ghost use Rattle.fare_counter.specs.BestReply.{count_text};
 
-use fare_answers::{QuoteFault, best_text};
+use fare_answers::QuoteFault;
 use fare_book::Book;
 use fare_codes::{MOST_BEST, read_number};
 use fare_desk::{body_reply, fault_reply, no_route_reply, refusal_reply};
 use fare_http::{Form, Reply, Status};
-use fare_json::best_json;
+use fare_listing::{best_json, best_text};
 use fare_ports::NoMemory;
 use fare_trip::{Trip, TripFault, read_trip};
 use std::alloc::Global;

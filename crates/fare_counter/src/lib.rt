@@ -23,6 +23,6 @@ mod why_replies;
 
 pub use counter::Counter;
 pub use counter_front::CounterFront;
-pub use fare_answers::best_text;
+pub use fare_listing::best_text;
 pub use reasoner::Reasoner;
 pub use routes::{CounterRoute, CounterRoutes};

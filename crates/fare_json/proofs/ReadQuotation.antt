@@ -8,7 +8,7 @@ use Rattle.fare_codes.specs.declared.city.City.{City}
 use Rattle.fare_codes.specs.declared.nuc.Nuc.{Nuc}
 use Rattle.fare_codes.specs.declared.rule_id.RuleId.{RuleId}
 use Rattle.fare_trip.specs.Itinerary.{Itinerary}
-use Rattle.fare_records.specs.Record.{FareRecord, CurrencyRecord}
+use Rattle.fare_tariff.specs.Record.{FareRecord, CurrencyRecord}
 use Rattle.fare_tariff.specs.Tariff.{Tariff}
 use Rattle.fare_rules.specs.declared.miles.Mileage.{Mileage}
 use Rattle.fare_rules.specs.declared.miles.Mileage.TheVariants.{Direct, Within, Excess, NoTpm, NoMpm, Over}

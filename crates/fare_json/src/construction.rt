@@ -2,7 +2,7 @@
 
 ghost use Rattle.std.specs.Prelude.{◌≡◌, ◌++◌, ◌≤◌, All, IfOk, OnOk};
 ghost use Rattle.std.specs.List.{flat_map};
-ghost use Rattle.fare_records.specs.Record.{IsCurrency};
+ghost use Rattle.fare_tariff.specs.Record.{IsCurrency};
 ghost use Rattle.fare_calc.specs.LineOf.{line_of};
 ghost use Rattle.fare_calc.specs.UnitSheets.{FitsUnit};
 ghost use Rattle.fare_calc.specs.Worksheet.{local_text};

@@ -36,7 +36,7 @@ pub use fare_sentences::{
     Fault, OneMethod, fault_of_audit, fault_text, fault_words, push_broken, verdict_words,
 };
 pub use fault_answer::{fault_json, tariff_fault_json};
-pub use first::best_json;
+pub use first::first_json;
 pub use laws::{
     answer_is_plain, audit_is_plain, batch_is_compact, batch_is_plain, first_are_plain,
     list_is_plain, quotation_is_plain,

@@ -1,7 +1,7 @@
 -- The rules that ask one test of each part, or of each unit.
 use Rattle.std.specs.Prelude.{ℕ, Bool, List, Option, not, ◌&&◌}
 use Rattle.fare_trip.specs.Itinerary.{Itinerary}
-use Rattle.fare_records.specs.Record.{FareRecord}
+use Rattle.fare_tariff.specs.Record.{FareRecord}
 use Rattle.fare_tariff.specs.Tariff.{Tariff}
 use Rattle.fare_rules.specs.declared.part.Part.{Part}
 use Rattle.fare_rules.specs.Span.{holds_surface}

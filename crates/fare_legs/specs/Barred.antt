@@ -2,7 +2,7 @@
 use Rattle.std.specs.Prelude.{◌≡◌, ◌⊎◌, ℕ, Bool, true, false, List, [], ◌∷◌, Option, Some, None, bytes_eq, if◌then◌else◌}
 use Rattle.std.specs.List.{list_any}
 use Rattle.fare_codes.specs.declared.rule_id.RuleId.{RuleId}
-use Rattle.fare_records.specs.Record.{FareRecord}
+use Rattle.fare_tariff.specs.Record.{FareRecord}
 use Rattle.fare_tariff.specs.Tariff.{Tariff}
 use Rattle.fare_tariff.specs.Lookup.{ends_ok, fare_at}
 use Rattle.fare_component.specs.declared.table.entry.Entry.{Entry}

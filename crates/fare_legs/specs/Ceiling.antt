@@ -4,7 +4,7 @@ use Rattle.std.specs.Prelude.{option_and_then, if◌then◌else◌}
 use Rattle.fare_codes.specs.declared.indicator.Indicator.{Indicator}
 use Rattle.fare_codes.specs.declared.nuc.Nuc.{Nuc}
 use Rattle.fare_trip.specs.Itinerary.{Itinerary, count, point}
-use Rattle.fare_records.specs.Record.{FareRecord}
+use Rattle.fare_tariff.specs.Record.{FareRecord}
 use Rattle.fare_tariff.specs.Tariff.{Tariff}
 use Rattle.fare_tariff.specs.Lookup.{fare_at}
 use Rattle.fare_rules.specs.Indicator.{indicator}

@@ -2,6 +2,10 @@ pub use Rattle.fare_codes.specs.Codes
 pub use Rattle.fare_codes.specs.Day
 pub use Rattle.fare_codes.specs.Same
 pub use Rattle.fare_codes.specs.Season
+pub use Rattle.fare_records.specs.Record
+pub use Rattle.fare_records.specs.Fields
+pub use Rattle.fare_records.specs.Keyed
+pub use Rattle.fare_records.specs.Seasons
 pub mod Tariff
 pub mod Lookup
 pub mod Check

@@ -5,6 +5,10 @@ pub use Rattle.fare_rules.specs.UnitPrice
 pub use Rattle.fare_rules.specs.Lawful
 pub use Rattle.fare_rules.specs.Order
 pub use Rattle.fare_rules.specs.Best
+pub use Rattle.fare_lawful.specs.Advance
+pub use Rattle.fare_lawful.specs.Barred
+pub use Rattle.fare_lawful.specs.Places
+pub use Rattle.fare_lawful.specs.Shut
 pub mod Turning
 pub mod Onward
 pub mod Walk

@@ -2,7 +2,7 @@
 
 ghost use Rattle.std.specs.Prelude.{◌≡◌, ◌++◌, ◌<◌, ◌≤◌, Some, OnOk, decimal};
 ghost use Rattle.fare_codes.specs.Numbers.{decimal_text};
-ghost use Rattle.fare_records.specs.Record.{IsCurrency};
+ghost use Rattle.fare_tariff.specs.Record.{IsCurrency};
 ghost use Rattle.fare_rules.specs.UnitPrice.{price};
 ghost use Rattle.fare_calc.specs.PartSheets.{home_currency};
 ghost use Rattle.fare_calc.specs.Worksheet.{currency_lines, local_text, total_lines};

@@ -8,7 +8,7 @@ ghost use Rattle.fare_rules.specs.UnitPrice.{part_amount, part_cost, unit_sum, a
 ghost use Rattle.fare_rules.specs.UnitPrice.{unit_kind, part_backhaul, unit_minimum, at_least, sheet_from};
 ghost use Rattle.fare_rules.specs.UnitPrice.{sheet_of_kind, unit_sheet, unit_price, price};
 ghost use Rattle.fare_rules.specs.ComponentAmount.{component_amount};
-ghost use Rattle.fare_conditions.specs.Usable.{IsAmount};
+ghost use Rattle.fare_component.specs.Usable.{IsAmount};
 ghost use Rattle.fare_lawful.specs.Advance.{Advances};
 ghost use Rattle.fare_lawful.specs.Known.{IsOf};
 ghost use Rattle.fare_lawful.specs.Places.{IsPlace, ArePlaces};
@@ -17,12 +17,9 @@ ghost use Rattle.fare_lawful.specs.Shut.{lacks_amount};
 use crate::prices::circle::unit_circle_minimum;
 use fare_codes::Nuc;
 use fare_component::{Table, applicable};
-use fare_lawful::{
-    MOST_PARTS, closes, end_of, fare_of, first_of, greatest_unit, holds_ow, is_back_in,
-    is_open_jaw, is_ow, own, part_at, start_of,
-};
+use fare_lawful::{MOST_PARTS, closes, end_of, fare_of, first_of, greatest_unit, holds_ow, is_back_in, is_open_jaw, is_ow, own, part_at, start_of};
 use fare_points::backhaul;
-use fare_rules::{Amount, MOST_AMOUNT, Part, UnitKind, UnitSheet};
+use fare_rules::{MOST_AMOUNT, Amount, Part, UnitKind, UnitSheet};
 use fare_tariff::Edition;
 use fare_trip::Trip;
 

@@ -1,6 +1,6 @@
 use Rattle.std.proofs.Common.{◌≡◌, ◌∙◌, length}
 use Rattle.fare_rules.specs.Construction.{unit_of}
-use Rattle.fare_lawful.specs.Barred.{is_uncombined, is_untimely}
+use Rattle.fare_units.specs.Barred.{is_uncombined, is_untimely}
 use Rattle.fare_branch.proofs.BarredLemmas.{uncombined_is_none, untimely_is_none}
 use Rattle.fare_branch.proofs.barred.is_barred.Goals as goal
 

@@ -1,6 +1,6 @@
 use Rattle.std.proofs.Common.{sym, ◌∙◌, ap, subst}
 use Rattle.std.specs.Prelude.{option_copied}
-use Rattle.fare_records.specs.Record.{FareRecord}
+use Rattle.fare_tariff.specs.Record.{FareRecord}
 use Rattle.fare_legs.specs.Barred.{IsStep}
 use Rattle.fare_homing.specs.Onward.{onward_at}
 use Rattle.fare_homing.proofs.LinkLemmas.{linked_onwards}

@@ -1,16 +1,17 @@
 //! The texts of the first constructions of trips.
 
-use super::computed::COMPUTED;
-use super::worked::WORKED;
-use fare_answers::{QuoteFault, best_text};
+use fare_answers::QuoteFault;
 use fare_book::Book;
 use fare_codes::{City, Day};
 use fare_csv::read_edition;
+use fare_listing::best_text;
 use fare_trip::{read_short, read_trip};
 use std::alloc::Global;
 use std::process::Abort;
 use std::test::Fail;
 use std::thread::Threads;
+use super::computed::COMPUTED;
+use super::worked::WORKED;
 
 /// A trip in an edition, how many constructions are asked for, and the text.
 #[derive(Clone, Copy)]

@@ -1,6 +1,6 @@
 use Rattle.std.proofs.Common.{List, ap, sym, ◌∙◌}
 use Rattle.fare_rules.specs.declared.part.Part.{Part}
-use Rattle.fare_best.specs.Ranking.{is_behind}
+use Rattle.fare_ranking.specs.Ranking.{is_behind}
 use Rattle.fare_best.proofs.WalkedLemmas.{behind_is_passed}
 use Rattle.fare_best.proofs.walking.WantedSeekerBestList.is_behind.Goals as goal
 

@@ -3,7 +3,7 @@ use Rattle.fare_rules.specs.declared.part.Part.{Part}
 use Rattle.fare_rules.specs.FirstK.{Priced}
 use Rattle.fare_units.specs.Walk.{IsList}
 use Rattle.fare_branch.specs.Sought.{IsWalk}
-use Rattle.fare_best.specs.Ranking.{first_with}
+use Rattle.fare_ranking.specs.Ranking.{first_with}
 use Rattle.fare_best.specs.Walked.{IsListed, IsPassed, IsRanked}
 use Rattle.fare_best.proofs.WalkedLemmas.{taken_ranks, walk_taken}
 use Rattle.fare_best.proofs.walking.WantedSeekerBestList.take.Goals as goal

@@ -1,8 +1,8 @@
 //! The first constructions by Order that a walk has found.
 
 ghost use Rattle.std.specs.Prelude.{◌≡◌, ◌-◌, ◌<◌, ◌≤◌, [], length, slice_get, option_map, vec_len, vec_capacity, IfOk};
-ghost use Rattle.fare_best.specs.Ranking.{comes_before, first_with, is_behind, is_beyond, is_taken, is_within};
-ghost use Rattle.fare_best.specs.Ranking.{place_of, ranked_with};
+ghost use Rattle.fare_ranking.specs.Ranking.{comes_before, first_with, is_behind, is_beyond, is_taken, is_within};
+ghost use Rattle.fare_ranking.specs.Ranking.{place_of, ranked_with};
 
 use fare_codes::MOST_BEST;
 use fare_ports::NoMemory;
@@ -32,7 +32,7 @@ impl Model for BestList {
 
 impl BestList {
     /// No construction, with the room for all that may come.
-    pub(crate) fn new(alloc: Global) -> Result<BestList, NoMemory>
+    pub fn new(alloc: Global) -> Result<BestList, NoMemory>
         ensures { IfOk result (λ found. found ≡ []) }
     {
         Ok(BestList {
@@ -59,7 +59,7 @@ impl BestList {
     }
 
     /// Takes a construction with its price, and keeps the first `k` by Order.
-    pub(crate) fn insert(&mut self, k: usize, parts: Construction, price: u64)
+    pub fn insert(&mut self, k: usize, parts: Construction, price: u64)
         requires { k ≤ MOST_BEST }
         ensures { self.new ≡ first_with k (parts, price) self.old }
     {
@@ -75,7 +75,7 @@ impl BestList {
     }
 
     /// The price of the `k`th.
-    pub(crate) fn price_of(&self, k: usize) -> Option<u64> {
+    pub fn price_of(&self, k: usize) -> Option<u64> {
         match self.last_wanted(k) {
             None => None,
             Some((_, price)) => Some(price),
@@ -83,7 +83,7 @@ impl BestList {
     }
 
     /// Whether the `k`th costs less than a floor.
-    pub(crate) fn is_beyond(&self, k: usize, floor: u64) -> bool
+    pub fn is_beyond(&self, k: usize, floor: u64) -> bool
         ensures { result ≡ is_beyond k self.now floor }
     {
         match self.last_wanted(k) {
@@ -93,7 +93,7 @@ impl BestList {
     }
 
     /// Whether the `k`th is before some parts at a floor.
-    pub(crate) fn is_behind(&self, k: usize, front: &Construction, floor: u64) -> bool
+    pub fn is_behind(&self, k: usize, front: &Construction, floor: u64) -> bool
         ensures { result ≡ is_behind k self.now front.now floor }
     {
         match self.last_wanted(k) {
@@ -103,7 +103,7 @@ impl BestList {
     }
 
     /// Whether there is a `k`th, and it costs no more than a limit.
-    pub(crate) fn is_within(&self, k: usize, limit: u64) -> bool
+    pub fn is_within(&self, k: usize, limit: u64) -> bool
         ensures { result ≡ is_within k self.now limit }
     {
         match self.last_wanted(k) {

@@ -8,7 +8,7 @@ use Rattle.std.proofs.lemmas.List.Elements.{All-from_recursion, recursion_from_A
 use Rattle.std.proofs.lemmas.List.Kept.{AllPairs-cons}
 use Rattle.std.proofs.lemmas.Bool.{cases_Bool}
 use Rattle.fare_rules.proofs.MemberLemmas.{Member}
-use Rattle.fare_best.specs.Ranking.{ranked_with, place_of, is_taken}
+use Rattle.fare_ranking.specs.Ranking.{ranked_with, place_of, is_taken}
 
 some_same : {A : Type 0} (x y : A) → Some x ≡ Some y → x ≡ y
 some_same x y e = cc

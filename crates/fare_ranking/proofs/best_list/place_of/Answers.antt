@@ -1,7 +1,7 @@
 use Rattle.std.proofs.Common.{◌≡◌, true, false, arith}
-use Rattle.fare_best.specs.Ranking.{comes_before, place_of}
-use Rattle.fare_best.proofs.RankingLemmas.{place_over, place_here, place_past}
-use Rattle.fare_best.proofs.best_list.place_of.Goals as goal
+use Rattle.fare_ranking.specs.Ranking.{comes_before, place_of}
+use Rattle.fare_ranking.proofs.RankingLemmas.{place_over, place_here, place_past}
+use Rattle.fare_ranking.proofs.best_list.place_of.Goals as goal
 
 pub returns-then-not-earlier-clause-value : goal.returns-then-not-earlier-clause-value
 returns-then-not-earlier-clause-value c =
