@@ -1,4 +1,4 @@
--- What a table computes once for all its fares: the indicators of all spans of its trip.
+-- What is computed once for all fares of a trip: the indicators of all its spans.
 use Rattle.std.specs.Prelude.{◌≡◌, ℕ, ◌<◌, ◌≤◌, List, [], slice_index_or}
 use Rattle.fare_codes.specs.declared.indicator.Indicator.{Indicator}
 use Rattle.fare_trip.specs.Itinerary.{Itinerary, count}

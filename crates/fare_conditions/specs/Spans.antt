@@ -1,4 +1,4 @@
--- What a table computes once for a span, for all fares that are tried there.
+-- What is computed once for a span, for all fares that are tried there.
 use Rattle.std.specs.Prelude.{◌≡◌, ℕ, ◌<◌, ◌≤◌, Bool, true, false, not, ◌&&◌, Option, Some, None, length, nat_le}
 use Rattle.std.specs.Prelude.{bytes_eq}
 use Rattle.std.specs.List.{list_all}
