@@ -18,7 +18,7 @@ use fare_line::Line;
 use fare_ports::NoMemory;
 use fare_tariff::Edition;
 use fare_trip::Trip;
-use fare_units::{MOST_PARTS, Construction, Quoter, lawful_price};
+use fare_units::{Construction, MOST_PARTS, Quoter, lawful_price};
 use std::alloc::Global;
 use std::thread::Threads;
 

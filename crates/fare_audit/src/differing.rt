@@ -9,7 +9,7 @@ ghost use Rattle.fare_audit.specs.Legs.{difference, difference_from, differ, is_
 ghost use Rattle.fare_audit.specs.Legs.{reaches_other};
 
 use crate::legs::{Leg, legs_of};
-use fare_codes::{MOST_SECTORS, City};
+use fare_codes::{City, MOST_SECTORS};
 use fare_line::{Line, LineSector};
 use fare_trip::Trip;
 

@@ -5,7 +5,7 @@ ghost use Rattle.std.specs.Option.{option_copied};
 ghost use Rattle.fare_audit.specs.Figures.{differ_in_figures, differs_at, first_figure, has_figures_of, same_letter};
 ghost use Rattle.fare_audit.specs.Figures.{same_pair};
 
-use fare_codes::{MOST_SECTORS, City};
+use fare_codes::{City, MOST_SECTORS};
 use fare_line::{Letter, Line, LinePart, print_line, text_tells};
 use fare_ports::NoMemory;
 use std::alloc::Global;

@@ -16,7 +16,7 @@ use fare_points::indicator;
 use fare_rules::Part;
 use fare_tariff::{Edition, FareKey};
 use fare_trip::Trip;
-use fare_units::{MOST_PARTS, Construction, part_at, priced_back, start_of};
+use fare_units::{Construction, MOST_PARTS, part_at, priced_back, start_of};
 
 /// The parts of a line by their ends and units alone.
 fn bare_parts(line: &Line) -> Construction

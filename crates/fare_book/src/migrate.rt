@@ -9,7 +9,7 @@ ghost use Rattle.fare_book.specs.Migration.{SameEditions, StandsAt, StopsShort, 
 ghost use Rattle.fare_book.specs.Reopens.{IsServed};
 ghost use Rattle.fare_book.specs.Restored.{CarriesDamage};
 
-use crate::book::{MOST_EDITIONS, Book};
+use crate::book::{Book, MOST_EDITIONS};
 use crate::restore_fault::RestoreFault;
 use fare_csv::edition_text;
 use fare_ports::Keeper;

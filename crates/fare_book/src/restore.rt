@@ -10,7 +10,7 @@ ghost use Rattle.fare_book.specs.Editions.{with_bodies};
 ghost use Rattle.fare_book.specs.Reopens.{IsServed, Stay};
 ghost use Rattle.fare_book.specs.Restored.{CarriesDamage, Gives};
 
-use crate::book::{MOST_EDITIONS, Book, has_number};
+use crate::book::{Book, MOST_EDITIONS, has_number};
 use crate::damage::Damage;
 use crate::restore_fault::RestoreFault;
 use fare_csv::{TextFault, read_edition};

@@ -18,7 +18,7 @@ use fare_codes::Nuc;
 use fare_rules::PRICE_LIMIT;
 use fare_tariff::{CurRec, Edition};
 use fare_trip::Trip;
-use fare_units::{MOST_PARTS, Construction, price_is_of_unbroken, unit_count};
+use fare_units::{Construction, MOST_PARTS, price_is_of_unbroken, unit_count};
 use std::marker::Model;
 
 /// The sheets of a lawful construction: its parts and its units with their figures, its price, and the currency of the

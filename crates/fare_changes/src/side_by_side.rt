@@ -15,8 +15,8 @@ use crate::totals::item_compared;
 use fare_ports::NoMemory;
 use fare_units::Quoter;
 use serde_json::Value;
-use std::thread;
 use std::alloc::Global;
+use std::thread;
 use std::thread::Threads;
 
 /// Appends what each item costs, in order.

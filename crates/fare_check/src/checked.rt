@@ -15,7 +15,7 @@ use crate::report::Report;
 use fare_codes::Day;
 use fare_csv::{Spelled, TextFault, read_spelled};
 use fare_ports::NoMemory;
-use fare_tariff::{MOST_PLACES, Filed};
+use fare_tariff::{Filed, MOST_PLACES};
 use fare_text::{push_code, push_labelled, push_whole};
 use std::alloc::Global;
 use std::thread::Threads;

@@ -9,7 +9,7 @@ ghost use Rattle.fare_check.specs.Faults.{faulty_from, stands_first};
 
 use fare_csv::TextFault;
 use fare_ports::NoMemory;
-use fare_tariff::{MOST_PLACES, Filed, has_kind};
+use fare_tariff::{Filed, MOST_PLACES, has_kind};
 use rayon::prelude::*;
 use std::alloc::{AllocError, Global};
 use std::marker::Sync;

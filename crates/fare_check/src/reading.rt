@@ -12,7 +12,9 @@ ghost use Rattle.fare_check.specs.Reports.{WasTold};
 
 use crate::grounds::Grounds;
 use crate::report::Report;
-use fare_csv::{Row, Rows, TextFault, Version, counted, is_end, is_head, read_head, read_record, read_version};
+use fare_csv::{
+    Row, Rows, TextFault, Version, counted, is_end, is_head, read_head, read_record, read_version,
+};
 use fare_ports::NoMemory;
 use std::alloc::Global;
 

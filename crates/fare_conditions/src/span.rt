@@ -10,7 +10,7 @@ ghost use Rattle.fare_conditions.specs.Spans.{IsSpan};
 use crate::fares::{greatest_rank, one_carrier};
 use crate::priced::Priced;
 use crate::spans::{stopovers, transfers};
-use fare_codes::{MOST_SURCHARGE, Carrier, Indicator};
+use fare_codes::{Carrier, Indicator, MOST_SURCHARGE};
 
 /// What a span, from a point to another, asks of a fare: its indicator, the surcharge of its mileage, its stopovers and
 /// transfers, the greatest rank of its cabins, and the carrier of all its sectors, where they have one.

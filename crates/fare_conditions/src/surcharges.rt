@@ -8,7 +8,7 @@ ghost use Rattle.fare_rules.specs.Mileage.{surcharge_of};
 
 use crate::priced::Priced;
 use crate::terms::is_allowed;
-use fare_codes::{MOST_SURCHARGE, Indicator};
+use fare_codes::{Indicator, MOST_SURCHARGE};
 use fare_mileage::{Mileage, mileage, mileage_by};
 use fare_points::indicator;
 use fare_tariff::{Edition, FareRec};

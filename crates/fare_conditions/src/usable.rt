@@ -8,7 +8,10 @@ ghost use Rattle.fare_conditions.specs.Spans.{IsSpan};
 ghost use Rattle.fare_conditions.specs.Usable.{is_for_span, is_usable};
 
 use crate::component::Component;
-use crate::fares::{covers_cabins, covers_carriers, has_carrier, has_indicator, has_rank, in_season, may_be_priced, runs_between};
+use crate::fares::{
+    covers_cabins, covers_carriers, has_carrier, has_indicator, has_rank, in_season, may_be_priced,
+    runs_between,
+};
 use crate::span::Span;
 use crate::spans::{holds_surface, repeats_city};
 use crate::terms::{advance_holds, stops_hold, transfers_hold};

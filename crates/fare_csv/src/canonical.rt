@@ -5,7 +5,10 @@ ghost use Rattle.fare_csv.specs.TariffText.{edition_of};
 ghost use Rattle.fare_csv.specs.CanonicalText.{canonical_text, record_row};
 
 use crate::lines::Lines;
-use crate::write_record::{write_allowance, write_city, write_currency, write_end, write_fare, write_head, write_mileage, write_pair, write_rule};
+use crate::write_record::{
+    write_allowance, write_city, write_currency, write_end, write_fare, write_head, write_mileage,
+    write_pair, write_rule,
+};
 use fare_ports::NoMemory;
 use fare_tariff::{Edition, Record};
 use std::alloc::{AllocError, Global};

@@ -10,7 +10,9 @@ ghost use Rattle.fare_csv.specs.TariffText.{edition_of};
 
 use crate::write_record::{fare_rule_text, via_text};
 use fare_codes::{RuleId, number_text, rate_text};
-use fare_tariff::{CityRec, CurRec, Edition, EmaRec, FareRec, MileRec, Names, PairRec, Record, RuleRec};
+use fare_tariff::{
+    CityRec, CurRec, Edition, EmaRec, FareRec, MileRec, Names, PairRec, Record, RuleRec,
+};
 
 /// HEAD is read back.
 fn head_law(edition: &Edition)

@@ -9,12 +9,14 @@ ghost use Rattle.fare_csv.specs.Rows.{rows_of};
 use crate::field_list::FieldList;
 use crate::head::{Version, read_head};
 use crate::read_fare::read_fare;
-use crate::read_plain::{counted, read_allowance, read_city, read_currency, read_mileage, read_pair};
+use crate::read_plain::{
+    counted, read_allowance, read_city, read_currency, read_mileage, read_pair,
+};
 use crate::read_rule::read_rule;
 use crate::record_kind::RecordKind;
 use crate::rows::{Row, Rows};
 use crate::text_fault::TextFault;
-use fare_codes::{LAST_EDITION, Day};
+use fare_codes::{Day, LAST_EDITION};
 use fare_tariff::{FiledRule, Record};
 use std::alloc::Global;
 

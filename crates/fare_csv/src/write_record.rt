@@ -11,7 +11,7 @@ ghost use Rattle.fare_csv.specs.CanonicalText.{head_row, mileage_row, pair_row, 
 use crate::lines::Lines;
 use crate::write_names::names_text;
 use arrayvec::ArrayString;
-use fare_codes::{LAST_EDITION, City, Day, RuleId, number_text, rate_text};
+use fare_codes::{City, Day, LAST_EDITION, RuleId, number_text, rate_text};
 use fare_tariff::{CityRec, CurRec, EmaRec, FareRec, MileRec, PairRec, RuleRec};
 use std::alloc::{AllocError, Global};
 

@@ -5,7 +5,7 @@ ghost use Rattle.serde_json.specs.View.{items_view, view};
 ghost use Rattle.fare_desk.specs.Batching.{IsArrayReply, IsBatchReply, IsItemsReply};
 
 use crate::batch_body::batch_body;
-use crate::batcher::{MOST_ITEMS, Batcher};
+use crate::batcher::{Batcher, MOST_ITEMS};
 use crate::clerk::fault_reply;
 use crate::replies::{body_reply, refused_reply};
 use fare_http::{Form, Reply, Status};

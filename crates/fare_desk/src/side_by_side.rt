@@ -13,8 +13,8 @@ use fare_http::Reply;
 use fare_ports::NoMemory;
 use fare_units::Quoter;
 use serde_json::Value;
-use std::thread;
 use std::alloc::Global;
+use std::thread;
 use std::thread::Threads;
 
 /// What answers the items of a batch side by side.

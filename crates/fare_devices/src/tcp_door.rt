@@ -6,7 +6,7 @@ use crate::TcpLimits;
 use crate::tcp_arrivals::TcpArrivals;
 use crate::tcp_peer::TcpPeer;
 use arrayvec::ArrayVec;
-use fare_ports::{MOST_HELD, Door, Failed, raised};
+use fare_ports::{Door, Failed, MOST_HELD, raised};
 use std::marker::Model;
 
 /// A door over a port of this machine's own address, 127.0.0.1. It tells nothing of what is sent,

@@ -13,9 +13,11 @@ use crate::limits::EXTRA_CITIES;
 use crate::miles::{push_extra_miles, push_permitted, push_ticketed};
 use crate::pairs::pairs;
 use crate::ways::ways;
-use fare_codes::{MOST_SECTORS, Country, Currency, Mode, RuleId};
+use fare_codes::{Country, Currency, MOST_SECTORS, Mode, RuleId};
 use fare_ports::NoMemory;
-use fare_tariff::{MOST_DAYS, MOST_STOPS, MOST_TRANSFERS, CurRec, FiledRule, Names, Record, RuleRec};
+use fare_tariff::{
+    CurRec, FiledRule, MOST_DAYS, MOST_STOPS, MOST_TRANSFERS, Names, Record, RuleRec,
+};
 use std::alloc::Global;
 
 /// Room for the records of as many cities as there can be and for the extra cities.

@@ -23,7 +23,7 @@ use crate::places::first_place;
 use crate::stack::Stack;
 use crate::stacking::{Open, homes_of, may_come_to, over_point};
 use fare_component::{Entry, Table};
-use fare_homing::{NOTHING, Ceiling, Floor, Homing, number_at, paid_with};
+use fare_homing::{Ceiling, Floor, Homing, NOTHING, number_at, paid_with};
 use fare_rules::{MOST_POINTS, Part};
 use fare_units::{is_shut_unit, start_of};
 

@@ -16,7 +16,7 @@ ghost use Rattle.fare_floors.specs.LastParts.{may_be_last};
 use crate::partial::{Partial, with_last};
 use crate::stays::forbids_any;
 use fare_component::{Entry, Table};
-use fare_homing::{NOTHING, Floor, day_behind, greater, lesser, number_at};
+use fare_homing::{Floor, NOTHING, day_behind, greater, lesser, number_at};
 use fare_rules::{MOST_POINTS, Part};
 use fare_units::{MOST_PARTS, is_uncombined};
 

@@ -12,7 +12,9 @@ use crate::ending::{has_amount, needs_more};
 use fare_component::Table;
 use fare_rules::Part;
 use fare_trip::Trip;
-use fare_units::{Construction, is_fruitless, is_homeward, is_priceless, is_stranded, part_at, start_of};
+use fare_units::{
+    Construction, is_fruitless, is_homeward, is_priceless, is_stranded, part_at, start_of,
+};
 
 /// Whether the last of some parts has an amount as one that is not the last of its unit of half round trips.
 fn has_onward_amount(table: &Table, parts: &Construction) -> bool

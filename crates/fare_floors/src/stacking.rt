@@ -20,7 +20,9 @@ use crate::lasting::{Going, greater_of, over_lasts};
 use crate::partial::Partial;
 use crate::places::first_place;
 use fare_component::Table;
-use fare_homing::{NOTHING, Floor, Homing, added, begun_from, closing_from, jaw_from, lesser, lie_near, number_at};
+use fare_homing::{
+    Floor, Homing, NOTHING, added, begun_from, closing_from, jaw_from, lesser, lie_near, number_at,
+};
 use fare_rules::{MOST_POINTS, Part};
 use fare_trip::Trip;
 use fare_units::{MOST_PARTS, is_shut_unit, start_of};

@@ -20,7 +20,9 @@ use fare_bounds::begin_after;
 use fare_codes::Country;
 use fare_component::{Entry, Table};
 use fare_lawful::is_same_country;
-use fare_legs::{NOTHING, Floor, LegRows, added, half_cost, is_barred, is_too_dear, lesser, number_at, unless};
+use fare_legs::{
+    Floor, LegRows, NOTHING, added, half_cost, is_barred, is_too_dear, lesser, number_at, unless,
+};
 use fare_rules::MOST_POINTS;
 
 /// A point where parts begin, with what they cost at least.

@@ -13,7 +13,10 @@ use crate::standing::standing_at;
 use crate::whole::wholes_at;
 use fare_codes::Country;
 use fare_component::Table;
-use fare_legs::{MOST_LONELY, MOST_RULES, NOTHING, Ceiling, Floor, ceiling_of, countries_of, fares_of_two, legs_behind, lonely_fares, number_at};
+use fare_legs::{
+    Ceiling, Floor, MOST_LONELY, MOST_RULES, NOTHING, ceiling_of, countries_of, fares_of_two,
+    legs_behind, lonely_fares, number_at,
+};
 use fare_rules::MOST_POINTS;
 
 /// What is behind each point of a trip at least until a unit comes home that stands in the city of one point.

@@ -10,7 +10,7 @@ ghost use Rattle.fare_legs.specs.Barred.{is_of_rule};
 ghost use Rattle.fare_homing.specs.Onward.{AreOnwards, next_by, next_set, no_onward};
 
 use fare_codes::RuleId;
-use fare_legs::{MOST_RULES, MOST_SETS, Floor, is_of_rule};
+use fare_legs::{Floor, MOST_RULES, MOST_SETS, is_of_rule};
 use fare_rules::MOST_POINTS;
 use fare_tariff::Edition;
 

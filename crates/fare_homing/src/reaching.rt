@@ -6,7 +6,7 @@ ghost use Rattle.fare_legs.specs.Costs.{IsUpTo};
 ghost use Rattle.fare_homing.specs.HomingRows.{IsUnderBoth};
 ghost use Rattle.fare_homing.specs.Rows.{cell};
 
-use fare_legs::{NOTHING, Floor, added, lesser, number_at};
+use fare_legs::{Floor, NOTHING, added, lesser, number_at};
 use fare_rules::MOST_POINTS;
 
 /// A row whose numbers are lowered to a step with what is behind it.

@@ -10,7 +10,7 @@ use crate::homing::Homing;
 use crate::reaching::least_onward;
 use crate::whole::wholes_at;
 use fare_component::Table;
-use fare_legs::{NOTHING, Floor, legs_behind};
+use fare_legs::{Floor, NOTHING, legs_behind};
 use fare_rules::MOST_POINTS;
 
 /// What is behind each point of a trip at least where no unit is open, and units that begin there have none of the

@@ -19,7 +19,7 @@ use crate::homing::{Homing, Standing};
 use crate::reaching::lowered_by;
 use fare_codes::Country;
 use fare_component::Table;
-use fare_legs::{NOTHING, Floor, LegRows, owed_from, raised};
+use fare_legs::{Floor, LegRows, NOTHING, owed_from, raised};
 use fare_rules::MOST_POINTS;
 
 /// A unit that goes on: the point in whose city it stands, and the one behind which its next part comes.

@@ -16,7 +16,7 @@ ghost use Rattle.fare_legs.specs.Countries.{AreCountries};
 use crate::between::{Start, lie_together};
 use crate::homing::{Homing, begun_from, jaw_from};
 use fare_component::Table;
-use fare_legs::{NOTHING, Floor, Pairing, added, least_pair, lesser, number_at};
+use fare_legs::{Floor, NOTHING, Pairing, added, least_pair, lesser, number_at};
 use fare_rules::MOST_POINTS;
 
 /// What one unit costs at least that begins at a point and ends at another: one part alone, or half round trips, by

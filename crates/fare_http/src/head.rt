@@ -8,8 +8,8 @@ ghost use Rattle.fare_http.specs.Heads.{Takes, IsOverLimit, EndsEarly, head_faul
 
 use crate::piece::{NoPiece, read_piece};
 use fare_ports::Door;
-use httparse::{Error, Status};
 use httparse::spans::{HeaderSpan, RequestSpans, parse_request};
+use httparse::{Error, Status};
 use std::alloc::Global;
 
 /// The most bytes of a head.

@@ -8,10 +8,10 @@ ghost use Rattle.fare_http.specs.Heads.{Takes, IsOverLimit, EndsEarly};
 ghost use Rattle.fare_http.specs.Requests.{IsWhole, Announces, EndsInBody};
 ghost use Rattle.fare_http.specs.declared.request.NoRequest.TheVariants.{Memory, Head, Length, Body};
 
-use crate::{MOST_FIELDS, BodyFault, NoHead, PathText, read_head};
 use crate::body::read_body;
 use crate::piece::NoPiece;
 use crate::request_parts::{announced_length, begun_body, method_of, path_text};
+use crate::{BodyFault, MOST_FIELDS, NoHead, PathText, read_head};
 use fare_ports::{Bytes, Door, NoMemory};
 use http::Method;
 use httparse::spans::EMPTY_HEADER_SPAN;

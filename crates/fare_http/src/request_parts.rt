@@ -3,8 +3,8 @@ ghost use Rattle.httparse.specs.Grammar.{RequestHead};
 ghost use Rattle.httparse.specs.Spans.{IsRequestWithin, IsRequestOf, IsRequestAt};
 ghost use Rattle.fare_http.specs.Requests.{announced, path_of};
 
-use crate::{BodyFault, Head, PathText, body_length};
 use crate::head_method::head_method;
+use crate::{BodyFault, Head, PathText, body_length};
 use fare_ports::NoMemory;
 use http::Method;
 use httparse::spans::HeaderSpan;

@@ -3,8 +3,8 @@ ghost use Rattle.fare_ports.specs.Cause.{Rose};
 ghost use Rattle.fare_http.specs.Answers.{answer_bytes, reply_bytes, status_line};
 ghost use Rattle.fare_http.specs.Sending.{sent_more, Sends, SendsPrefix, SentPrefix};
 
-use crate::{Reply, Status};
 use crate::send_all::send_all;
+use crate::{Reply, Status};
 use fare_ports::{Door, Failed};
 use itoa::Buffer;
 

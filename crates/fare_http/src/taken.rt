@@ -4,7 +4,9 @@ ghost use Rattle.fare_http.specs.Heads.{Takes};
 ghost use Rattle.fare_http.specs.Requests.{IsWhole};
 ghost use Rattle.fare_http.specs.Refusals.{IfWhole, IfFixed, OnCut, IsRefused, EndsInside, IsFixed};
 
-use crate::{Allow, BodyFault, Form, NoHead, NoPiece, NoRequest, Reply, Request, Status, read_whole};
+use crate::{
+    Allow, BodyFault, Form, NoHead, NoPiece, NoRequest, Reply, Request, Status, read_whole,
+};
 use fare_ports::{Bytes, Door, NoMemory};
 use std::alloc::Global;
 

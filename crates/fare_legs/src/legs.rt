@@ -8,7 +8,7 @@ ghost use Rattle.fare_legs.specs.Costs.{half_cost, single_cost};
 ghost use Rattle.fare_legs.specs.Legs.{AreLeastOf, AreLegsBehind, AreLegsOf};
 
 use crate::barred::{is_barred, unless};
-use crate::floor::{NOTHING, Floor, lesser};
+use crate::floor::{Floor, NOTHING, lesser};
 use fare_bounds::begin_after;
 use fare_component::{Amount, Entry, Table};
 use fare_rules::MOST_POINTS;

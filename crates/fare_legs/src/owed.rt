@@ -10,7 +10,7 @@ ghost use Rattle.fare_legs.specs.Costs.{IsUpTo, is_same_city};
 ghost use Rattle.fare_legs.specs.Least.{IsUnderEach};
 ghost use Rattle.fare_legs.specs.Owed.{AreOwed, owed_above, owed_by, reference_over};
 
-use crate::floor::{NOTHING, Floor, greater, lesser, number_at};
+use crate::floor::{Floor, NOTHING, greater, lesser, number_at};
 use crate::legs::half_cost;
 use fare_codes::{Indicator, Nuc};
 use fare_component::{Entry, Table};

@@ -18,7 +18,7 @@ use crate::calls::Calls;
 use crate::plain_source::PlainSource;
 use crate::room::Room;
 use arrayvec::ArrayVec;
-use fare_ports::{MOST_HELD, Bodies, Door, Failed, NoMemory, raised};
+use fare_ports::{Bodies, Door, Failed, MOST_HELD, NoMemory, raised};
 use std::alloc::Global;
 use std::collections::VecDeque;
 use std::marker::Model;

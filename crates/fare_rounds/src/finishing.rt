@@ -3,7 +3,7 @@ ghost use Rattle.fare_rounds.specs.Finishing.{Answered, Answers, InTurn, cut_cou
 
 use crate::{Counts, Entry, Round};
 use fare_http::{Handler, send};
-use fare_ports::{MOST_HELD, Door};
+use fare_ports::{Door, MOST_HELD};
 use std::alloc::Global;
 use std::thread::Threads;
 

@@ -7,7 +7,7 @@ ghost use Rattle.fare_rounds.specs.Taking.{RoseBy, TakesEach, with_lists};
 
 use crate::{Counts, DoorEnd, Round, take_round};
 use fare_http::Handler;
-use fare_ports::{MOST_HELD, Door};
+use fare_ports::{Door, MOST_HELD};
 use std::alloc::Global;
 use std::thread::Threads;
 

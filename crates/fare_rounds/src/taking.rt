@@ -7,7 +7,7 @@ ghost use Rattle.fare_rounds.specs.Taking.{Arrival, Gathers, TakesNone, TakesOne
 
 use crate::{DoorEnd, Entry, Round};
 use fare_http::read_request;
-use fare_ports::{MOST_HELD, Door, Failed};
+use fare_ports::{Door, Failed, MOST_HELD};
 use std::alloc::Global;
 
 /// Takes the connections of a round, at most `most` of them: the first one, and each further one that is known to wait.

@@ -19,7 +19,10 @@ ghost use Rattle.fare_run.specs.Serve.{ServesCommand};
 
 use crate::serve::serve;
 use fare_changes::Watch;
-use fare_commands::{Comparison, Context, Exit, Outcome, Question, check, compare, diff, drill, export, list, migrate, price, publish, stored_quote};
+use fare_commands::{
+    Comparison, Context, Exit, Outcome, Question, check, compare, diff, drill, export, list,
+    migrate, price, publish, stored_quote,
+};
 use fare_ports::{Door, Keeper, Source};
 use fare_serve::Service;
 use fare_split::{SplitQuoter, Turnstile};

@@ -13,7 +13,7 @@ ghost use Rattle.fare_run.specs.Serve.{ServesStore};
 
 use fare_codes::MOST_WORKERS;
 use fare_commands::{Context, Exit, Outcome, book_of};
-use fare_ports::{MOST_HELD, Door, Keeper};
+use fare_ports::{Door, Keeper, MOST_HELD};
 use fare_serve::{ServeFault, Service, serve as serve_book};
 use std::thread::Threads;
 

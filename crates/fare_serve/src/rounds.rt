@@ -7,7 +7,7 @@ ghost use Rattle.fare_rounds.specs.Rounds.{Exchanged};
 ghost use Rattle.fare_serve.specs.Service.{AreRounds, IsNextRound, door_state, standing};
 
 use crate::Service;
-use fare_ports::{MOST_HELD, Door};
+use fare_ports::{Door, MOST_HELD};
 use fare_rounds::{Counts, DoorEnd, RoundHandler, serve_round};
 use std::alloc::Global;
 use std::cmp::min;

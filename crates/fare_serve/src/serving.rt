@@ -5,13 +5,13 @@ ghost use Rattle.fare_ports.specs.Cause.{Rose};
 ghost use Rattle.fare_serve.specs.Desk.{ServesBook, world_of};
 ghost use Rattle.fare_serve.specs.Service.{ServesPort, door_state, summary};
 
-use crate::{ServeFault, ServedDesk, Service};
 use crate::rounds::serve_rounds;
+use crate::{ServeFault, ServedDesk, Service};
 use fare_book::Book;
 use fare_codes::{MOST_WORKERS, number_text};
 use fare_counter::CounterRoutes;
 use fare_desk::Routes;
-use fare_ports::{MOST_HELD, Door, Failed, Keeper};
+use fare_ports::{Door, Failed, Keeper, MOST_HELD};
 use fare_rounds::{Counts, DoorEnd, RoundHandler};
 use fare_split::SplitQuoter;
 use std::alloc::Global;

@@ -5,11 +5,11 @@ ghost use Rattle.std.specs.Prelude.{◌≡◌, ◌≤◌};
 ghost use Rattle.fare_branch.specs.declared.bound.TheConstants.{NO_PRICE};
 ghost use Rattle.fare_split.specs.PriceWord.{floor_of};
 
-use crate::{Prepared, SplitQuoter};
 use crate::lane::{Lane, Named};
 use crate::opening::opened;
 use crate::word::{Copies, Seat, Word};
-use fare_branch::{NO_PRICE, Bound};
+use crate::{Prepared, SplitQuoter};
+use fare_branch::{Bound, NO_PRICE};
 use fare_component::Table;
 use fare_drill::drill_input;
 use fare_ports::{Gate, OpenGate};

@@ -8,8 +8,8 @@ ghost use Rattle.fare_ports.specs.Keeper.{BodiesStay, BodyAppended, BodyReplaced
 ghost use Rattle.fare_ports.specs.Keeper.{ToldAfter, WhereTold, first_name};
 ghost use Rattle.fare_sqlite.specs.Kept.{LeavesJust, LeavesOr, kept};
 
-use crate::{statements, table};
 use crate::count::counted;
+use crate::{statements, table};
 use fare_ports::{FirstName, KeepFault, Keeper};
 use sqlite::{Alter, Connection};
 use std::alloc::Global;

@@ -10,8 +10,8 @@ ghost use Rattle.fare_ports.specs.Keeper.{BodiesStay, BodyAppended, BodyReplaced
 ghost use Rattle.fare_ports.specs.Keeper.{ToldAfter, body_at};
 ghost use Rattle.fare_sqlite.specs.Kept.{HasTable, IsSettled, LeavesJust, LeavesOr, Speaks, Stays, kept, rows_of};
 
-use crate::statements;
 use crate::form::{holds_editions_alone, is_blank};
+use crate::statements;
 use fare_ports::KeepFault;
 use sqlite::{Alter, Connection};
 

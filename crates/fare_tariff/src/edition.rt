@@ -6,8 +6,8 @@ ghost use Rattle.fare_tariff.specs.Lookup.{fare_at};
 ghost use Rattle.fare_records.specs.Record.{FareRecord};
 
 use crate::check::{CheckFault, first_fault};
-use fare_codes::{LAST_EDITION, Day};
-use fare_records::{MOST_RECORDS, Filed, Record};
+use fare_codes::{Day, LAST_EDITION};
+use fare_records::{Filed, MOST_RECORDS, Record};
 use std::alloc::Global;
 use std::marker::Model;
 use std::thread::Threads;

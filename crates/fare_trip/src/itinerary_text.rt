@@ -13,7 +13,7 @@ use crate::place::Place;
 use crate::sector::Sector;
 use crate::trip::{Trip, carried};
 use arrayvec::ArrayVec;
-use fare_codes::{MOST_SECTORS, City, Day};
+use fare_codes::{City, Day, MOST_SECTORS};
 use fare_ports::NoMemory;
 use serde_json::Value;
 use std::alloc::Global;

@@ -17,7 +17,10 @@ use fare_calc::{Priced, Sheets, line_by};
 use fare_component::Table;
 use fare_line::print_line;
 use fare_ports::NoMemory;
-use fare_relaxed::{Term, asks, lawful_stays_lawful, price_stays_the_same, relaxed, rules_are_in_range, unasked_stays_the_same};
+use fare_relaxed::{
+    Term, asks, lawful_stays_lawful, price_stays_the_same, relaxed, rules_are_in_range,
+    unasked_stays_the_same,
+};
 use fare_rules::Broken;
 use fare_tariff::Edition;
 use fare_trip::Trip;

@@ -10,8 +10,8 @@ use crate::asked::Asked;
 use crate::reason::Reason;
 use fare_ports::NoMemory;
 use fare_relaxed::Term;
-use std::thread;
 use std::alloc::Global;
+use std::thread;
 use std::thread::Threads;
 
 /// What finds the best construction of a trip, and how many of the searches for the best without a kind of condition

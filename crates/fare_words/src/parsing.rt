@@ -5,8 +5,8 @@ ghost use Rattle.clap.specs.declared.error.kind.ErrorKind.TheVariants.{OutOfMemo
 ghost use Rattle.clap.specs.Words.{app_of, found_of, is_simple_and_free, rows_of};
 ghost use Rattle.fare_words.specs.Options.{options_of};
 
-use clap::{ArgMatches, Command as Definition};
 use clap::error::ErrorKind;
+use clap::{ArgMatches, Command as Definition};
 use fare_ports::NoMemory;
 
 /// What the definition finds in the words after the first; nothing where it doesn't take them.

@@ -11,10 +11,10 @@ use fare_run::{Exit, fault_text, run};
 use fare_split::Turnstile;
 use fare_sqlite::{FileKeeper, FoundFile, Wary};
 use progress::Progress;
-use std::{env, io};
 use std::io::{ErrorKind, Write};
 use std::process::ExitCode;
 use std::thread::Threads;
+use std::{env, io};
 
 fn main(rt: HostRuntime) -> ExitCode {
     let exit = match words_after_the_first(&rt) {

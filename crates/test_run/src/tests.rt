@@ -9,13 +9,13 @@ mod tariffs;
 mod telling;
 mod workers;
 
-use cases::{Quotation, Refusal};
 use cases::allowances::ALLOWANCES;
 use cases::mileage::MILEAGE;
 use cases::one_sector::ONE_SECTOR;
 use cases::points::POINTS;
 use cases::refusals::REFUSALS;
 use cases::units::UNITS;
+use cases::{Quotation, Refusal};
 use fare_changes::Unwatched;
 use fare_outside::{MemSink, MemSource, PlainDoor, PlainKeeper, PlainSink, PlainSource};
 use fare_ports::{Bodies, Door, Keeper, Sink, Source};

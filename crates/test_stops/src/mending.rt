@@ -3,7 +3,7 @@
 
 ghost use Rattle.std.specs.Prelude.{IsTrue, None};
 
-use crate::tests::{MOST_CALLS, Database};
+use crate::tests::{Database, MOST_CALLS};
 use fare_book::{Book, PublishFault, Published};
 use fare_ports::{KeepFault, Keeper};
 use fare_sqlite::{NamedKeeper, Opener, SqliteKeeper};

@@ -1,7 +1,7 @@
 //! A migration of two bodies in the former version of the text, with a stop at each call of either file, and the store
 //! opened again.
 
-use crate::tests::{MOST_CALLS, Database, Left, Stopping, crashed};
+use crate::tests::{Database, Left, MOST_CALLS, Stopping, crashed};
 use fare_book::{Book, RestoreFault};
 use fare_ports::Keeper;
 use fare_sqlite::SqliteKeeper;

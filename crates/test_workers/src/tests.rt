@@ -5,7 +5,7 @@ mod lonely_rules;
 
 ghost use Rattle.std.specs.Prelude.{◌≤◌};
 
-use cases::{CASES, IN_ONE_COUNTRY, Case, Input};
+use cases::{CASES, Case, IN_ONE_COUNTRY, Input};
 use fare_branch::BranchQuoter;
 use fare_codes::{LAST_SEED, MOST_WORKERS};
 use fare_csv::read_edition;
@@ -16,7 +16,9 @@ use fare_split::SplitQuoter;
 use fare_tariff::Edition;
 use fare_trip::{Trip, read_trip};
 use fare_units::{Construction, PlainQuoter, Quoter};
-use lonely_rules::{AS_MANY_RULES_AS_SECTORS, A_DEAR_FARE_BESIDES, A_SECTOR_MORE_THAN_RULES, ONE_RULE_TOO_FEW};
+use lonely_rules::{
+    A_DEAR_FARE_BESIDES, A_SECTOR_MORE_THAN_RULES, AS_MANY_RULES_AS_SECTORS, ONE_RULE_TOO_FEW,
+};
 use std::alloc::Global;
 use std::process::Abort;
 use std::test::Fail;

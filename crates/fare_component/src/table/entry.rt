@@ -11,7 +11,9 @@ use crate::table::bases::base_by;
 use crate::table::forms::Forms;
 use crate::table::references::References;
 use fare_codes::{FARE_LIMIT, Nuc};
-use fare_conditions::{Component, Priced, Span, amount_from, is_half_round_trip, suits_span, terms_allow};
+use fare_conditions::{
+    Component, Priced, Span, amount_from, is_half_round_trip, suits_span, terms_allow,
+};
 use fare_ports::NoMemory;
 use fare_rules::Amount;
 use fare_tariff::{FareRec, fare_of_a_day_is_one};

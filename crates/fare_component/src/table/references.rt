@@ -8,7 +8,7 @@ ghost use Rattle.fare_rules.specs.Terms.{terms_of_fare};
 ghost use Rattle.fare_component.specs.declared.table.references.Form.{Form};
 ghost use Rattle.fare_component.specs.References.{AreReferences, IsOfForm, IsReach, IsReference, kept_at, reference_of};
 
-use fare_codes::{FARE_LIMIT, Day, Nuc};
+use fare_codes::{Day, FARE_LIMIT, Nuc};
 use fare_conditions::{Priced, terms_of_fare};
 use fare_points::reference;
 use fare_records::same_rules;

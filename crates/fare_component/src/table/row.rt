@@ -2,7 +2,7 @@ ghost use Rattle.std.specs.Prelude.{◌≡◌, ◌≤◌, [], length, slice_inde
 ghost use Rattle.fare_component.specs.References.{AreForms};
 ghost use Rattle.fare_component.specs.Table.{IsInBounds, row_of};
 
-use crate::table::entries::{MOST_ENTRIES, Entries, entries_of};
+use crate::table::entries::{Entries, MOST_ENTRIES, entries_of};
 use crate::table::entry::Entry;
 use crate::table::forms::Forms;
 use fare_conditions::Priced;

@@ -1,17 +1,17 @@
 ghost use Rattle.std.specs.Prelude.{⊤};
 
+use super::tests::{dialed, listening, taken};
+use super::*;
 use fare_http::{Allow, Exchange, Form, Handler, Reply, Status, exchange, send};
 use fare_ports::{Bytes, NoMemory};
 use http::Method;
-use std::thread;
 use std::alloc::Global;
 use std::io::{Read, Write};
 use std::net::TcpStream;
 use std::test::Fail;
+use std::thread;
 use std::thread::Threads;
 use std::time::Duration;
-use super::*;
-use super::tests::{dialed, listening, taken};
 
 /// A piece of a slow peer, and how many of them it reads at most.
 const SLOW_PIECE: usize = 32_768;

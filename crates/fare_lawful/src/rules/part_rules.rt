@@ -16,7 +16,10 @@ use crate::parts::direction::is_back;
 use crate::parts::fares::fare_of;
 use crate::parts::places::{end_of, start_of};
 use crate::rules::first::first_that;
-use fare_conditions::{advance_holds, covers_cabins, covers_carriers, excess_holds, has_indicator, holds_surface, in_season, mileage_holds, repeats_city, runs_between, stops_hold, transfers_hold};
+use fare_conditions::{
+    advance_holds, covers_cabins, covers_carriers, excess_holds, has_indicator, holds_surface,
+    in_season, mileage_holds, repeats_city, runs_between, stops_hold, transfers_hold,
+};
 use fare_rules::Part;
 use fare_tariff::{Edition, FareRec};
 use fare_trip::Trip;

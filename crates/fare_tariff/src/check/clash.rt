@@ -11,7 +11,7 @@ ghost use Rattle.fare_records.specs.Keyed.{has_own_key, own_key};
 use crate::check::keys::{before, key_of};
 use crate::look_up::{Sought, is_sought};
 use fare_codes::Season;
-use fare_records::{MOST_FARES_BETWEEN, FareKey, Filed, Record};
+use fare_records::{FareKey, Filed, MOST_FARES_BETWEEN, Record};
 
 /// Whether a fare before a place has a key and a season that overlaps a season, or as many fares before the place as
 /// there may be have the cities and the indicator of the key. The first fare with these is at a place that is known.

@@ -12,7 +12,7 @@ use crate::check::clash::{clash_at, clash_from};
 use crate::check::names::names_unknown;
 use crate::check::numbers::{has_same_points, is_zero_mileage};
 use crate::check::seen::Seen;
-use fare_records::{MOST_RECORDS, Filed, Record};
+use fare_records::{Filed, MOST_RECORDS, Record};
 use rayon::prelude::*;
 use std::marker::Sync;
 use std::thread::Threads;

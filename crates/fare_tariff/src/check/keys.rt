@@ -5,7 +5,7 @@ ghost use Rattle.fare_tariff.specs.Check.{key_of, has_key_of, first_number, over
 ghost use Rattle.fare_records.specs.Keyed.{before};
 
 use crate::look_up::{Sought, first_fare, number_at};
-use fare_records::{MOST_PLACES, FareKey, FareRec, Filed, Record, own_key};
+use fare_records::{FareKey, FareRec, Filed, MOST_PLACES, Record, own_key};
 
 /// The key of a filed fare without its season.
 pub(crate) fn key_of(fare: &FareRec) -> FareKey

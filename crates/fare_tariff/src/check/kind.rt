@@ -4,13 +4,15 @@ ghost use Rattle.std.specs.Prelude.{◌≡◌, ◌<◌, ◌≤◌, length, slice
 ghost use Rattle.fare_tariff.specs.Check.{kind_of, first_fault};
 ghost use Rattle.fare_tariff.specs.Faulty.{is_faulty, has_kind_at, fault_of, first_faulty};
 
-use crate::check::{CheckFault, CheckKind};
 use crate::check::clash::clash_at;
 use crate::check::clear::is_clear;
 use crate::check::keys::{duplicate_of, overlap_of};
-use crate::check::names::{names_unknown, names_unknown_city, names_unknown_currency, names_unknown_rule};
+use crate::check::names::{
+    names_unknown, names_unknown_city, names_unknown_currency, names_unknown_rule,
+};
 use crate::check::numbers::{has_same_points, is_one_too_many, is_zero_mileage};
-use fare_records::{MOST_PLACES, MOST_RECORDS, Filed, Record};
+use crate::check::{CheckFault, CheckKind};
+use fare_records::{Filed, MOST_PLACES, MOST_RECORDS, Record};
 use rayon::prelude::*;
 use std::marker::Sync;
 use std::thread::Threads;

@@ -5,7 +5,7 @@ ghost use Rattle.fare_tariff.specs.Check.{is_one_too_many, has_same_points, is_z
 
 use crate::check::keys::before;
 use crate::look_up::nth_place;
-use fare_records::{MOST_FARES_BETWEEN, Filed, Record};
+use fare_records::{Filed, MOST_FARES_BETWEEN, Record};
 
 /// Whether as many of the records before a place as there may be are fares with the from, to and indicator of a fare.
 #[tactic(auto, using(crate::proofs::Places::too_many))]

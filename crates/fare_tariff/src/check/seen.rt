@@ -6,7 +6,7 @@ ghost use Rattle.fare_tariff.specs.Seen.{bucket_of, class_number, kind_number, m
 ghost use Rattle.fare_tariff.specs.Seen.{rule_number};
 
 use fare_codes::{Cabin, Carrier, Kind, RuleId};
-use fare_records::{MOST_FARES_BETWEEN, FareRec, Record, spelled_rule};
+use fare_records::{FareRec, MOST_FARES_BETWEEN, Record, spelled_rule};
 
 /// How many buckets there are: a prime, so that each character of a rule's id counts.
 const BUCKETS: usize = 61;

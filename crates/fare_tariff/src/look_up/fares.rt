@@ -9,9 +9,11 @@ ghost use Rattle.fare_tariff.specs.Lookup.{fare_number, fare_at, nth_fare, next_
 
 use crate::edition::Edition;
 use crate::look_up::seek::{Sought, first_fare};
-use fare_codes::{FARE_LIMIT, City, Indicator, MonthDay};
+use fare_codes::{City, FARE_LIMIT, Indicator, MonthDay};
 use fare_index::Key;
-use fare_records::{MOST_FARES_BETWEEN, MOST_PLACES, MOST_RECORDS, FareKey, FareRec, Filed, Record, same_rules};
+use fare_records::{
+    FareKey, FareRec, Filed, MOST_FARES_BETWEEN, MOST_PLACES, MOST_RECORDS, Record, same_rules,
+};
 
 impl Edition {
     /// The record number of the fare with this key whose season holds a day; nothing means that no record has the key

@@ -7,7 +7,7 @@ ghost use Rattle.fare_records.specs.Keyed.{extra_miles};
 use crate::edition::Edition;
 use fare_codes::{City, Indicator};
 use fare_index::Key;
-use fare_records::{MOST_MILES, Filed, Record, same_pairs};
+use fare_records::{Filed, MOST_MILES, Record, same_pairs};
 
 impl Edition {
     /// The maximum permitted mileage of an unordered pair of cities and an indicator; nothing means that no record has

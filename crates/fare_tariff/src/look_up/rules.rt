@@ -11,7 +11,7 @@ ghost use Rattle.fare_records.specs.Fields.{same_rule};
 use crate::edition::Edition;
 use fare_codes::RuleId;
 use fare_index::Key;
-use fare_records::{MOST_STOPS, MOST_TRANSFERS, Filed, Names, Record, RuleRec, Terms, same_rules};
+use fare_records::{Filed, MOST_STOPS, MOST_TRANSFERS, Names, Record, RuleRec, Terms, same_rules};
 
 impl Edition {
     /// The terms of a rule field; nothing means that the rule isn't filed.

@@ -11,7 +11,9 @@ ghost use Rattle.fare_units.specs.Onward.{is_stranded, is_homeward};
 
 use crate::prices::shut::is_shut;
 use fare_codes::City;
-use fare_lawful::{MOST_PARTS, end_of, heads_home, is_open_jaw, lie_together, origin, own, unit_of};
+use fare_lawful::{
+    MOST_PARTS, end_of, heads_home, is_open_jaw, lie_together, origin, own, unit_of,
+};
 use fare_rules::Part;
 use fare_tariff::Edition;
 use fare_trip::Trip;

@@ -17,9 +17,12 @@ ghost use Rattle.fare_lawful.specs.Shut.{lacks_amount};
 use crate::prices::circle::unit_circle_minimum;
 use fare_codes::Nuc;
 use fare_component::{Table, applicable};
-use fare_lawful::{MOST_PARTS, closes, end_of, fare_of, first_of, greatest_unit, holds_ow, is_back_in, is_open_jaw, is_ow, own, part_at, start_of};
+use fare_lawful::{
+    MOST_PARTS, closes, end_of, fare_of, first_of, greatest_unit, holds_ow, is_back_in,
+    is_open_jaw, is_ow, own, part_at, start_of,
+};
 use fare_points::backhaul;
-use fare_rules::{MOST_AMOUNT, Amount, Part, UnitKind, UnitSheet};
+use fare_rules::{Amount, MOST_AMOUNT, Part, UnitKind, UnitSheet};
 use fare_tariff::Edition;
 use fare_trip::Trip;
 

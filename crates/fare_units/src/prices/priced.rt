@@ -9,7 +9,7 @@ use crate::construction::Construction;
 use crate::prices::price::price;
 use fare_component::Table;
 use fare_lawful::{MOST_PARTS, first_broken};
-use fare_rules::{PRICE_LIMIT, Broken, Part, edition_is_valid, price_is_bounded};
+use fare_rules::{Broken, PRICE_LIMIT, Part, edition_is_valid, price_is_bounded};
 use fare_tariff::Edition;
 use fare_trip::Trip;
 

@@ -1,6 +1,9 @@
 //! Books over keepers in memory, for texts known from outside.
 
-use fare_book::{Book, Damage, PublishFault, Published, RestoreFault, bodies_in_words, repeat_is_already, selected_is_latest};
+use fare_book::{
+    Book, Damage, PublishFault, Published, RestoreFault, bodies_in_words, repeat_is_already,
+    selected_is_latest,
+};
 use fare_codes::Day;
 use fare_csv::{TextFault, edition_text, read_edition};
 use fare_outside::{FailAt, MemKeeper, PlainKeeper};

@@ -2,6 +2,8 @@
 
 ghost use Rattle.std.specs.Prelude.{◌≤◌};
 
+use super::sources::{LongSource, Source, input_of};
+use super::{few, long};
 use fare_codes::MOST_WORKERS;
 use fare_ports::OpenGate;
 use fare_rules::Part;
@@ -13,8 +15,6 @@ use std::alloc::Global;
 use std::process::Abort;
 use std::test::Fail;
 use std::thread::Threads;
-use super::{few, long};
-use super::sources::{LongSource, Source, input_of};
 
 /// A construction with its price, where there is one.
 type Answer = Option<(Construction, u64)>;

@@ -4,8 +4,8 @@ use fare_ports::{KeepFault, Keeper};
 use fare_sqlite::*;
 use sqlite::{Connection, Error, MemStore};
 use sqlite_disk::Wary;
-use std::fs;
 use std::alloc::Global;
+use std::fs;
 use std::process::Abort;
 use std::test::Fail;
 

@@ -2,6 +2,11 @@
 
 ghost use Rattle.std.specs.Prelude.{◌≡◌, [], IfOk};
 
+use super::cases::Served;
+use super::cases::rounds::{APART, TOGETHER};
+use super::cases::serving::{DOORS, ROUNDS, STORES};
+use super::stores::failing;
+use super::{Outside, ended_at};
 use fare_outside::{MemDoor, PlainSink, PlainSource};
 use fare_ports::Bodies;
 use fare_split::Turnstile;
@@ -9,11 +14,6 @@ use std::alloc::Global;
 use std::process::Abort;
 use std::test::Fail;
 use std::thread::Threads;
-use super::{Outside, ended_at};
-use super::cases::Served;
-use super::cases::rounds::{APART, TOGETHER};
-use super::cases::serving::{DOORS, ROUNDS, STORES};
-use super::stores::failing;
 
 /// A door of connections, with calls that fail.
 fn door_of(alloc: Global, connections: &[&[u8]], fail: &[u32]) -> Result<MemDoor, Fail>

@@ -1,5 +1,12 @@
 //! The commands with a store, over keepers in memory.
 
+use super::cases::best::BEST;
+use super::cases::keepers::KEPT;
+use super::cases::migrations::{FORMER, MIGRATED, ONE_FORMER};
+use super::cases::steps::{FAILURES, ONE_EDITION, REFUSED_SOURCES, THREE_EDITIONS};
+use super::cases::{Failure, Kept, Step};
+use super::tariffs::{END, HEAD_1, MILES, PLACES, THROUGH, TWO_PLACES};
+use super::{Outside, ended, ended_over, joined};
 use fare_outside::{FailAt, MemKeeper, MemSink, MemSource, PlainKeeper, PlainSink, PlainSource};
 use fare_ports::{Bodies, Keeper};
 use fare_run::fault_text;
@@ -8,13 +15,6 @@ use std::alloc::Global;
 use std::process::Abort;
 use std::test::Fail;
 use std::thread::Threads;
-use super::{Outside, ended, ended_over, joined};
-use super::cases::{Failure, Kept, Step};
-use super::cases::best::BEST;
-use super::cases::keepers::KEPT;
-use super::cases::migrations::{FORMER, MIGRATED, ONE_FORMER};
-use super::cases::steps::{FAILURES, ONE_EDITION, REFUSED_SOURCES, THREE_EDITIONS};
-use super::tariffs::{END, HEAD_1, MILES, PLACES, THROUGH, TWO_PLACES};
 
 /// Compares what a command writes, or ends in, with what it is to.
 fn goes<R: Threads + Sync + Abort, P: Keeper>(

@@ -1,5 +1,11 @@
 //! Answers for programs, the faults of tariffs, what changed between editions, and what would make trips cheaper.
 
+use super::cases::Told;
+use super::cases::checks::{CHECKS, COMPARISONS, DIFFERENCES};
+use super::cases::programs::{ANSWERS, Barred, FAULTS, KINDS, OUTSIDE, REASONS};
+use super::stores::fails;
+use super::tariffs::{END, MILES, PLACES, WORLD, WORLD_FARES};
+use super::{Outside, ended, ended_over, joined};
 use fare_outside::{PlainKeeper, PlainSink, PlainSource};
 use fare_ports::{Bodies, Keeper};
 use fare_run::fault_text;
@@ -8,12 +14,6 @@ use std::alloc::Global;
 use std::process::Abort;
 use std::test::Fail;
 use std::thread::Threads;
-use super::{Outside, ended, ended_over, joined};
-use super::cases::Told;
-use super::cases::checks::{CHECKS, COMPARISONS, DIFFERENCES};
-use super::cases::programs::{ANSWERS, FAULTS, KINDS, OUTSIDE, REASONS, Barred};
-use super::stores::fails;
-use super::tariffs::{END, MILES, PLACES, WORLD, WORLD_FARES};
 
 /// Compares all that comes of a command.
 fn tells<R: Threads + Sync + Abort>(rt: &R, alloc: Global, case: &Told) -> Result<(), Fail> {

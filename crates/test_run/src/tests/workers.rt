@@ -1,5 +1,9 @@
 //! The program by any number of workers: it writes the same bytes.
 
+use super::cases::Quotation;
+use super::cases::points::POINTS;
+use super::cases::units::UNITS;
+use super::{Outside, ended, ended_over, joined};
 use fare_outside::{PlainKeeper, PlainSink, PlainSource};
 use fare_ports::Bodies;
 use fare_split::Turnstile;
@@ -7,10 +11,6 @@ use std::alloc::Global;
 use std::process::Abort;
 use std::test::Fail;
 use std::thread::Threads;
-use super::{Outside, ended, ended_over, joined};
-use super::cases::Quotation;
-use super::cases::points::POINTS;
-use super::cases::units::UNITS;
 
 /// Compares what words write over a source with a text.
 fn writes<R: Threads + Sync + Abort>(

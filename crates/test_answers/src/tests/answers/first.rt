@@ -1,5 +1,7 @@
 //! The texts of the first constructions of trips.
 
+use super::computed::COMPUTED;
+use super::worked::WORKED;
 use fare_answers::QuoteFault;
 use fare_book::Book;
 use fare_codes::{City, Day};
@@ -10,8 +12,6 @@ use std::alloc::Global;
 use std::process::Abort;
 use std::test::Fail;
 use std::thread::Threads;
-use super::computed::COMPUTED;
-use super::worked::WORKED;
 
 /// A trip in an edition, how many constructions are asked for, and the text.
 #[derive(Clone, Copy)]

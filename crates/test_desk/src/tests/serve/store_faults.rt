@@ -2,6 +2,7 @@
 
 ghost use Rattle.std.specs.Prelude.{Some, [], is_some};
 
+use super::door_of;
 use fare_book::Book;
 use fare_outside::{FailAt, MemKeeper, PlainKeeper};
 use fare_ports::{Bodies, FirstName, KeepFault, Keeper};
@@ -11,7 +12,6 @@ use std::alloc::Global;
 use std::process::Abort;
 use std::test::Fail;
 use std::thread::Threads;
-use super::door_of;
 
 /// Publishes an edition without a record.
 const PUBLISH: &[u8] =

@@ -1,5 +1,6 @@
 //! Quotations and first constructions over a book of one edition, to the byte.
 
+use super::worked::{FIRST, WORKED};
 use fare_book::Book;
 use fare_csv::read_edition;
 use fare_json::quote_json;
@@ -9,7 +10,6 @@ use fare_units::PlainQuoter;
 use std::alloc::Global;
 use std::test::Fail;
 use std::thread::Threads;
-use super::worked::{FIRST, WORKED};
 
 /// A trip in an edition, and the text that answers it, without the LF that ends it.
 #[derive(Clone, Copy)]

@@ -2,6 +2,7 @@
 
 ghost use Rattle.std.specs.Prelude.{⊤};
 
+use super::{NO_TEXT, door_of, reply, serve, was_sent};
 use fare_http::{Allow, Front, Handler, Reply, Status};
 use fare_ports::NoMemory;
 use fare_rounds::*;
@@ -10,7 +11,6 @@ use std::alloc::Global;
 use std::sync::atomic::{AtomicU64, Ordering};
 use std::test::Fail;
 use std::thread::Threads;
-use super::{NO_TEXT, door_of, reply, serve, was_sent};
 
 /// A front that keeps whoever asks for `/1` waiting until somebody has asked for `/2`.
 #[derive(Drop)]
