@@ -10,10 +10,11 @@ ghost use Rattle.fare_homing.specs.Rows.{begun_from, jaw_from, AreHomingsOf};
 use crate::homing::Homing;
 use crate::onward::{Onward, Onwards};
 use crate::rests::rests_without;
+use crate::rule_sets::{RuleSets, rule_sets};
 use crate::steps::is_step;
 use fare_codes::RuleId;
 use fare_component::Table;
-use fare_legs::{MOST_RULES, MOST_SETS, RuleSets, rule_sets};
+use fare_legs::{MOST_RULES, MOST_SETS};
 use fare_tariff::Edition;
 
 /// What is behind each point where the rules of some fares are barred, which leads to the first place as yet.

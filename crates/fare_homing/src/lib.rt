@@ -5,6 +5,7 @@
 //! - `whole`: what one unit costs at least that begins behind a point;
 //! - `between`: what is behind a point until a unit closes, by a part between its first and its last;
 //! - `standing`: what is behind each point until a unit comes home that stands in the city of one point;
+//! - `rule_sets`: the sets of rules that the parts before a point may bar;
 //! - `onward`: what is behind each point where no unit is open, by the fares that are barred there;
 //! - `homing`: the numbers of a trip;
 //! - `rests`: what is behind each point where no unit is open, without the fares of some rules;
@@ -20,6 +21,7 @@ mod homing;
 mod onward;
 mod reaching;
 mod rests;
+mod rule_sets;
 mod standing;
 mod steps;
 mod whole;

@@ -5,7 +5,7 @@
 //! - `limits`: how many rules, and how many sets of rules, are told apart;
 //! - `nearness`: which cities lie near each other, and the countries of a trip's points;
 //! - `barred`: fares that may not come behind some others, by their rules;
-//! - `rule_sets`: the sets of rules that the parts before a point may bar;
+//! - `rules`: the rules of a trip's fares;
 //! - `legs`: what the parts from a point cost at least, by what a part is in its unit;
 //! - `ceiling`: a price above which nothing is wanted, and which parts make a circle minimum greater;
 //! - `pairs`: what the first and the last part of a unit cost at least together;
@@ -23,7 +23,7 @@ mod lonely;
 mod nearness;
 mod owed;
 mod pairs;
-mod rule_sets;
+mod rules;
 mod threes;
 
 pub use barred::{is_among, is_barred, is_of_rule, unless};
@@ -35,5 +35,5 @@ pub use lonely::{MOST_LONELY, is_rule_of, lonely_fares, rule_at};
 pub use nearness::{are_near, countries_of};
 pub use owed::{owed_from, raised};
 pub use pairs::{Pairing, day_behind, least_pair};
-pub use rule_sets::{RuleSets, rule_sets};
+pub use rules::rules_of;
 pub use threes::fares_of_two;

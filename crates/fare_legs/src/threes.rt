@@ -11,7 +11,7 @@ ghost use Rattle.fare_legs.specs.Threes.{are_combined, is_of_three, may_follow, 
 
 use crate::barred::is_barred;
 use crate::limits::MOST_RULES;
-use crate::rule_sets::rules_of;
+use crate::rules::rules_of;
 use fare_component::Table;
 use fare_tariff::Edition;
 

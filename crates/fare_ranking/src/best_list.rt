@@ -75,7 +75,9 @@ impl BestList {
     }
 
     /// The price of the `k`th.
-    pub fn price_of(&self, k: usize) -> Option<u64> {
+    pub fn price_of(&self, k: usize) -> Option<u64>
+        ensures { result ≡ option_map (λ found. found.1) (slice_get self.now (k - 1)) }
+    {
         match self.last_wanted(k) {
             None => None,
             Some((_, price)) => Some(price),

@@ -2,57 +2,20 @@
 
 ghost use Rattle.std.specs.Prelude.{◌<◌};
 
-use crate::barred::is_among;
-use crate::limits::{MOST_RULES, MOST_SETS};
 use fare_component::Table;
+use fare_legs::{MOST_RULES, MOST_SETS, rules_of};
 use fare_tariff::Edition;
 
 /// Rules, and the sets of them that parts may bar. A set is the bits of its rules' places.
 #[derive(Clone, Copy)]
-pub struct RuleSets {
+pub(crate) struct RuleSets {
     /// A fare of each rule; 0 at the places that are free.
-    pub rules: [u32; MOST_RULES],
+    pub(crate) rules: [u32; MOST_RULES],
     /// By the place of a rule, those that don't combine end on end with it.
     clashes: [u16; MOST_RULES],
     /// The sets, of which the first is empty.
     sets: [u16; MOST_SETS],
     count: usize,
-}
-
-/// Puts a fare to some at the first free place, where there is one: if none of them has its rule.
-fn put_fare(edition: &Edition, fares: &mut [u32; MOST_RULES], number: u32) {
-    let Some(fare) = edition.fare_at(number) else {
-        return;
-    };
-    if is_among(edition, fares.as_slice(), fare.rule) {
-        return;
-    }
-    if let Some(place) = fares.iter().position(|fare| *fare == 0) {
-        fares[place] = number;
-    }
-}
-
-/// The same for the fares of a span.
-fn put_fares(table: &Table, fares: &mut [u32; MOST_RULES], a: usize, b: usize) {
-    for entry in table.entries(a, b) {
-        put_fare(table.edition(), fares, entry.fare);
-    }
-}
-
-/// The same for those of the spans from a point.
-fn put_fares_from(table: &Table, fares: &mut [u32; MOST_RULES], a: usize) {
-    for b in 0..table.trip().count() + 1 {
-        put_fares(table, fares, a, b);
-    }
-}
-
-/// A fare of each rule of a table: of as many rules as are told apart.
-pub(crate) fn rules_of(table: &Table) -> [u32; MOST_RULES] {
-    let mut fares = [0; MOST_RULES];
-    for a in 0..table.trip().count() {
-        put_fares_from(table, &mut fares, a);
-    }
-    fares
 }
 
 /// The set of one rule.
@@ -126,17 +89,17 @@ impl RuleSets {
     }
 
     /// How many sets there are.
-    pub fn count(&self) -> usize {
+    pub(crate) fn count(&self) -> usize {
         self.count
     }
 
     /// Whether the rules combine end on end with each other, and each with itself.
-    pub fn bar_nothing(&self) -> bool {
+    pub(crate) fn bar_nothing(&self) -> bool {
         self.clashes.iter().all(|set| *set == 0)
     }
 
     /// A fare of each rule of a set; 0 at the places that are free.
-    pub fn fares(&self, set: usize) -> [u32; MOST_RULES]
+    pub(crate) fn fares(&self, set: usize) -> [u32; MOST_RULES]
         requires { set < MOST_SETS }
     {
         let mut fares = [0; MOST_RULES];
@@ -151,7 +114,7 @@ impl RuleSets {
     }
 
     /// The place of the set behind a part of a rule, by that of the set before it; the same where it isn't there.
-    pub fn behind(&self, set: usize, place: usize) -> usize
+    pub(crate) fn behind(&self, set: usize, place: usize) -> usize
         requires set { set < MOST_SETS }
         requires place { place < MOST_RULES }
         ensures { result < MOST_SETS }
@@ -165,7 +128,7 @@ impl RuleSets {
 }
 
 /// The sets of rules that parts of a trip may bar.
-pub fn rule_sets(table: &Table) -> RuleSets {
+pub(crate) fn rule_sets(table: &Table) -> RuleSets {
     let rules = rules_of(table);
     let mut sets = RuleSets {
         rules,
