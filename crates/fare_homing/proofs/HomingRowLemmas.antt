@@ -22,6 +22,7 @@ use Rattle.fare_homing.specs.HomingRows.{AreClosings, AreJaws, AreNext, AreWhole
 use Rattle.fare_legs.specs.Floor.{added}
 use Rattle.fare_legs.specs.Least.{IsUnderEach}
 use Rattle.fare_legs.specs.Countries.{country_at, heads_in, AreCountries}
+use Rattle.fare_legs.proofs.CountryLemmas.{heads_same}
 use Rattle.fare_legs.proofs.ReachLemmas.{added_up, up_first, up_more, up_second}
 
 true_false : true ≡ false → ⊥
