@@ -1,7 +1,7 @@
 -- what was found begins in the piece
 use Rattle.std.specs.Prelude.{IfSome}
 use Rattle.fare_branch.specs.Dive.{StartsIn}
-use Rattle.fare_branch.proofs.diving.first_step.Given as goal
+use Rattle.fare_branch.proofs.diving.least_by_choices.Given as goal
 
 abbrev pub invariant-loop-number : goal.invariant-loop-number
-invariant-loop-number l = IfSome l.found (StartsIn l.fn.table l.fn.piece)
+invariant-loop-number l = IfSome l.found (StartsIn l.fn.stage.table.now l.fn.piece)
