@@ -40,10 +40,10 @@ speed: program
 try-store: program
 	examples/try-store $(PROGRAM)
 
-# JOBS crates are proved at a time; one `rt run` alone would prove them one after the other.
+# JOBS of the crates below the program are proved at a time; one `rt run` alone would prove them one after the other.
 program: $(PROGRAM)
 
 $(PROGRAM): $(SOURCES)
-	rt all check --jobs $(JOBS)
+	cd crates/fares && rt all check --jobs $(JOBS)
 	cd crates/fares && rt run fares -- price < $(abspath examples/london-rome.txt) > /dev/null
 	install -D crates/fares/out/fares $(PROGRAM)

@@ -118,7 +118,7 @@ pub backhaul_of_form : (tariff : Tariff) (trip : Itinerary) (a b : ℕ) (fare : 
 unfolding greatest_from backhaul greatest_reference reference
 backhaul_of_form tariff trip a b fare form of_form day =
     ap (λ (f : Form). minimum_above fare.amount (unwrap_or (greatest_of (reference_of tariff trip f a) (stopovers trip a b)) 0))
-    (λ i. record { fare = is_moulded fare false form of_form i; back = of_form.direction i; on = day i })
+    (λ i. record { fare = is_moulded fare false form of_form i; ahead = form.ahead; back = of_form.direction i; on = day i })
     ∙ minimum_of fare.amount (greatest_reference tariff trip a b fare)
 
 -- the terms of a fare are those of its form

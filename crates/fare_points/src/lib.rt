@@ -23,4 +23,4 @@ pub use comparison::is_compared;
 pub use highers::higher;
 pub use indicators::{indicator, indicator_of, indicators_from};
 pub use places::placed;
-pub use references::{every_carrier, reference};
+pub use references::{Likes, every_carrier, reference, reference_of};

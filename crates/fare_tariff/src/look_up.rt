@@ -1,6 +1,7 @@
 //! The look-ups of an edition, each by the key of a record, which the check shares.
 
 mod fares;
+mod likes;
 mod miles;
 mod places;
 mod rules;

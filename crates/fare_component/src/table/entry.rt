@@ -54,10 +54,10 @@ pub(crate) fn at_least(amount: Nuc, minimum: Option<Nuc>) -> Nuc
 
 /// A fare that is tried for a span whose mileage asks for a surcharge.
 #[derive(Clone, Copy)]
-struct Candidate<'a> {
-    span: &'a Span,
-    number: u32,
-    fare: &'a FareRec,
+pub(crate) struct Candidate<'a> {
+    pub(crate) span: &'a Span,
+    pub(crate) number: u32,
+    pub(crate) fare: &'a FareRec,
 }
 
 /// What a fare costs for a span where it is priced out, and as a unit of its own.
@@ -154,7 +154,7 @@ fn out_by(priced: &Priced, forms: &mut Forms, tried: &Candidate) -> Result<Out, 
     ensures out { IfOk result (IsOut priced.now tried.now) }
     ensures forms { OnOk result (AreFormsFor priced.now tried.now forms.new.items.items) }
 {
-    let place = forms.place_of(priced, tried.span.a, tried.fare, false)?;
+    let place = forms.place_of(priced, tried, false)?;
     let known = &mut forms.items[place];
     let amount = amount_by(priced, known, tried, false);
     let single = single_price(priced, known, tried, &amount);
@@ -194,7 +194,7 @@ fn back_of(
     if !suits_span(priced.edition, priced.trip, tried.span, tried.fare, true) {
         return Ok(None);
     }
-    let place = forms.place_of(priced, tried.span.a, tried.fare, true)?;
+    let place = forms.place_of(priced, tried, true)?;
     let known = &mut forms.items[place];
     Ok(amount_by(priced, known, tried, true))
 }

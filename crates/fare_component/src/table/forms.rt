@@ -5,7 +5,9 @@ ghost use Rattle.fare_trip.specs.Itinerary.{Itinerary, count};
 ghost use Rattle.fare_tariff.specs.Tariff.{Tariff};
 ghost use Rattle.fare_component.specs.declared.table.references.References.{References};
 ghost use Rattle.fare_component.specs.References.{AreForms, IsOfForm};
+ghost use Rattle.fare_component.specs.Tried.{AreFormsFor};
 
+use crate::table::entry::Candidate;
 use crate::table::references::{References, is_of_form};
 use fare_conditions::Priced;
 use fare_ports::NoMemory;
@@ -79,48 +81,41 @@ impl Forms {
     /// for what it holds at each call.
     #[cold]
     #[inline(never)]
-    fn add(
-        &mut self,
-        priced: &Priced,
-        a: usize,
-        fare: &FareRec,
-        back: bool,
-    ) -> Result<usize, NoMemory>
-        requires within { a < count priced.now.trip.now }
-        requires forms { AreForms priced.now.edition.now priced.now.trip.now a self.old.items.items }
+    fn add(&mut self, priced: &Priced, tried: &Candidate, back: bool) -> Result<usize, NoMemory>
+        requires within { tried.now.span.now.a < count priced.now.trip.now }
+        requires forms { AreFormsFor priced.now tried.now self.old.items.items }
         ensures within { IfOk result (λ place. place < length self.new.items.items) }
         ensures form { (d : References)
-            → IfOk result (λ place. IsOfForm fare.now back (slice_index_or self.new.items.items place d).form) }
-        ensures forms { OnOk result (AreForms priced.now.edition.now priced.now.trip.now a self.new.items.items) }
+            → IfOk result (λ place. IsOfForm tried.now.fare.now back (slice_index_or self.new.items.items place d).form) }
+        ensures forms { OnOk result (AreFormsFor priced.now tried.now self.new.items.items) }
     {
+        let a = tried.span.a;
         let count = priced.trip.count();
         prove!(a < count);
         let on = priced.trip.sector(a + 1).day;
         self.items.truncate(MOST_FORMS - 1);
         let place = self.items.len();
-        self.items
-            .push(References::new(priced.edition, fare, back, on))?;
+        self.items.push(References::new(priced.edition, tried.number, tried.fare, back, on))?;
         Ok(place)
     }
 
-    /// The place of the form of a fare in a direction, which comes last where it is new.
+    /// The place of the form of a fare that is tried, in a direction; it comes last where it is new.
     pub(crate) fn place_of(
         &mut self,
         priced: &Priced,
-        a: usize,
-        fare: &FareRec,
+        tried: &Candidate,
         back: bool,
     ) -> Result<usize, NoMemory>
-        requires within { a < count priced.now.trip.now }
-        requires forms { AreForms priced.now.edition.now priced.now.trip.now a self.old.items.items }
+        requires within { tried.now.span.now.a < count priced.now.trip.now }
+        requires forms { AreFormsFor priced.now tried.now self.old.items.items }
         ensures within { IfOk result (λ place. place < length self.new.items.items) }
         ensures form { (d : References)
-            → IfOk result (λ place. IsOfForm fare.now back (slice_index_or self.new.items.items place d).form) }
-        ensures forms { OnOk result (AreForms priced.now.edition.now priced.now.trip.now a self.new.items.items) }
+            → IfOk result (λ place. IsOfForm tried.now.fare.now back (slice_index_or self.new.items.items place d).form) }
+        ensures forms { OnOk result (AreFormsFor priced.now tried.now self.new.items.items) }
     {
-        let place = match self.find(fare, back) {
+        let place = match self.find(tried.fare, back) {
             Some(place) => place,
-            None => self.add(priced, a, fare, back)?,
+            None => self.add(priced, tried, back)?,
         };
         self.next = place + 1;
         Ok(place)

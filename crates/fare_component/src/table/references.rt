@@ -10,7 +10,7 @@ ghost use Rattle.fare_component.specs.References.{AreReferences, IsOfForm, IsRea
 
 use fare_codes::{Day, FARE_LIMIT, Nuc};
 use fare_conditions::{Priced, terms_of_fare};
-use fare_points::reference;
+use fare_points::{Likes, reference_of};
 use fare_records::same_rules;
 use fare_rules::MOST_POINTS;
 use fare_tariff::{Edition, FareRec, Terms};
@@ -19,10 +19,11 @@ use fare_tariff::{Edition, FareRec, Terms};
 const MOST_PAIRS: usize = MOST_POINTS * MOST_POINTS;
 
 /// What a reference is looked up for: a fare, of which its carrier, class, kind and rule alone count, its direction and
-/// a day.
+/// a day; and where it stands among the fares between its cities, by which its references are found.
 #[derive(Clone, Copy)]
 pub(crate) struct Form {
     pub(crate) fare: FareRec,
+    pub(crate) ahead: u32,
     pub(crate) back: bool,
     pub(crate) on: Day,
 }
@@ -77,10 +78,14 @@ fn reference_between(priced: &Priced, form: &Form, i: usize, j: usize) -> Option
 {
     let ind = priced.indicator(i, j);
     let (earlier, later) = (priced.trip.point(i), priced.trip.point(j));
+    let likes = &Likes {
+        fare: &form.fare,
+        ahead: form.ahead,
+    };
     if form.back {
-        reference(priced.edition, later, earlier, ind, &form.fare, form.on)
+        reference_of(priced.edition, later, earlier, ind, likes, form.on)
     } else {
-        reference(priced.edition, earlier, later, ind, &form.fare, form.on)
+        reference_of(priced.edition, earlier, later, ind, likes, form.on)
     }
 }
 
@@ -123,8 +128,14 @@ impl Reach {
 }
 
 impl References {
-    /// None is known yet.
-    pub(crate) fn new(edition: &Edition, fare: &FareRec, back: bool, on: Day) -> References
+    /// None is known yet of the fare of a number.
+    pub(crate) fn new(
+        edition: &Edition,
+        number: u32,
+        fare: &FareRec,
+        back: bool,
+        on: Day,
+    ) -> References
         ensures form { IsOfForm fare.now back result.form }
         ensures day { result.form.on ≡ on }
         ensures asked { result.asked ≡ terms_of_fare edition.now result.form.fare }
@@ -135,6 +146,7 @@ impl References {
         References {
             form: Form {
                 fare: *fare,
+                ahead: edition.records_ahead(number),
                 back,
                 on,
             },

@@ -1,6 +1,9 @@
 //! The first fare with a key whose season is of some kind, found among the fares of its cities and its indicator.
 
 ghost use Rattle.std.specs.Prelude.{◌≡◌, ◌<◌, length, position, IfSome};
+ghost use Rattle.std.specs.List.{position_from};
+ghost use Rattle.fare_index.specs.declared.key.Key.TheVariants.{Fares};
+ghost use Rattle.fare_records.specs.Keyed.{has_own_key};
 ghost use Rattle.fare_tariff.specs.Sought.{is_sought};
 
 use crate::look_up::has_key;
@@ -33,12 +36,19 @@ pub(crate) fn is_sought(key: &FareKey, sought: &Sought, one: &Record) -> bool
     }
 }
 
-/// The place of the first fare that has a key and is sought.
-pub(crate) fn first_fare(filed: &Filed, key: &FareKey, sought: &Sought) -> Option<usize>
+/// The place of the first fare that has a key and is sought, where this is the first place of a fare between its cities
+/// for its indicator.
+pub(crate) fn first_fare_from(
+    filed: &Filed,
+    key: &FareKey,
+    sought: &Sought,
+    first: Option<usize>,
+) -> Option<usize>
+    requires { first ≡ position_from (has_own_key (Fares key.now.from key.now.to key.now.ind)) 0 filed.now }
     ensures place { result ≡ position (is_sought key.now sought.now) filed.now }
     ensures within { IfSome result (λ place. place < length filed.now) }
 {
-    let mut at = filed.first(&Key::Fares(key.from, key.to, key.ind));
+    let mut at = first;
     while let Some(place) = at {
         if is_sought(key, sought, &filed.records()[place]) {
             return Some(place);
@@ -46,4 +56,19 @@ pub(crate) fn first_fare(filed: &Filed, key: &FareKey, sought: &Sought) -> Optio
         at = filed.next(place);
     }
     None
+}
+
+/// The first place of a fare between the cities of a key for its indicator.
+pub(crate) fn first_between(filed: &Filed, key: &FareKey) -> Option<usize>
+    ensures { result ≡ position_from (has_own_key (Fares key.now.from key.now.to key.now.ind)) 0 filed.now }
+{
+    filed.first(&Key::Fares(key.from, key.to, key.ind))
+}
+
+/// The place of the first fare that has a key and is sought.
+pub(crate) fn first_fare(filed: &Filed, key: &FareKey, sought: &Sought) -> Option<usize>
+    ensures place { result ≡ position (is_sought key.now sought.now) filed.now }
+    ensures within { IfSome result (λ place. place < length filed.now) }
+{
+    first_fare_from(filed, key, sought, first_between(filed, key))
 }

@@ -10,8 +10,8 @@ returns-clause-forms c =
     let tariff = c.args.priced.now.edition.now in
     let trip = c.args.priced.now.trip.now in
     rw (c.in_ok-push.ensures.items, c.truncate.ensures.items)
-    (All-push (AreReferencesFrom tariff trip c.args.a) _ c.new.result
-    (All-take (AreReferencesFrom tariff trip c.args.a) 255 c.args.self.now.items.items c.requires.forms)
+    (All-push (AreReferencesFrom tariff trip c.args.tried.now.span.now.a) _ c.new.result
+    (All-take (AreReferencesFrom tariff trip c.args.tried.now.span.now.a) 255 c.args.self.now.items.items c.requires.forms)
     (record {
       right = nothing_known tariff trip c.new.result c.new.ensures.none c.new.ensures.columns (c.new.ensures.reach tariff trip) c.new.ensures.asked;
       day = c.new.ensures.day ∙ ap (λ (s : Sector). s.day) c.sector-on.ensures;

@@ -4,7 +4,7 @@ use Rattle.std.specs.List.{position_from}
 use Rattle.fare_index.specs.declared.key.Key.TheVariants.{Fares}
 use Rattle.fare_tariff.specs.Sought.{is_sought}
 use Rattle.fare_records.proofs.Chain.{IsKeyed, from_place, rest_from}
-use Rattle.fare_tariff.proofs.look_up.seek.first_fare.Given as goal
+use Rattle.fare_tariff.proofs.look_up.seek.first_fare_from.Given as goal
 
 abbrev pub invariant-loop-at : goal.invariant-loop-at
 invariant-loop-at l = record {

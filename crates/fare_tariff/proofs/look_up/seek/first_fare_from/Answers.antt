@@ -6,12 +6,12 @@ use Rattle.fare_index.specs.declared.key.Key.TheVariants.{Fares}
 use Rattle.fare_tariff.specs.Sought.{is_sought}
 use Rattle.fare_records.proofs.Chain.{from_place, keyed_first, from_first, walk_step, walk_here}
 use Rattle.fare_tariff.proofs.Looks.{sought_looks}
-use Rattle.fare_tariff.proofs.look_up.seek.first_fare.Goals as goal
+use Rattle.fare_tariff.proofs.look_up.seek.first_fare_from.Goals as goal
 
 pub loop-at-init : goal.loop-at-init
 loop-at-init c = record {
-  keyed = keyed_first _ _ _ c.first-at.ensures;
-  same = from_first _ _ _ (sought_looks c.args.key.now c.args.sought.now) c.args.filed.now c.first-at.result c.first-at.ensures;
+  keyed = keyed_first _ _ _ c.requires;
+  same = from_first _ _ _ (sought_looks c.args.key.now c.args.sought.now) c.args.filed.now c.args.first c.requires;
 }
 
 pub returns-then-is_sought-clause-place : goal.returns-then-is_sought-clause-place
