@@ -8,3 +8,4 @@ pub mod NumberLemmas
 pub mod SameLemmas
 pub mod SeasonLemmas
 pub mod TextLemmas
+pub mod LetterLemmas

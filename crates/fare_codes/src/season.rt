@@ -28,19 +28,12 @@ impl Season {
         }
     }
 
-    /// Whether the season holds the day of the year.
-    #[tactic(auto, unfolding(crate::specs::Season::season_holds))]
+    /// Whether the season holds the day of the year. Most hold each, which is seen at once.
+    #[tactic(auto, using(crate::proofs::SeasonLemmas::held_all_year))]
     pub fn holds(self, on: MonthDay) -> bool
         ensures { result ≡ season_holds self on }
     {
-        let first = self.first.place();
-        let last = self.last.place();
-        let day = on.place();
-        if first <= last {
-            first <= day && day <= last
-        } else {
-            first <= day || day <= last
-        }
+        is_whole_year(&self) || holds_between(&self, on)
     }
 
     /// Whether both have the same first and last day.
@@ -49,5 +42,27 @@ impl Season {
         ensures test { result ≡ same_season self other }
     {
         self.first.is(other.first) && self.last.is(other.last)
+    }
+}
+
+/// Whether a season is the whole year.
+fn is_whole_year(season: &Season) -> bool
+    ensures { IsTrue result → season.now ≡ whole_year }
+{
+    season.is(Season::whole_year())
+}
+
+/// Whether a season holds the day of the year, by the places of its first day and its last.
+#[tactic(auto, unfolding(crate::specs::Season::season_holds))]
+fn holds_between(season: &Season, on: MonthDay) -> bool
+    ensures { result ≡ season_holds season.now on }
+{
+    let first = season.first.place();
+    let last = season.last.place();
+    let day = on.place();
+    if first <= last {
+        first <= day && day <= last
+    } else {
+        first <= day || day <= last
     }
 }

@@ -93,16 +93,14 @@ impl TcpArrivals {
         Err(io::Error::from(ErrorKind::TimedOut))
     }
 
-    /// Whether there is a peer already for which the door needn't wait. What an accept failed of is told by `next`.
-    pub fn more(&mut self, rt: &HostRuntime, limits: &TcpLimits) -> bool {
-        let _ = self.gather(rt);
+    /// Whether what came last, when it was looked for, has a peer for which the door needn't wait. It doesn't look again:
+    /// calls of the system take as long as a short answer, and what came since is for the next look.
+    pub fn more(&self, limits: &TcpLimits) -> bool {
         self.first_ready(limits).is_some()
     }
-}
 
-impl TcpArrivals {
     /// Takes what came, without waiting: connections, and the next bytes of each peer.
-    fn gather(&mut self, rt: &HostRuntime) -> io::Result<()> {
+    pub fn gather(&mut self, rt: &HostRuntime) -> io::Result<()> {
         let accepted = self.accept_all(rt);
         let room = self.room();
         for peer in self.pending.as_mut_slice() {
@@ -110,7 +108,9 @@ impl TcpArrivals {
         }
         accepted
     }
+}
 
+impl TcpArrivals {
     /// Accepts the connections that wait, as many as may be pending.
     fn accept_all(&mut self, rt: &HostRuntime) -> io::Result<()> {
         let Some(listener) = &self.listener else {

@@ -144,9 +144,9 @@ impl Door for TcpDoor {
         }
     }
 
-    /// Asks without waiting. Where it finds a connection, `next` needn't wait.
+    /// Tells of what `next` found beside the one that it took. Where it tells of a connection, `next` needn't wait.
     fn more(&mut self) -> bool {
-        self.arrivals.more(&self.runtime, &self.limits)
+        self.arrivals.more(&self.limits)
     }
 
     fn hold(&mut self) -> bool {

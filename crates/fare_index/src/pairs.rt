@@ -1,24 +1,17 @@
 //! Unordered pairs of cities: a key has the lesser city first.
 
 ghost use Rattle.std.specs.Prelude.{◌≡◌};
-ghost use Rattle.fare_index.specs.Pairs.{is_less, lesser, greater, permitted_key, ticketed_key, extra_key};
+ghost use Rattle.fare_index.specs.Pairs.{lesser, greater, permitted_key, ticketed_key, extra_key};
 
 use crate::key::Key;
 use fare_codes::{City, Indicator};
-
-/// Whether a city stands before another in the order of their letters.
-fn is_less(a: City, b: City) -> bool
-    ensures { result ≡ is_less a b }
-{
-    a.cmp(&b).is_lt()
-}
 
 /// Two cities, the lesser first.
 fn ordered(a: City, b: City) -> (City, City)
     ensures first { result.0 ≡ lesser a b }
     ensures second { result.1 ≡ greater a b }
 {
-    if is_less(a, b) { (a, b) } else { (b, a) }
+    if a.is_before(b) { (a, b) } else { (b, a) }
 }
 
 impl Key {

@@ -58,7 +58,7 @@ fn brings(door: &mut TcpDoor, bytes: &[u8]) -> Result<bool, Fail> {
 /// Whether a connection is found within a second: the system may need a moment to tell of it.
 fn finds(rt: &HostRuntime, door: &mut TcpDoor) -> bool {
     for _ in 0..100 {
-        if door.more() {
+        if door.arrivals.gather(rt).is_ok() && door.more() {
             return true;
         }
         thread::sleep(rt, Duration::from_millis(10));
