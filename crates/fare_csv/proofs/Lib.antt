@@ -17,3 +17,4 @@ pub mod LinesTaken
 pub mod NamesReadBack
 pub mod RecordsReadBack
 pub mod EditionReadBack
+pub mod ReadInTurn
