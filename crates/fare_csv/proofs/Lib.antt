@@ -17,4 +17,3 @@ pub mod LinesTaken
 pub mod NamesReadBack
 pub mod RecordsReadBack
 pub mod EditionReadBack
-pub mod ReadInTurn

@@ -1,11 +1,10 @@
 //! The records of a text's pieces, which are read on all processors. Where a piece has a fault, the text is read in its
 //! order instead: so nothing here tells one.
 
-ghost use Rattle.std.specs.Prelude.{◌≡◌, ℕ, List, true, Ok, IfOk, OnOk};
-ghost use Rattle.std.specs.Borrow.{Bor};
+ghost use Rattle.std.specs.Prelude.{◌≡◌, true, Ok, IfOk, OnOk};
 ghost use Rattle.std.specs.List.{AllZip};
 ghost use Rattle.fare_csv.specs.Pieces.{IsRead, records_each, is_unmarked};
-ghost use Rattle.fare_csv.specs.Joined.{AreRead, AreReadBefore, IsJoined};
+ghost use Rattle.fare_csv.specs.Joined.{joined};
 ghost use Rattle.fare_csv.specs.Rows.{rows_of};
 ghost use Rattle.fare_csv.specs.TariffText.{records_of};
 
@@ -21,10 +20,7 @@ use std::alloc::{AllocError, Global};
 use std::thread::Threads;
 
 /// A record takes about this many bytes of its text, so that a list of records seldom grows.
-const BYTES: usize = 16;
-
-/// How many pieces are read before their records are moved behind the others.
-const AT_ONCE: usize = 16;
+const BYTES: usize = 24;
 
 /// The records of rows that are left.
 fn read_each(
@@ -102,54 +98,19 @@ fn read_pieces<R: Threads + Sync>(
         .collect(rt, alloc)
 }
 
-/// Puts the records of pieces behind others, in one list.
-fn join(
-    records: &mut Vec<Record>,
+/// The records of all pieces in one list.
+fn joined(
+    alloc: Global,
+    room: usize,
     read: Vec<Result<Vec<Record>, NotInPieces>>,
-) -> Result<(), NotInPieces>
-    ensures { OnOk result (IsJoined read.items records.old.items records.new.items) }
+) -> Result<Vec<Record>, NotInPieces>
+    ensures { IfOk result (λ records. joined read.items ≡ Ok records.items) }
 {
+    let mut records = Vec::with_capacity(alloc, room)?;
     for found in read {
         let mut more = found?;
         records.append(&mut more)?;
     }
-    Ok(())
-}
-
-/// Puts the records of pieces behind those of the pieces before them, in one list. A few are read at a time, and their
-/// records are moved while they are near; the room that they had serves those behind them.
-#[cycle(read_behind)]
-fn read_behind<R: Threads + Sync>(
-    rt: &R,
-    alloc: Global,
-    left: &[&[u8]],
-    version: Version,
-    records: &mut Vec<Record>,
-) -> Result<(), NotInPieces>
-    ensures { OnOk result ((pieces : List (Bor (List ℕ))) → AreReadBefore version pieces left.now records.old.items
-        → AreRead version pieces records.new.items) }
-{
-    if left.is_empty() {
-        return Ok(());
-    }
-    let (next, behind) = left.split_at(left.len().min(AT_ONCE));
-    let read = read_pieces(rt, alloc, next, version)?;
-    join(records, read)?;
-    read_behind(rt, alloc, behind, version, records)
-}
-
-/// The records of all pieces in one list.
-fn read_all<R: Threads + Sync>(
-    rt: &R,
-    alloc: Global,
-    pieces: &[&[u8]],
-    version: Version,
-    room: usize,
-) -> Result<Vec<Record>, NotInPieces>
-    ensures { IfOk result (λ records. AreRead version pieces.now records.items) }
-{
-    let mut records = Vec::with_capacity(alloc, room)?;
-    read_behind(rt, alloc, pieces, version, &mut records)?;
     Ok(records)
 }
 
@@ -179,8 +140,8 @@ pub(crate) fn read_body<R: Threads + Sync>(
     if !is_unmarked(cut.left) {
         return Err(NotInPieces);
     }
-    let pieces = cut.pieces.as_slice();
-    let mut records = read_all(rt, alloc, pieces, version, text.len() / BYTES)?;
+    let read = read_pieces(rt, alloc, cut.pieces.as_slice(), version)?;
+    let mut records = joined(alloc, text.len() / BYTES, read)?;
     let mut last = read_last(alloc, cut.left, version)?;
     records.append(&mut last)?;
     Ok(records)
