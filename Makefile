@@ -2,7 +2,8 @@
 PREFIX ?= /usr/local
 EXAMPLE ?= examples/london-rome.txt
 RECORDS ?= 200000
-JOBS ?= $(shell nproc)
+# A crate that waits for one below it holds one of these, so there are more than processors.
+JOBS ?= $(shell expr 2 '*' $$(nproc))
 # The built program. It stands beside what `rt` makes, which `make test` sets aside while it runs.
 PROGRAM = build/fares
 SOURCES = crates.txt $(shell find crates -name out -prune -o \( -name '*.rt' -o -name '*.antt' \) -print)
