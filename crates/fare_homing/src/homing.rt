@@ -134,76 +134,80 @@ pub fn lie_near(table: &Table, homing: &Homing, a: usize, b: usize) -> bool
     trip.point(a).is(trip.point(b)) || lie_together(&homing.countries, a, b)
 }
 
-/// The numbers of a trip with the countries of its points and its lonely fares, of which no other is known but that
-/// nothing is behind the end.
-#[inline(never)]
-fn unknown(
-    count: usize,
-    countries: [Option<Country>; MOST_POINTS],
-    lonely: [u32; MOST_LONELY],
-    of_two: [u32; MOST_RULES],
-    ceiling: Option<Ceiling>,
-) -> Homing
+/// What is behind the end of a trip: nothing that costs, and behind no other point is anything known.
+fn rest_at_end(count: usize) -> [Floor; MOST_POINTS]
     requires { count < MOST_POINTS }
-    ensures end { rest_at result.rest count ≡ Some 0 }
-    ensures countries { result.countries ≡ countries }
-    ensures ceiling { result.ceiling ≡ ceiling }
-    ensures lonely { result.lonely ≡ lonely }
-    ensures of_two { result.of_two ≡ of_two }
+    ensures { rest_at result count ≡ Some 0 }
 {
+    let mut rest = [NOTHING; MOST_POINTS];
+    rest[count] = Floor::of(Some(0));
+    rest
+}
+
+/// Numbers of which none is known. They fill many pages, and each copy that a caller holds is as much of the time of a
+/// short trip, so they are made once and put right in their place.
+#[inline(never)]
+fn unknown() -> Homing {
     let rows = [[NOTHING; MOST_POINTS]; MOST_POINTS];
     let none = Standing {
         begun: rows,
         closing: rows,
         jaw: rows,
     };
-    let mut rest = [NOTHING; MOST_POINTS];
-    rest[count] = Floor::of(Some(0));
+    let rest = [NOTHING; MOST_POINTS];
     Homing {
         standing: [none; MOST_POINTS],
         whole: rows,
         rest,
-        countries,
-        lonely,
-        of_two,
-        ceiling,
+        countries: [None; MOST_POINTS],
+        lonely: [0; MOST_LONELY],
+        of_two: [0; MOST_RULES],
+        ceiling: None,
         onwards: without_barred(&rest),
     }
 }
 
-/// The homing of the trip of a table, under a ceiling where a price is given. Its numbers fill many pages, and each copy
-/// that a caller holds is as much of the time of a short trip, so it is inlined nowhere.
+/// Makes the homing of the trip of a table in the place of another, under a ceiling where a price is given.
 #[inline(never)]
-pub fn homing_of(table: &Table, price: Option<u64>) -> Homing
-    ensures homings { AreHomingsOf table.now.edition table.now.trip result }
-    ensures ceiling { IfSome result.ceiling (λ ceiling. price ≡ Some ceiling.price) }
+fn make(homing: &mut Homing, table: &Table, price: Option<u64>)
+    ensures homings { AreHomingsOf table.now.edition table.now.trip homing.new }
+    ensures ceiling { IfSome homing.new.ceiling (λ ceiling. price ≡ Some ceiling.price) }
 {
     let trip = table.trip();
     let count = trip.count();
     let none: [u32; 0] = [];
     let barred = none.as_slice();
     let legs = legs_behind(table, barred);
-    let ceiling = ceiling_of(table, price);
-    let lonely = lonely_fares(table);
-    let of_two = fares_of_two(table);
-    let mut homing = unknown(count, countries_of(table), lonely, of_two, ceiling);
+    homing.countries = countries_of(table);
+    homing.lonely = lonely_fares(table);
+    homing.of_two = fares_of_two(table);
+    homing.ceiling = ceiling_of(table, price);
+    homing.rest = rest_at_end(count);
     for c in (0..count).rev() {
         let start = start_at(table, &legs, &homing.countries, barred, c);
-        let whole = wholes_at(table, &homing, &start);
+        let whole = wholes_at(table, homing, &start);
         homing.whole[c] = whole;
         homing.rest[c] = least_onward(&whole, &homing.rest, c, count + 1);
-        let standing = standing_at(table, &homing.countries, &legs, &homing, c);
+        let standing = standing_at(table, &homing.countries, &legs, homing, c);
         homing.standing[c] = standing;
     }
     homing.onwards = without_barred(&homing.rest);
+}
+
+/// The homing of the trip of a table, under a ceiling where a price is given.
+pub fn homing_of(table: &Table, price: Option<u64>) -> Homing
+    ensures homings { AreHomingsOf table.now.edition table.now.trip result }
+    ensures ceiling { IfSome result.ceiling (λ ceiling. price ≡ Some ceiling.price) }
+{
+    let mut homing = unknown();
+    make(&mut homing, table, price);
     homing
 }
 
 /// Makes a homing anew under a ceiling at a price.
-#[inline(never)]
 pub fn remake(homing: &mut Homing, table: &Table, price: u64)
     ensures homings { AreHomingsOf table.now.edition table.now.trip homing.new }
     ensures ceiling { IfSome homing.new.ceiling (λ ceiling. ceiling.price ≡ price) }
 {
-    *homing = homing_of(table, Some(price));
+    make(homing, table, Some(price));
 }

@@ -10,22 +10,22 @@ use Rattle.fare_legs.specs.Countries.{AreCountries}
 use Rattle.fare_homing.specs.Rows.{begun_from, cell, jaw_from}
 use Rattle.fare_legs.specs.Threes.{AreOfTwo}
 use Rattle.fare_homing.proofs.HomingLemmas.{AreHomingsFrom, all_homings, no_homings, put_homings}
-use Rattle.fare_homing.proofs.homing.homing_of.Goals as goal
+use Rattle.fare_homing.proofs.homing.make.Goals as goal
 
 pub loop-c-init : goal.loop-c-init
 loop-c-init c =
     let last : c.count-count.result ≡ count c.args.table.now.trip = c.count-count.ensures.value ∙ ap count c.trip-trip.ensures in
-    let P : ℕ → Type 0 = λ n. AreHomingsFrom c.args.table.now.edition c.args.table.now.trip n c.unknown-homing.result in
+    let end = subst (λ n. rest_at c.rest_at_end-homing.result n ≡ Some 0) last c.rest_at_end-homing.ensures in
     record {
       long_standing = search rules;
       long_whole = search rules;
       long_rest = search rules;
-      known = subst P (sym last) (no_homings c.args.table.now.edition c.args.table.now.trip c.unknown-homing.result (subst (λ n. rest_at c.unknown-homing.result.rest n ≡ Some 0) last c.unknown-homing.ensures.end));
-      countries = subst (AreCountries c.args.table.now.edition c.args.table.now.trip) (sym c.unknown-homing.ensures.countries) c.countries_of.ensures;
-      lonely = subst (AreLonely c.args.table.now.edition) (sym c.unknown-homing.ensures.lonely) c.lonely_fares-lonely.ensures;
-      of_two = subst (AreOfTwo c.args.table.now.edition c.args.table.now.trip) (sym c.unknown-homing.ensures.of_two) c.fares_of_two-of_two.ensures;
-      ceiling = subst (IsCeiling c.args.table.now.edition c.args.table.now.trip) (sym c.unknown-homing.ensures.ceiling) c.ceiling_of-ceiling.ensures.ceiling;
-      price = subst (λ ceiling. IfSome ceiling (λ known. c.args.price ≡ Some known.price)) (sym c.unknown-homing.ensures.ceiling) c.ceiling_of-ceiling.ensures.value;
+      known = rw last (no_homings c.args.table.now.edition c.args.table.now.trip _ end);
+      countries = c.countries_of-homing.ensures;
+      lonely = c.lonely_fares-homing.ensures;
+      of_two = c.fares_of_two-homing.ensures;
+      ceiling = c.ceiling_of-homing.ensures.ceiling;
+      price = c.ceiling_of-homing.ensures.value;
     }
 
 pub loop-c-preserved : goal.loop-c-preserved

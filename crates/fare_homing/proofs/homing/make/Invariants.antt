@@ -6,7 +6,7 @@ use Rattle.fare_legs.specs.Lonely.{AreLonely}
 use Rattle.fare_legs.specs.Countries.{AreCountries}
 use Rattle.fare_legs.specs.Threes.{AreOfTwo}
 use Rattle.fare_homing.proofs.HomingLemmas.{AreHomingsFrom}
-use Rattle.fare_homing.proofs.homing.homing_of.Given as goal
+use Rattle.fare_homing.proofs.homing.make.Given as goal
 
 abbrev pub invariant-loop-c : goal.invariant-loop-c
 invariant-loop-c l = record {
