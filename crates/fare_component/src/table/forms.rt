@@ -86,7 +86,8 @@ impl Forms {
         requires forms { AreFormsFor priced.now tried.now self.old.items.items }
         ensures within { IfOk result (λ place. place < length self.new.items.items) }
         ensures form { (d : References)
-            → IfOk result (λ place. IsOfForm tried.now.fare.now back (slice_index_or self.new.items.items place d).form) }
+            → IfOk result (λ place. IsOfForm tried.now.fare.now back
+            (slice_index_or self.new.items.items place d).form) }
         ensures forms { OnOk result (AreFormsFor priced.now tried.now self.new.items.items) }
     {
         let a = tried.span.a;
@@ -110,7 +111,8 @@ impl Forms {
         requires forms { AreFormsFor priced.now tried.now self.old.items.items }
         ensures within { IfOk result (λ place. place < length self.new.items.items) }
         ensures form { (d : References)
-            → IfOk result (λ place. IsOfForm tried.now.fare.now back (slice_index_or self.new.items.items place d).form) }
+            → IfOk result (λ place. IsOfForm tried.now.fare.now back
+            (slice_index_or self.new.items.items place d).form) }
         ensures forms { OnOk result (AreFormsFor priced.now tried.now self.new.items.items) }
     {
         let place = match self.find(tried.fare, back) {

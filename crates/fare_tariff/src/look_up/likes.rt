@@ -1,5 +1,6 @@
-//! Where the likes of a fare stand. The fares of a carrier, a class and a rule are mostly filed in the same order between
-//! any two cities, so the place of one guesses that of the other, and no search through the fares between them is needed.
+//! Where the likes of a fare stand. The fares of a carrier, a class and a rule are mostly filed in the same order
+//! between any two cities, so the place of one guesses that of the other, and no search through the fares between them
+//! is needed.
 
 ghost use Rattle.std.specs.Prelude.{◌≡◌, true};
 ghost use Rattle.fare_tariff.specs.Filed.{FilesFareOn};
@@ -21,8 +22,8 @@ fn number_ahead(first: Option<usize>, ahead: u32) -> Option<u32> {
 }
 
 impl Edition {
-    /// How many records behind the first fare between its cities the fare of a number stands: a guess of where its likes
-    /// stand between other cities. Nothing is stated of it, and nothing rests on it but time.
+    /// How many records behind the first fare between its cities the fare of a number stands: a guess of where its
+    /// likes stand between other cities. Nothing is stated of it, and nothing rests on it but time.
     pub fn records_ahead(&self, number: u32) -> u32 {
         if self.fare_at(number).is_none() {
             return 0;
@@ -46,8 +47,8 @@ impl Edition {
         }
     }
 
-    /// The record number of the fare with this key whose season holds a day, as `fare` answers it. It is looked for first
-    /// so many records behind the first fare between its cities.
+    /// The record number of the fare with this key whose season holds a day, as `fare` answers it. It is looked for
+    /// first so many records behind the first fare between its cities.
     pub fn fare_ahead(&self, key: &FareKey, on: MonthDay, ahead: u32) -> Option<u32>
         ensures { result ≡ fare_number self.now key.now on }
     {
