@@ -58,8 +58,8 @@ impl City {
         self.letters == other.letters
     }
 
-    /// Whether it stands before another in the order of their letters, as `<` has it of what the two are. Each filed
-    /// pair of cities asks it, and the order of any two slices takes ten times as long.
+    /// Whether it stands before another in the order of their letters. Each filed pair of cities asks it, so the letters
+    /// are compared one by one, and not as any two slices are.
     #[tactic(auto, using(crate::proofs::LetterLemmas::by_letters))]
     pub fn is_before(self, other: City) -> bool
         ensures { result ≡ is_lt (slice_cmp nat_cmp self other) }

@@ -93,8 +93,8 @@ impl TcpArrivals {
         Err(io::Error::from(ErrorKind::TimedOut))
     }
 
-    /// Whether what came last, when it was looked for, has a peer for which the door needn't wait. It doesn't look again:
-    /// calls of the system take as long as a short answer, and what came since is for the next look.
+    /// Whether what came last, when it was looked for, has a peer for which the door needn't wait. It doesn't look
+    /// again: calls of the system take as long as a short answer, and what came since is for the next look.
     pub fn more(&self, limits: &TcpLimits) -> bool {
         self.first_ready(limits).is_some()
     }
