@@ -3,7 +3,7 @@
 ghost use Rattle.std.specs.Prelude.{◌≡◌, ◌+◌, ◌<◌, ◌≤◌, true, length, IfSome, if◌then◌else◌};
 ghost use Rattle.fare_codes.specs.Day.{are_two_digits, two_digits, is_in_calendar, days_since_1970};
 
-use jiff::civil::Date;
+use jiff_core::civil::Date;
 
 /// Whether two digits stand from a place on.
 pub(crate) fn has_two_digits(text: &[u8], place: usize) -> bool
@@ -33,7 +33,7 @@ pub(crate) fn day_number_of(year: u16, month: u8, day: u8) -> Option<u32>
     ensures bound { IfSome result (λ number. number ≤ 2_932_896) }
 {
     match Date::new(year as i16, month as i8, day as i8) {
-        Ok(date) => Some(date.to_plain().to_unix_epoch_day().unsigned_abs()),
+        Ok(date) => Some(date.to_unix_epoch_day().unsigned_abs()),
         Err(_) => None,
     }
 }

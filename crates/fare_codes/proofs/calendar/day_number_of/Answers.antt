@@ -11,10 +11,9 @@ returns-in-Ok-clause-value c =
     let civil = rw (year, month, day) at c.in-Ok.ensures.succeeds.0 refl in
     let value = rw (year, month, day) at c.in-Ok.ensures.value in
     let fits : FitsSigned w32 c.to_unix_epoch_day.result = omega (arith, ints) in
-    let date = c.to_plain.ensures in
     let absolute = c.unsigned_abs.ensures.value in
     let number = c.to_unix_epoch_day.ensures.value in
-    day_found _ _ _ c.to_plain.result.year c.to_plain.result.month c.to_plain.result.day c.unsigned_abs.result (omega arith) civil (rw date value.0) (rw date value.1) (rw date value.2) (absolute ∙ ap unsigned_abs (to_z-of_z w32 _ fits ∙ number))
+    day_found _ _ _ c.in-Ok.date.year c.in-Ok.date.month c.in-Ok.date.day c.unsigned_abs.result (omega arith) civil value.0 value.1 value.2 (absolute ∙ ap unsigned_abs (to_z-of_z w32 _ fits ∙ number))
 
 pub returns-in-Ok-clause-bound : goal.returns-in-Ok-clause-bound
 returns-in-Ok-clause-bound c =
@@ -24,8 +23,7 @@ returns-in-Ok-clause-bound c =
     let civil = rw (year, month, day) at c.in-Ok.ensures.succeeds.0 refl in
     let value = rw (year, month, day) at c.in-Ok.ensures.value in
     let fits : FitsSigned w32 c.to_unix_epoch_day.result = omega (arith, ints) in
-    let date = c.to_plain.ensures in
     let absolute = c.unsigned_abs.ensures.value in
     let number = c.to_unix_epoch_day.ensures.value in
     let last = rw number at c.to_unix_epoch_day.ensures.bound.1 in
-    day_in_range _ _ _ c.to_plain.result.year c.to_plain.result.month c.to_plain.result.day c.unsigned_abs.result (omega arith) civil (rw date value.0) (rw date value.1) (rw date value.2) (absolute ∙ ap unsigned_abs (to_z-of_z w32 _ fits ∙ number)) last
+    day_in_range _ _ _ c.in-Ok.date.year c.in-Ok.date.month c.in-Ok.date.day c.unsigned_abs.result (omega arith) civil value.0 value.1 value.2 (absolute ∙ ap unsigned_abs (to_z-of_z w32 _ fits ∙ number)) last
