@@ -15,13 +15,13 @@ use fare_homing::Homing;
 use fare_units::lawful_price_by;
 
 /// How many lists of parts a dive goes on to.
-const MOST_LISTS: u32 = 200;
+pub(crate) const MOST_LISTS: u32 = 200;
 
 /// With how many of those that follow some first parts a dive goes on.
-const MOST_FOLLOWERS: usize = 4;
+pub(crate) const MOST_FOLLOWERS: usize = 4;
 
 /// The most parts of a construction.
-const MOST_DEPTH: u32 = 16;
+pub(crate) const MOST_DEPTH: u32 = 16;
 
 /// A lawful construction with its price, where there is one.
 type Landing = Option<(Partial, u64)>;

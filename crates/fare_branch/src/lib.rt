@@ -12,6 +12,7 @@
 //! - `best_so_far`: the best that was found so far, as what a walk looks for;
 //! - `walking`: the walk over the constructions that begin with some parts, whatever it looks for;
 //! - `opening`: what a search begins with: dives for a price, and a ceiling below it;
+//! - `deepening`: a bound that dives once more where a search takes long;
 //! - `searching`: the search of a piece;
 //! - `quoter`: the quoter that searches all of them.
 //!
@@ -22,6 +23,7 @@ mod barred;
 mod best_so_far;
 mod bound;
 mod crowding;
+mod deepening;
 mod descent;
 mod diving;
 mod opening;

@@ -5,6 +5,7 @@ ghost use Rattle.fare_rules.specs.Best.{IsBestAnswer};
 ghost use Rattle.fare_branch.specs.Search.{IsLeastPrice, IsPriceOfOne};
 
 use crate::bound::Bound;
+use crate::deepening::DivingBound;
 use crate::own_bound::OwnBound;
 use crate::pieces::{Piece, choices};
 use crate::searching::search;
@@ -54,7 +55,7 @@ pub fn best_under(table: &Table, known: u64) -> Option<(Construction, u64)>
 }
 
 /// The best construction of the trip of a table, by what a bound knows already.
-fn best_by(table: &Table, mut bound: OwnBound) -> Option<(Construction, u64)>
+fn best_by(table: &Table, bound: OwnBound) -> Option<(Construction, u64)>
     requires { IsLeastPrice table.now.edition table.now.trip (⟦<OwnBound as Bound>⟧.fixed bound) }
     ensures { IsBestAnswer table.now.edition table.now.trip result }
 {
@@ -64,5 +65,6 @@ fn best_by(table: &Table, mut bound: OwnBound) -> Option<(Construction, u64)>
         first: 0,
         past: choices(table),
     };
+    let mut bound = DivingBound::new(table, bound);
     search(table, &Rest::of(table), all, &mut bound)
 }

@@ -166,6 +166,10 @@ fn enter<K, S: Seeker<K>>(stage: &Stage, part: Part, seeker: &mut S, known: &mut
     let Some(longer) = stage.front.next(table, part) else {
         return;
     };
+    // What follows costs more, the later it is asked.
+    if is_barred(table, &longer) {
+        return;
+    }
     let stack = stack_after(table, homing, &longer, &stage.ahead.floors);
     let Some(floor) = stack.floor else {
         return;
@@ -176,11 +180,7 @@ fn enter<K, S: Seeker<K>>(stage: &Stage, part: Part, seeker: &mut S, known: &mut
     if seeker.is_behind(known, &longer, floor) {
         return;
     }
-    // To find out that nothing is lawful costs more than that nothing is wanted.
     if is_crowded(table, homing, &longer) {
-        return;
-    }
-    if is_barred(table, &longer) {
         return;
     }
     let ahead = ahead_of(table, homing, &longer, stack);

@@ -1,4 +1,4 @@
-use Rattle.std.proofs.Common.{ℕ, ◌<◌, ◌≤◌, subst}
+use Rattle.std.proofs.Common.{◌∙◌, ℕ, ◌<◌, ◌≤◌, subst}
 use Rattle.fare_trip.specs.Itinerary.{Itinerary, count}
 use Rattle.fare_branch.specs.LeastPrice.{least_price}
 use Rattle.fare_branch.proofs.WholeLemmas.{whole_is_best}
@@ -13,6 +13,7 @@ returns c =
     whole_is_best c.args.table.now.edition c.args.table.now.trip c.choices.result c.choices.ensures
     (λ parts price lawful. c.first_part_is_a_choice.ensures c.args.table.now.edition c.args.table.now.trip parts price
     some lawful)
-    fixed c.search.new.bound.least
-    (subst (λ fixed. fixed ≤ c.search.new.bound.least) c.search.ensures.fixed c.search.new.bound.above)
+    fixed c.search.new.bound.own.least
+    (subst (λ fixed. fixed ≤ c.search.new.bound.own.least) (c.search.ensures.fixed ∙ c.new-bound.ensures.fixed)
+    c.search.new.bound.own.above)
     c.requires c.search.result c.search.ensures.searched
