@@ -1,4 +1,5 @@
 pub mod HashedKeys
+pub mod HashesMade
 pub mod SharedSlots
 pub mod Halved
 pub mod Passed

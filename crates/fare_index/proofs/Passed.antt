@@ -16,8 +16,8 @@ pub record IsPassed (slots : Slots) (keys : List Key) (place : ℕ) (heads links
   pub are_heads : AreHeads slots place (drop place keys) heads
   pub many_links : length links ≡ length keys
   pub are_links : drop place links ≡ next_places slots place (drop place keys)
-  pub many_leads : length leads ≡ length keys
-  pub lead : (q : ℕ) (d : Key) → place ≤ q → q < length keys → get_or leads q false ≡ true → position_from (share_slot slots (get_or keys q d)) place (drop place keys) ≡ Some q
+  pub many_leads : length leads ≡ length keys + 1
+  pub lead : (q : ℕ) (d : Key) → place ≤ q → q < length keys → get_or leads (q + 1) false ≡ true → position_from (share_slot slots (get_or keys q d)) place (drop place keys) ≡ Some q
 
 -- a place from another on is that one or one behind it
 here_or_further : (place q : ℕ) → place ≤ q → (q ≡ place) ⊎ (place + 1 ≤ q)
@@ -44,7 +44,7 @@ not_true true never = absurd (never refl)
 not_true false never = refl
 
 -- before the pass
-pub passed_none : (slots : Slots) (keys : List Key) (heads links : List (Option ℕ)) (leads : List Bool) → heads ≡ replicate (slot_count slots) None → length heads ≡ slot_count slots → length links ≡ length keys → length leads ≡ length keys → IsPassed slots keys (length keys) heads links leads
+pub passed_none : (slots : Slots) (keys : List Key) (heads links : List (Option ℕ)) (leads : List Bool) → heads ≡ replicate (slot_count slots) None → length heads ≡ slot_count slots → length links ≡ length keys → length leads ≡ length keys + 1 → IsPassed slots keys (length keys) heads links leads
 passed_none slots keys heads links leads empty many_heads many_links many_leads = record {
   many_heads = many_heads;
   are_heads = λ slot h. ap (λ l. get_or l slot None) empty ∙ none_at (slot_count slots) slot None ∙ sym (at_drop_all (position_from (has_slot slots slot) (length keys)) keys (length keys) (omega arith));
@@ -55,7 +55,7 @@ passed_none slots keys heads links leads empty many_heads many_links many_leads 
 }
 
 -- one key more, before those that have been passed
-pub passed_more : (slots : Slots) (keys : List Key) (till place slot : ℕ) (key : Key) (heads links : List (Option ℕ)) (leads still : List Bool) (head later : Option ℕ) → till ≡ place + 1 → place < length keys → key ≡ get_or keys place key → slot ≡ slot_of slots key → slot < slot_count slots → head ≡ Some place → later ≡ get_or heads slot later → length still ≡ length leads → ((q : ℕ) → get_or still q false ≡ true → LeadsOn leads later q) → IsPassed slots keys till heads links leads → IsPassed slots keys place (set heads slot head) (set links place later) still
+pub passed_more : (slots : Slots) (keys : List Key) (till place slot : ℕ) (key : Key) (heads links : List (Option ℕ)) (leads still : List Bool) (head later : Option ℕ) → till ≡ place + 1 → place < length keys → key ≡ get_or keys place key → slot ≡ slot_of slots key → slot < slot_count slots → head ≡ Some place → later ≡ get_or heads slot later → length still ≡ length leads → ((q : ℕ) → get_or still (q + 1) false ≡ true → LeadsOn leads later q) → IsPassed slots keys till heads links leads → IsPassed slots keys place (set heads slot head) (set links place later) still
 passed_more slots keys till place slot key heads links leads still head later one within at slot_is slot_within head_is was as_many leading till_there =
     let passed = subst (λ n. IsPassed slots keys n heads links leads) one till_there in
     let rest = drop (place + 1) keys in

@@ -7,9 +7,9 @@ use Rattle.fare_index.specs.declared.places.Places.{Places}
 use Rattle.fare_index.specs.declared.slots.Slots.{Slots}
 use Rattle.fare_index.specs.Slots.{has_slot, share_slot, slot_count}
 
--- a place led before, and isn't the later one of a slot
+-- a place led before, as is noted at the number of a link to it, and isn't the later one of a slot
 pub record LeadsOn (leads : List Bool) (later : Option ℕ) (place : ℕ) : Type 0 where
-  pub led : slice_index_or leads place false ≡ true
+  pub led : slice_index_or leads (place + 1) false ≡ true
   pub is_another : later ≢ Some place
 
 -- for each key of a list that begins at a place, the place of the next key of its slot
@@ -25,7 +25,7 @@ AreHeads slots place keys heads = (slot : ℕ) → slot < slot_count slots →
 
 -- a place that leads is the first of its slot
 abbrev pub AreFirst : Slots → List Key → List Bool → Type 0
-AreFirst slots keys leads = (place : ℕ) (d : Key) → place < length keys → slice_index_or leads place false ≡ true →
+AreFirst slots keys leads = (place : ℕ) (d : Key) → place < length keys → slice_index_or leads (place + 1) false ≡ true →
     position_from (share_slot slots (slice_index_or keys place d)) 0 keys ≡ Some place
 
 -- the first place of each slot, for each place the next of its slot, and places that are the first of theirs
@@ -35,7 +35,7 @@ pub record AreChained (slots : Slots) (keys : List Key) (places : Places) : Type
   pub heads : AreHeads slots 0 keys places.heads.items
   pub many_links : length places.links.items ≡ length keys
   pub links : places.links.items ≡ next_places slots 0 keys
-  pub many_leads : length places.leads.items ≡ length keys
+  pub many_leads : length places.leads.items ≡ length keys + 1
   pub lead : AreFirst slots keys places.leads.items
 
 -- the places of the keys of a list, by their slots

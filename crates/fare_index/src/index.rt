@@ -80,7 +80,7 @@ impl Index {
         requires { place < length self.now }
         ensures { (d : Key) → result ≡ position_from (same_key (slice_index_or self.now place d)) 0 self.now }
     {
-        if self.places.leads[place] {
+        if self.places.leads[place + 1] {
             return Some(place);
         }
         self.first(&self.keys[place])

@@ -22,7 +22,7 @@ mod places;
 mod rank;
 mod slots;
 
-pub use hashed::FEWEST_APART;
+pub use hashed::{FEWEST_APART, threads_for};
 pub use index::Index;
 pub use key::Key;
 

@@ -1,6 +1,7 @@
 //! A place of a list, or nothing, in the four bytes that a list of many of them asks for.
 
 ghost use Rattle.std.specs.Prelude.{◌≡◌, ◌<◌};
+ghost use Rattle.fare_index.specs.Link.{number_of};
 
 use std::marker::Model;
 
@@ -37,6 +38,13 @@ impl Link {
         ensures { result ≡ Some place }
     {
         Link { number: place + 1 }
+    }
+
+    /// 0 where it leads to nothing, and else the number behind the place.
+    pub(crate) fn number(self) -> usize
+        ensures { result ≡ number_of self }
+    {
+        self.number as usize
     }
 
     /// The place that it leads to, if it leads to one.

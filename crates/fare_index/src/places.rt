@@ -2,7 +2,7 @@
 //! are made in one pass from the back over the hashes of the keys, in which no two keys are compared; only a look-up
 //! compares keys. Where a slot gets so many places that look-ups would be slow, they are made once more by other slots.
 
-ghost use Rattle.std.specs.Prelude.{ℕ, ◌≡◌, ◌<◌, ◌≤◌, true, false, IfOk, length, drop, map, slice_index_or};
+ghost use Rattle.std.specs.Prelude.{ℕ, ◌≡◌, ◌+◌, ◌<◌, ◌≤◌, true, false, IfOk, length, drop, map, slice_index_or};
 ghost use Rattle.std.specs.List.{position_from};
 ghost use Rattle.fare_index.specs.Hashed.{hash_of};
 ghost use Rattle.fare_index.specs.Key.{same_key};
@@ -34,18 +34,15 @@ pub(crate) struct Places {
     pub(crate) leads: Vec<bool>,
 }
 
-/// Notes that a place isn't the first of its slot.
+/// Notes that the place of a link isn't the first of its slot. A link to nothing is noted like any other: a branch here
+/// would wait for the first place of the slot, and the slots of the keys before it would be read one behind the other.
 fn follow(leads: &mut Vec<bool>, later: Link)
     ensures same_length { length leads.new.items ≡ length leads.old.items }
-    ensures leads { (k : ℕ) → slice_index_or leads.new.items k false ≡ true → LeadsOn leads.old.items later k }
+    ensures leads { (k : ℕ) → slice_index_or leads.new.items (k + 1) false ≡ true → LeadsOn leads.old.items later k }
 {
-    match later.place() {
-        None => {}
-        Some(place) => {
-            if (place as usize) < leads.len() {
-                leads[place as usize] = false;
-            }
-        }
+    let number = later.number();
+    if number < leads.len() {
+        leads[number] = false;
     }
 }
 
@@ -59,7 +56,7 @@ fn places_by(alloc: Global, keys: &[Key], hashes: &[u64], slots: Slots) -> Resul
 {
     let mut heads = vec![in alloc; Link::none(); slots.count()]?;
     let mut links = vec![in alloc; Link::none(); keys.len()]?;
-    let mut leads = vec![in alloc; true; keys.len()]?;
+    let mut leads = vec![in alloc; true; keys.len() + 1]?;
     for place in (0..keys.len()).rev() {
         let slot = slots.by(hashes[place]);
         let later = heads[slot];
@@ -78,17 +75,14 @@ fn places_by(alloc: Global, keys: &[Key], hashes: &[u64], slots: Slots) -> Resul
 /// Whether some slot has too many places, or all slots together. Nothing is known of the answer: it decides how fast
 /// look-ups are, and not what they answer.
 fn is_crowded(alloc: Global, links: &[Link]) -> Result<bool, NoMemory> {
-    let mut counts = vec![in alloc; 0u8; links.len()]?;
+    let mut counts = vec![in alloc; 0u8; links.len() + 1]?;
     let mut sum = 0usize;
     for place in (0..links.len()).rev() {
-        let behind = match links[place].place() {
-            None => 0,
-            Some(next) => counts.get(next as usize).copied().unwrap_or(0),
-        };
+        let behind = counts.get(links[place].number()).copied().unwrap_or(0);
         if behind >= MOST_IN_SLOT {
             return Ok(true);
         }
-        counts[place] = behind + 1;
+        counts[place + 1] = behind + 1;
         sum = sum.saturating_add(behind as usize);
     }
     Ok(sum > links.len().saturating_mul(MOST_BEHIND))

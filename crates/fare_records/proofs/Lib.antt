@@ -1,3 +1,3 @@
 pub mod Chain
 pub mod SharedDays
-pub mod Zipped
+pub mod KeysMade

@@ -1,8 +1,9 @@
 //! Records with the places of their keys.
 
-ghost use Rattle.std.specs.Prelude.{◌≡◌, ◌+◌, ◌<◌, true, find, map, IfOk, IfSome, OnOk, length, drop, slice_index_or};
-ghost use Rattle.std.specs.List.{AllZip, list_all, position_from};
+ghost use Rattle.std.specs.Prelude.{◌≡◌, ◌+◌, ◌<◌, ℕ, true, find, map, IfOk, IfSome, OnOk, length, drop, slice_index_or};
+ghost use Rattle.std.specs.List.{list_all, position_from};
 ghost use Rattle.std.specs.Option.{option_copied};
+ghost use Rattle.fare_index.specs.declared.key.Key.{Key};
 ghost use Rattle.fare_index.specs.Key.{same_key};
 ghost use Rattle.fare_records.specs.declared.record.Record.{Record};
 ghost use Rattle.fare_records.specs.Keyed.{has_amount_in_range};
@@ -12,11 +13,12 @@ ghost use Rattle.fare_records.specs.Keyed.{own_key, has_own_key, IsAmong, HasKey
 use crate::fare_record::FareRec;
 use crate::guesses::Guesses;
 use crate::record::Record;
-use fare_index::{FEWEST_APART, Index, Key};
+use fare_codes::City;
+use fare_index::{Index, Key, threads_for};
 use fare_ports::NoMemory;
-use rayon::prelude::*;
-use std::alloc::{AllocError, Global};
+use std::alloc::Global;
 use std::marker::{Model, Sync};
+use std::thread;
 use std::thread::Threads;
 
 /// A list of records in which each is found by its key. It is seen as the list.
@@ -169,27 +171,27 @@ fn has_key(one: &Record, key: &Key) -> bool
     }
 }
 
-/// The keys of the records of a list, made on all processors.
-fn collect_keys<R: Threads + Sync>(
-    rt: &R,
-    alloc: Global,
-    records: &[Record],
-) -> Result<Vec<Key>, AllocError>
-    ensures { IfOk result (λ keys. AllZip (λ one key. (key ≡ own_key one) × (has_amount_in_range one ≡ true))
-        records.now keys.items) }
+/// Puts the key of each record at its place, on all processors. None is moved again: what each thread gathered by itself
+/// would be copied into one list, and the first touch of a page costs as much as some twenty keys.
+fn put_keys<R: Threads + Sync>(rt: &R, records: &[Record], keys: &mut [Key])
+    requires { length keys.old ≡ length records.now }
+    ensures { (i : ℕ) (one : Record) (key : Key) → i < length keys.old →
+        (slice_index_or keys.new i key ≡ own_key (slice_index_or records.now i one))
+        × (has_amount_in_range (slice_index_or records.now i one) ≡ true) }
 {
-    records
-        .par_iter()
-        .with_min_len(FEWEST_APART)
-        .map(
-            |one: &Record| -> Key
-                ensures { (result ≡ own_key one.now) × (has_amount_in_range one.now ≡ true) }
-            { own_key(one) },
-        )
-        .collect(rt, alloc)
+    thread::for_each_mut(
+        rt,
+        keys,
+        threads_for(rt, records.len()),
+        &|place: usize, key: &mut Key|
+            requires { place < length records.now }
+            ensures { (one : Record) → (key.new ≡ own_key (slice_index_or records.entry.now place one))
+                × (has_amount_in_range (slice_index_or records.entry.now place one) ≡ true) }
+        { *key = own_key(&records[place]) },
+    );
 }
 
-/// The keys of the records of a list.
+/// The keys of the records of a list, whose amounts are in their range.
 fn own_keys<R: Threads + Sync>(
     rt: &R,
     alloc: Global,
@@ -198,5 +200,7 @@ fn own_keys<R: Threads + Sync>(
     ensures keys { IfOk result (λ keys. keys.items ≡ map own_key records.now) }
     ensures amounts { OnOk result (list_all has_amount_in_range records.now ≡ true) }
 {
-    Ok(collect_keys(rt, alloc, records)?)
+    let mut keys = vec![in alloc; Key::City(City::default()); records.len()]?;
+    put_keys(rt, records, keys.as_mut_slice());
+    Ok(keys)
 }
