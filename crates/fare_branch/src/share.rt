@@ -56,6 +56,5 @@ fn mark(parts: &[Part]) -> u64
 pub(crate) fn is_elsewhere(share: Share, parts: &[Part]) -> bool
     ensures { result ≡ is_elsewhere share parts.now }
 {
-    parts.len() >= MARKED_PARTS
-        && mark(parts) * share.count as u64 / MARKS != share.number as u64
+    parts.len() >= MARKED_PARTS && mark(parts) * share.count as u64 / MARKS != share.number as u64
 }

@@ -1,8 +1,8 @@
 -- The earliest of what the workers found is the best.
 use Rattle.std.proofs.Common.{◌≡◌, ℕ, zero, suc, ◌<◌, ◌≤◌, false, List, [], ◌∷◌, ◌++◌, map, take, drop, get_or, length, Option, Some, None, refl, ap, sym, subst, ◌∙◌, inl, inr, arith}
-use Rattle.std.specs.Prelude.{All, Contains, option_map, slice_index_or, slice_get}
+use Rattle.std.specs.Prelude.{All, Contains, slice_index_or, slice_get}
 use Rattle.std.proofs.lemmas.Bool.{both_ways}
-use Rattle.std.proofs.lemmas.Option.{none-some, slice_get-get_or, slice_get-map}
+use Rattle.std.proofs.lemmas.Option.{none-some, slice_get-get_or}
 use Rattle.std.proofs.lemmas.List.{length-map, take-append-le, take_all}
 use Rattle.atomic_table.specs.Seated.{TableId}
 use Rattle.fare_trip.specs.Itinerary.{Itinerary, count}
@@ -48,12 +48,6 @@ in_map f xs y (k, low, e) =
     let more = at_map f xs k y (slice_get-get_or (map f xs) k y low ∙ ap Some e) in
     (more.0, k, more.1, more.2, more.3)
 
-all_map : {A B : Type 0} (f : A → B) (P : B → Type 0) (xs : List A) → ((k : ℕ) (d : A) → k < length xs → P (f (slice_index_or xs k d)))
-    → All P (map f xs)
-all_map f P [] h k d low = absurd (omega arith)
-all_map f P (x ∷ xs) h zero d low = h zero x (omega arith)
-all_map f P (x ∷ xs) h (suc k) d low = all_map f P xs (λ j e l. h (suc j) e (omega arith)) k d (omega arith)
-
 -- the pieces and the results of rows
 pub pieces_of_rows : (pieces : List Piece) (least : ℕ) (results : List Found) → length results ≡ length pieces
     → map piece_of (rows_of pieces least results) ≡ pieces
@@ -80,10 +74,11 @@ module _ (word : TableId) (prices : Pricing) (pieces : List Piece) where
       → IsPrepared prices word after pieces others
   prepared_again before after results others p h e = record {
     one_word = p.one_word;
+    low = p.low;
     some = p.some;
     few = p.few;
     each = h.count;
-    results = e;
+    full = e;
     seated = λ k d low. (h.each k d (within k low)).seated;
     split = p.split;
   }
@@ -106,20 +101,31 @@ fresh_pieces : (pieces : List Piece) → map piece_of (map fresh pieces) ≡ pie
 fresh_pieces [] = refl
 fresh_pieces (x ∷ xs) = λ i. x ∷ fresh_pieces xs i
 
+-- nothing was found in each piece yet
+pub unsettled_rows : (pieces : List Piece) (results : List Found) → length results ≡ length pieces → All (λ result. result ≡ None) results
+    → rows_of pieces 18446744073709551615 results ≡ map fresh pieces
+unsettled_rows [] results e none = refl
+unsettled_rows (p ∷ ps) [] e none = absurd (omega arith)
+unsettled_rows (p ∷ ps) (x ∷ xs) e none =
+    let first : x ≡ None = none zero None (omega arith) in
+    let more = unsettled_rows ps xs (omega arith) (λ k d low. none (suc k) d (omega arith)) in
+    λ i. record { piece = p; least = 18446744073709551615; result = first i } ∷ more i
+
 -- what was made is prepared
 pub made_prepared : (word : TableId) (prices key : Pricing) (count n : ℕ) (seen pieces : List Piece) (results : List Found)
-    (workers : List Worker) → word.words ≡ 1 → key ≡ prices → 1 ≤ n → n ≤ 16 → seen ≡ pieces → length pieces ≡ n
+    (workers : List Worker) → word.words ≡ 1 → key ≡ prices → floor_of prices ≤ 18446744073709551615 → 1 ≤ n → n ≤ 16 → seen ≡ pieces → length pieces ≡ n
     → count ≡ choice_count prices → ArePieces count pieces → length results ≡ length seen → length workers ≡ n
     → All (IsSeated word (floor_of key)) workers → IsPrepared prices word workers pieces results
-made_prepared word prices key count n seen pieces results workers one k some few s long c split full many seated =
+made_prepared word prices key count n seen pieces results workers one k low some few s long c split full many seated =
     let P : Pricing → Type 0 = λ q. All (IsSeated word (floor_of q)) workers in
     let Q : ℕ → Type 0 = λ m. ArePieces m pieces in
     record {
       one_word = one;
+      low = low;
       some = omega arith;
       few = omega arith;
       each = many ∙ sym long;
-      results = full ∙ ap (λ (ps : List Piece). length ps) s;
+      full = full ∙ ap (λ (ps : List Piece). length ps) s;
       seated = subst P k seated;
       split = subst Q c split;
     }

@@ -13,8 +13,8 @@ use Rattle.fare_units.specs.Walk.{IsBound}
 use Rattle.fare_units.proofs.WalkLemmas.{bound_by_earlier}
 use Rattle.fare_component.specs.Table.{Pricing}
 use Rattle.fare_branch.specs.declared.pieces.Piece.{Piece}
-use Rattle.fare_branch.specs.Search.{BeginsIn, IsSearched, kept_at}
-use Rattle.fare_branch.specs.Shares.{AreFoundIn, IsBegun, IsFoundIn, is_elsewhere}
+use Rattle.fare_branch.specs.Search.{IsSearched, kept_at}
+use Rattle.fare_branch.specs.Shares.{IsBegun, IsFoundIn, is_elsewhere}
 use Rattle.fare_branch.specs.Walked.{IsPassed}
 use Rattle.fare_branch.proofs.ShareLemmas.{are_as_many, are_at, begun_none, belongs, found_falls, searched_by}
 use Rattle.fare_split.specs.declared.worker.Worker.{Worker}
@@ -213,7 +213,9 @@ module _ (word : TableId) (prices : Pricing) (pieces : List Piece) (workers : Li
   searched_upto top (suc n) low =
       let d : Piece = record { first = 0; past = 0 } in
       let P : List Piece → Type 0 = λ ps. AreSearched (least_from top workers) ps (results_of workers (least_from top workers) (suc n)) in
-      subst P (sym (take_more pieces n (record { first = 0; past = 0 }) (omega arith)))
+      let next : n + 1 ≡ suc n = omega arith in
+      let parted : take (suc n) pieces ≡ take n pieces ++ get_or pieces n (record { first = 0; past = 0 }) ∷ [] = ap (λ m. take m pieces) (sym next) ∙ take_more pieces n (record { first = 0; past = 0 }) (omega arith) in
+      subst P (sym parted)
       (searched_more (least_from top workers) (take n pieces) (results_of workers (least_from top workers) n) (get_or pieces n (record { first = 0; past = 0 })) (kept_at (merged_from None workers n) (least_from top workers))
       (searched_upto top n (omega arith)) (searched_there top n (record { first = 0; past = 0 }) (omega arith)))
 
@@ -241,3 +243,27 @@ module _ (word : TableId) (prices : Pricing) (pieces : List Piece) (workers : Li
   have_all k d low =
       let many : length workers ≡ length pieces = run.count in
       are_as_many (share_at k (length pieces)) prices.edition prices.trip (slice_index_or workers k d).least pieces (slice_index_or workers k d).finds.items (run.each k d (omega arith)).found.found
+
+-- the rows of a search that was settled
+pub settled_rows : (word : TableId) (prices : Pricing) (pieces seen : List Piece) (workers found : List Worker) (least : ℕ) (results : List Found)
+    → seen ≡ pieces → found ≡ workers → HaveRun word prices pieces workers → 1 ≤ length pieces → floor_of prices ≤ 18446744073709551615
+    → least ≡ least_from 18446744073709551615 found → results ≡ results_of found least (length seen)
+    → (length results ≡ length pieces) × All (IsRun prices) (rows_of pieces least results)
+settled_rows word prices pieces seen workers found least results s f run some low l r =
+    let known : least ≡ least_from 18446744073709551615 workers = l ∙ ap (least_from 18446744073709551615) f in
+    let all : results ≡ results_of workers (least_from 18446744073709551615 workers) (length pieces) = r ∙ (λ i. results_of (f i) (known i) (length (s i))) in (
+      ap (λ (founds : List Found). length founds) all ∙ results_count workers (least_from 18446744073709551615 workers) (length pieces),
+      both least (least_from 18446744073709551615 workers) results (results_of workers (least_from 18446744073709551615 workers) (length pieces)) known all (runs word prices pieces workers run some 18446744073709551615 low),
+    )
+  where
+    both : (a b : ℕ) (xs ys : List Found) → a ≡ b → xs ≡ ys → All (IsRun prices) (rows_of pieces b ys) → All (IsRun prices) (rows_of pieces a xs)
+    both a b xs ys e f h =
+        subst (λ n. All (IsRun prices) (rows_of pieces n xs)) (sym e) (subst (λ fs. All (IsRun prices) (rows_of pieces b fs)) (sym f) h)
+
+-- each worker that has run found something or nothing in each piece
+pub found_all : (word : TableId) (prices : Pricing) (pieces seen : List Piece) (workers found : List Worker) → seen ≡ pieces → found ≡ workers
+    → HaveRun word prices pieces workers → 1 ≤ length pieces → All (HasAll (length seen)) found
+found_all word prices pieces seen workers found s f run some =
+    let P : List Worker → Type 0 = λ ws. All (HasAll (length seen)) ws in
+    let Q : List Piece → Type 0 = λ ps. All (HasAll (length ps)) workers in
+    subst P (sym f) (subst Q (sym s) (have_all word prices pieces workers run some))

@@ -3,11 +3,10 @@ use Rattle.std.specs.Prelude.{◌≡◌, ℕ, zero, suc, ◌<◌, ◌≤◌, ◌
 use Rattle.std.specs.Prelude.{All, length, slice_index_or}
 use Rattle.atomic_table.specs.Seated.{TableId}
 use Rattle.atomic_table.specs.declared.shared.Seat.{Seat}
-use Rattle.fare_trip.specs.Itinerary.{Itinerary}
-use Rattle.fare_tariff.specs.Tariff.{Tariff}
 use Rattle.fare_rules.specs.declared.part.Part.{Part}
 use Rattle.fare_rules.specs.Best.{IsLawful}
 use Rattle.fare_component.specs.Table.{Pricing}
+use Rattle.fare_branch.specs.declared.bound.TheConstants.{NO_PRICE}
 use Rattle.fare_branch.specs.declared.pieces.Piece.{Piece}
 use Rattle.fare_branch.specs.declared.searching.TheConstants.{MOST_PIECES}
 use Rattle.fare_branch.specs.declared.share.Share.{Share}
@@ -43,8 +42,8 @@ pub record HaveFound (prices : Pricing) (pieces : List Piece) (workers : List Wo
   pub each : (k : ℕ) (d : Worker) → k < length workers → HasFound prices pieces k (slice_index_or workers k d)
 
 -- a worker of a number has run: it has its seat, and has found what its share comes to
-pub record HasRun (word : TableId) (prices : Pricing) (pieces : List Piece) (number : ℕ) (worker : Worker) : Type 0
-where
+pub record HasRun (word : TableId) (prices : Pricing) (pieces : List Piece) (number : ℕ) (worker : Worker) :
+    Type 0 where
   pub seated : IsSeated word (floor_of prices) worker
   pub found : HasFound prices pieces number worker
 
@@ -85,20 +84,21 @@ abbrev pub IsInNone : ℕ → ℕ → List Part → Type 0
 IsInNone upto count parts = (number : ℕ) → number < upto → is_elsewhere (share_at number count) parts ≡ true
 
 -- what some first workers found in a piece comes to one construction: each lawful one of their shares is passed
-pub record IsMerged (prices : Pricing) (piece : Piece) (upto count least : ℕ) (found : Option (List Part × ℕ)) : Type 0
-where
+pub record IsMerged (prices : Pricing) (piece : Piece) (upto count least : ℕ) (found : Option (List Part × ℕ)) :
+    Type 0 where
   pub begun : IsBegun prices.edition prices.trip piece least found
   pub passed : (parts : List Part) (price : ℕ) → IsLawful prices.edition prices.trip parts price
       → BeginsIn prices.edition prices.trip piece parts → IsInNone upto count parts ⊎ IsPassed least found parts price
 
 -- what is prepared holds together: the workers are as many as the pieces and the results, have seats at the one word,
--- and the pieces share out the first-part choices
+-- and the pieces share out the first-part choices; no price is less than the floor
 pub record IsPrepared (prices : Pricing) (word : TableId) (workers : List Worker) (pieces : List Piece)
     (results : List (Option (List Part × ℕ))) : Type 0 where
   pub one_word : word.words ≡ 1
+  pub low : floor_of prices ≤ NO_PRICE
   pub some : 1 ≤ length pieces
   pub few : length pieces ≤ MOST_PIECES
   pub each : length workers ≡ length pieces
-  pub results : length results ≡ length pieces
+  pub full : length results ≡ length pieces
   pub seated : All (IsSeated word (floor_of prices)) workers
   pub split : ArePieces (choice_count prices) pieces

@@ -23,7 +23,7 @@ use std::marker::Model;
 use std::thread::Threads;
 
 /// All that a search on some workers needs. A contract sees what is priced and a row for each worker: its piece, the
-/// least price that it knows, and what it found. Until a search these two are `NO_PRICE` and nothing.
+/// least price that is known, and what was found there. Until a search these two are `NO_PRICE` and nothing.
 #[derive(Drop)]
 pub struct Prepared<'a> {
     table: Table<'a>,

@@ -27,7 +27,7 @@ pub(crate) fn run_all<R: Threads + Sync, G: Gate>(
     requires few { length pieces.now ≤ MOST_PIECES }
     requires each { length workers.old ≡ length pieces.now }
     requires seated { All (IsSeated word.now.shared.table_id (floor_of table.now)) workers.old }
-    ensures { HaveRun word.now.shared.table_id table.now pieces.now workers.old workers.new }
+    ensures { HaveRun word.now.shared.table_id table.now pieces.now workers.new }
 {
     let threads = workers.len();
     thread::for_each_mut(
