@@ -3,6 +3,7 @@ pub mod WalkedLemmas
 pub mod StepLemmas
 pub mod ChoiceLemmas
 pub mod PieceLemmas
+pub mod ShareLemmas
 pub mod LeastLemmas
 pub mod WholeLemmas
 pub mod BarredLemmas

@@ -1,8 +1,8 @@
 -- Walks over the constructions that begin in a piece, and what a search of it comes to.
-use Rattle.std.proofs.Common.{◌≡◌, ℕ, ◌+◌, ◌<◌, ◌≤◌, ◌⊎◌, max, true, false, List, [], length, Option, Some, None, refl, ap, subst, sym, ◌∙◌, inl, inr, arith}
-use Rattle.std.specs.Prelude.{slice_get, nat_le}
+use Rattle.std.proofs.Common.{◌≡◌, ℕ, ◌+◌, ◌<◌, ◌≤◌, ◌⊎◌, max, true, false, List, [], length, Option, Some, None, ap, subst, sym, ◌∙◌, inl, inr, arith}
+use Rattle.std.specs.Prelude.{slice_get}
 use Rattle.std.proofs.lemmas.Option.{slice_get_within}
-use Rattle.std.proofs.lemmas.Bool.{cases_Bool, cases_lt, leb-true, leb-false}
+use Rattle.std.proofs.lemmas.Bool.{cases_lt}
 use Rattle.fare_trip.specs.Itinerary.{Itinerary}
 use Rattle.fare_tariff.specs.Tariff.{Tariff}
 use Rattle.fare_rules.specs.declared.part.Part.{Part}
@@ -14,9 +14,8 @@ use Rattle.fare_rules.proofs.OrderLemmas.{before_says}
 use Rattle.fare_units.specs.Walk.{GoesOn, IsPart}
 use Rattle.fare_units.proofs.NextLemmas.{next_numbered}
 use Rattle.fare_branch.specs.declared.pieces.Piece.{Piece}
-use Rattle.fare_branch.specs.Search.{BeginsBy, BeginsIn, IsSearched, kept_at}
+use Rattle.fare_branch.specs.Search.{BeginsBy, BeginsIn}
 use Rattle.fare_branch.specs.Sought.{IsWalk}
-use Rattle.fare_branch.specs.Walked.{IsHeld, IsPassed, IsTold}
 use Rattle.fare_branch.proofs.SoughtLemmas.{Passed, Held, walk_nothing, walk_then, walk_within}
 use Rattle.fare_branch.proofs.WalkedLemmas.{not_after}
 
@@ -30,7 +29,7 @@ some_end : (a b : Choice) → Some a ≡ Some b → (a.0 ≡ b.0) × (a.1 ≡ b.
 some_end a b e = let same : a ≡ b = cc in (ap (λ (c : Choice). c.0) same, ap (λ (c : Choice). c.1) same)
 
 -- what costs less is not behind what costs more
-dearer : (xs ys : List Part) (px py : ℕ) → py < px → is_before xs px ys py ≡ false
+pub dearer : (xs ys : List Part) (px py : ℕ) → py < px → is_before xs px ys py ≡ false
 dearer xs ys px py h = not_after ys xs py px (before_says ys xs py px (inl h))
 
 pub cheaper : (xs ys : List Part) (px py : ℕ) → is_before xs px ys py ≡ false → py ≤ px
@@ -107,26 +106,3 @@ module _ (tariff : Tariff) (trip : Itinerary) where
             | inl l ↦ let few : length (first_part_choices tariff trip) ≤ number = all l in omega arith
             | inr g ↦ omega arith
           ]
-
-  -- what a search answers, after dives into its piece
-  pub searched : (piece : Piece) (before after least : ℕ) (best found : Found) → least ≤ after → ((parts : List Part) → IsHeld best parts → BeginsIn tariff trip piece parts) → IsTold tariff trip after found → IsWalk tariff trip (BeginsIn tariff trip piece) (IsPassed before best) (IsHeld best) (IsPassed after found) (IsHeld found) → IsSearched tariff trip piece least (kept_at found least)
-  searched piece before after least best None low begins told walk = λ parts price l b.
-      elim (walk.walked parts price l b) [ inl h ↦ omega arith | inr h ↦ absurd h ]
-  searched piece before after least best (Some one) low begins told walk =
-      let least_told : after ≤ one.1 = told.1 in
-      elim (cases_Bool (nat_le one.1 least)) [
-        | inl t ↦
-            let up : one.1 ≤ least = leb-true one.1 least t in
-            rw t (record {
-              lawful = told.0;
-              begins = elim (walk.from one.0 refl) [ inl was ↦ begins one.0 was | inr b ↦ b ];
-              told = omega arith;
-              first = λ other cost l b. elim (walk.walked other cost l b) [ inl h ↦ dearer other one.0 cost one.1 (omega arith) | inr h ↦ h ];
-            })
-        | inr f ↦
-            let above : least < one.1 = leb-false one.1 least f in
-            rw f (λ parts price l b. elim (walk.walked parts price l b) [
-              | inl h ↦ omega arith
-              | inr h ↦ let up : one.1 ≤ price = cheaper parts one.0 price one.1 h in omega arith
-            ])
-      ]

@@ -22,7 +22,7 @@ true_false : true ≡ false → ⊥
 true_false e = cc
 
 -- what was passed stays so where the least price falls
-passed_falls : (before after : ℕ) (best : Found) (parts : List Part) (price : ℕ) → after ≤ before → IsPassed before best parts price → IsPassed after best parts price
+pub passed_falls : (before after : ℕ) (best : Found) (parts : List Part) (price : ℕ) → after ≤ before → IsPassed before best parts price → IsPassed after best parts price
 passed_falls before after best parts price h (inl l) = inl (omega arith)
 passed_falls before after best parts price h (inr b) = inr b
 

@@ -8,6 +8,7 @@ pub mod Crowding
 pub mod Sought
 pub mod Walked
 pub mod Search
+pub mod Shares
 pub mod Dive
 pub mod LeastPrice
 pub mod Opening

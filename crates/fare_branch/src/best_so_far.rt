@@ -1,13 +1,15 @@
 //! The best construction that was found so far, as what a walk looks for. What can't be before it, or costs more than
 //! the least price known, isn't wanted.
 
-ghost use Rattle.std.specs.Prelude.{◌≡◌};
+ghost use Rattle.std.specs.Prelude.{◌≡◌, true};
 ghost use Rattle.fare_rules.specs.Best.{IsLawful};
 ghost use Rattle.fare_units.specs.Walk.{IsList, TakesBetter};
+ghost use Rattle.fare_branch.specs.Shares.{is_elsewhere};
 ghost use Rattle.fare_branch.specs.Walked.{IsBestWalk, IsUnderAll, is_beaten, is_no_sooner};
 
 use crate::bound::Bound;
 use crate::seeker::Seeker;
+use crate::share::{MARKED_PARTS, Share, is_elsewhere};
 use fare_component::Table;
 use fare_floors::Partial;
 use fare_units::{Construction, earlier};
@@ -55,6 +57,14 @@ fn is_beaten(best: &Found, front: &Partial, floor: u64) -> bool
     }
 }
 
+/// Whether all completions of some parts belong to another share. Longer parts than those by which it is told were seen
+/// when they had as many.
+fn is_other(share: Share, front: &Partial) -> bool
+    ensures { result ≡ true → is_elsewhere share front.now ≡ true }
+{
+    front.parts().len() == MARKED_PARTS && is_elsewhere(share, front.parts())
+}
+
 /// Tells the price of a lawful construction, and keeps it where it is before the best that was found.
 pub(crate) fn keep<B: Bound>(
     table: &Table,
@@ -74,24 +84,29 @@ pub(crate) fn keep<B: Bound>(
     better(front, price, best)
 }
 
-/// A seeker of the best construction, by what a bound knows of the least price.
+/// A seeker of the best construction of a share, by what a bound knows of the least price.
 #[derive(Drop)]
 pub(crate) struct BestSoFar {
+    pub(crate) share: Share,
+    /// The least price that was known at its begin.
+    pub(crate) known: u64,
     pub(crate) found: Found,
 }
 
 impl<B: Bound> Seeker<B> for BestSoFar {
-    ghost use Rattle.std.specs.Prelude.{ℕ};
-    ghost use Rattle.fare_branch.specs.Walked.{IsHeld, IsPassed, IsTold};
+    ghost use Rattle.std.specs.Prelude.{ℕ, ◌≤◌};
+    ghost use Rattle.fare_branch.specs.declared.share.Share.{Share};
+    ghost use Rattle.fare_branch.specs.Shares.{IsPassedIn};
+    ghost use Rattle.fare_branch.specs.Walked.{IsHeld, IsTold};
 
-    ghost Fixed = { ℕ };
+    ghost Fixed = { ℕ × Share × ℕ };
 
-    ghost fixed = { λ best bound. B.fixed bound };
+    ghost fixed = { λ best bound. (B.fixed bound, best.share, best.known) };
 
     ghost holds = { λ tariff trip best bound. IsUnderAll tariff trip (B.fixed bound)
-        × IsTold tariff trip (B.least bound) best.found };
+        × IsTold tariff trip (B.least bound) best.found × (B.least bound ≤ best.known) };
 
-    ghost passed = { λ best bound parts price. IsPassed (B.least bound) best.found parts price };
+    ghost passed = { λ best bound parts price. IsPassedIn best.share (B.least bound) best.found parts price };
 
     ghost has = { λ best bound parts. IsHeld best.found parts };
 
@@ -100,7 +115,7 @@ impl<B: Bound> Seeker<B> for BestSoFar {
     }
 
     fn is_behind(&self, _bound: &B, front: &Partial, floor: u64) -> bool {
-        is_beaten(&self.found, front, floor)
+        is_other(self.share, front) || is_beaten(&self.found, front, floor)
     }
 
     fn take(&mut self, bound: &mut B, table: &Table, front: &Partial, price: u64) {

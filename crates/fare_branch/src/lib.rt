@@ -9,11 +9,12 @@
 //! - `diving`: the steps of a dive;
 //! - `descent`: a dive for a price to begin with;
 //! - `seeker`: what a walk over constructions looks for;
-//! - `best_so_far`: the best that was found so far, as what a walk looks for;
+//! - `share`: the shares of the constructions;
+//! - `best_so_far`: the best of a share that was found so far, as what a walk looks for;
 //! - `walking`: the walk over the constructions that begin with some parts, whatever it looks for;
 //! - `opening`: what a search begins with: dives for a price, and a ceiling below it;
 //! - `deepening`: a bound that dives once more where a search takes long;
-//! - `searching`: the search of a piece;
+//! - `searching`: the search of a piece, and of a share of each of some pieces;
 //! - `quoter`: the quoter that searches all of them.
 //!
 //! Each of these stands on those above it.
@@ -32,6 +33,7 @@ mod pieces;
 mod quoter;
 mod searching;
 mod seeker;
+mod share;
 mod walking;
 
 pub use barred::is_barred;
@@ -43,6 +45,7 @@ pub use opening::is_far;
 pub use own_bound::OwnBound;
 pub use pieces::{Piece, choices};
 pub use quoter::{BranchQuoter, best_of, best_under};
-pub use searching::search;
+pub use searching::{Finds, MOST_PIECES, kept_at, search, search_share};
 pub use seeker::Seeker;
+pub use share::Share;
 pub use walking::walk;

@@ -1,25 +1,35 @@
 //! The search of a piece.
 
-ghost use Rattle.std.specs.Prelude.{◌≡◌, []};
+ghost use Rattle.std.specs.Prelude.{◌≡◌, ◌≤◌, ◌<◌, [], length, not};
 ghost use Rattle.fare_bounds.specs.Covers.{AreRests};
 ghost use Rattle.fare_floors.specs.Ahead.{IsStage};
 ghost use Rattle.fare_branch.specs.Beginnings.{AreCounts};
 ghost use Rattle.fare_homing.specs.Rows.{AreHomingsOf};
 ghost use Rattle.fare_branch.specs.Search.{IsLeastPrice, BeginsIn, BeginsBy, IsSearched, kept_at};
+ghost use Rattle.fare_branch.specs.Shares.{AreFoundIn, IsBegun, IsFoundIn, begun_at};
 ghost use Rattle.fare_branch.specs.Sought.{IsWalk};
+ghost use Rattle.fare_branch.specs.Walked.{IsUnderAll};
 
 use crate::best_so_far::{BestSoFar, Found};
 use crate::bound::Bound;
 use crate::opening::{bring_closer, dives, raise};
 use crate::pieces::{Counts, Piece, choice, choices, counts_of};
 use crate::seeker::Seeker;
+use crate::share::{Share, WHOLE};
 use crate::walking::follow;
+use arrayvec::ArrayVec;
 use fare_bounds::Rest;
 use fare_component::Table;
 use fare_floors::{Partial, Stage, ahead_of, floor_ahead, stack_of};
 use fare_homing::{Homing, homing_of};
 use fare_rules::Part;
 use fare_units::Construction;
+
+/// How many pieces are searched together at most.
+pub const MOST_PIECES: usize = 16;
+
+/// What was found in each of some pieces.
+pub type Finds = ArrayVec<Option<(Construction, u64)>, MOST_PIECES>;
 
 /// The best of the constructions that begin in a piece, where its price is the least that the bound knows at the end;
 /// nothing only where each of them costs more than that.
@@ -35,18 +45,92 @@ pub fn search<B: Bound>(
     ensures searched { IsSearched table.now.edition table.now.trip piece (B.least bound.new) result }
 {
     let mut homing = homing_of(table, None);
-    let first = dives(table, &mut homing, piece, bound);
-    let known = bound.seen();
-    raise(table, &mut homing, known);
-    bring_closer(table, &mut homing, known);
-    let mut best = BestSoFar { found: first };
-    walk_piece(table, &homing, piece, &mut best, bound);
+    let first = opened(table, &mut homing, piece, bound);
+    let best = BestSoFar {
+        share: WHOLE,
+        known: bound.seen(),
+        found: first,
+    };
+    let found = found_in(table, &homing, piece, best, bound);
     let least = bound.seen();
-    kept_at(best.found, least)
+    kept_at(found, least)
+}
+
+/// The best of one share of the constructions in each of some pieces, or else one that was found before it was known
+/// that it costs more than the least price. There are as many shares as pieces, and what is dived for begins in the
+/// piece of the share's number. What the shares come to in a piece is together what `search` does.
+pub fn search_share<B: Bound>(table: &Table, pieces: &[Piece], number: u32, bound: &mut B) -> Finds
+    requires few { length pieces.now ≤ MOST_PIECES }
+    requires number { number < length pieces.now }
+    requires least { IsLeastPrice table.now.edition table.now.trip (B.fixed bound.old) }
+    ensures fixed { B.fixed bound.new ≡ B.fixed bound.old }
+    ensures found { AreFoundIn table.now.edition table.now.trip
+        (record { number = number; count = length pieces.now }) (B.least bound.new) pieces.now result.items }
+{
+    let share = Share {
+        number,
+        count: pieces.len() as u32,
+    };
+    let mut homing = homing_of(table, None);
+    let mut first = opened(table, &mut homing, pieces[number as usize], bound);
+    let mut finds = Finds::new();
+    for piece in pieces {
+        let best = BestSoFar {
+            share,
+            known: bound.seen(),
+            found: begun(&mut first, finds.len() == number as usize),
+        };
+        let found = found_in(table, &homing, *piece, best, bound);
+        finds.push(found);
+    }
+    finds
+}
+
+/// What dives come to in a piece. What is behind each point is then known for a search that begins with it.
+fn opened<B: Bound>(table: &Table, homing: &mut Homing, piece: Piece, bound: &mut B) -> Found
+    requires homing { AreHomingsOf table.now.edition table.now.trip homing.old }
+    requires under { IsUnderAll table.now.edition table.now.trip (B.fixed bound.old) }
+    ensures homing { AreHomingsOf table.now.edition table.now.trip homing.new }
+    ensures fixed { B.fixed bound.new ≡ B.fixed bound.old }
+    ensures begun { IsBegun table.now.edition table.now.trip piece (B.least bound.new) result }
+{
+    let first = dives(table, homing, piece, bound);
+    let known = bound.seen();
+    raise(table, homing, known);
+    bring_closer(table, homing, known);
+    first
+}
+
+/// What was dived for, where a search of its piece begins.
+fn begun(first: &mut Found, is_there: bool) -> Found
+    ensures value { result ≡ begun_at first.old is_there }
+    ensures left { first.new ≡ begun_at first.old (not is_there) }
+{
+    if is_there { first.take() } else { None }
+}
+
+/// The best of a share of the constructions that begin in a piece, by a seeker that begins with what was dived for.
+fn found_in<B: Bound>(
+    table: &Table,
+    homing: &Homing,
+    piece: Piece,
+    mut best: BestSoFar,
+    bound: &mut B,
+) -> Found
+    requires homing { AreHomingsOf table.now.edition table.now.trip homing.now }
+    requires under { IsUnderAll table.now.edition table.now.trip (B.fixed bound.old) }
+    requires begun { IsBegun table.now.edition table.now.trip piece (B.least bound.old) best.found }
+    requires known { B.least bound.old ≤ best.known }
+    ensures fixed { B.fixed bound.new ≡ B.fixed bound.old }
+    ensures falls { B.least bound.new ≤ best.known }
+    ensures found { IsFoundIn table.now.edition table.now.trip best.share (B.least bound.new) piece result }
+{
+    walk_piece(table, homing, piece, &mut best, bound);
+    best.found
 }
 
 /// What was found, where its price is no more than a number.
-fn kept_at(found: Found, least: u64) -> Found
+pub fn kept_at(found: Found, least: u64) -> Found
     ensures { result ≡ kept_at found least }
 {
     match found {

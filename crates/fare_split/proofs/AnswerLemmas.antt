@@ -1,8 +1,8 @@
 -- The earliest of what the workers found is the best.
 use Rattle.std.proofs.Common.{◌≡◌, ℕ, zero, suc, ◌<◌, ◌≤◌, false, List, [], ◌∷◌, ◌++◌, map, take, drop, get_or, length, Option, Some, None, refl, ap, sym, subst, ◌∙◌, inl, inr, arith}
-use Rattle.std.specs.Prelude.{All, Contains, option_map, slice_index_or, slice_get}
+use Rattle.std.specs.Prelude.{All, Contains, slice_index_or, slice_get}
 use Rattle.std.proofs.lemmas.Bool.{both_ways}
-use Rattle.std.proofs.lemmas.Option.{none-some, slice_get-get_or, slice_get-map}
+use Rattle.std.proofs.lemmas.Option.{none-some, slice_get-get_or}
 use Rattle.std.proofs.lemmas.List.{length-map, take-append-le, take_all}
 use Rattle.atomic_table.specs.Seated.{TableId}
 use Rattle.fare_trip.specs.Itinerary.{Itinerary, count}
@@ -16,7 +16,6 @@ use Rattle.fare_rules.proofs.ExistenceLemmas.{best_answer}
 use Rattle.fare_rules.proofs.FirstPartLemmas.{first_is_choice}
 use Rattle.fare_rules.proofs.LawfulLemmas.{kept}
 use Rattle.fare_component.specs.Table.{Pricing}
-use Rattle.fare_bounds.specs.Covers.{AreRests}
 use Rattle.fare_branch.specs.declared.pieces.Piece.{Piece}
 use Rattle.fare_branch.specs.Search.{IsSearched, BeginsIn}
 use Rattle.fare_branch.specs.LeastPrice.{least_price}
@@ -24,8 +23,8 @@ use Rattle.fare_branch.proofs.LeastLemmas.{least_price_is}
 use Rattle.fare_branch.proofs.PieceLemmas.{cheaper}
 use Rattle.fare_split.specs.declared.worker.Worker.{Worker}
 use Rattle.fare_split.specs.PriceWord.{floor_of}
-use Rattle.fare_split.specs.Rows.{Row, fresh, IsFresh, piece_of, result_of, LiesInOne, ArePieces, choice_count, IsRun, IsNotAfter, IsEarliest}
-use Rattle.fare_split.specs.Workers.{row_of, rows_of, IsSeated, HaveRun, AreMade, IsPrepared}
+use Rattle.fare_split.specs.Rows.{Row, fresh, IsFresh, piece_of, result_of, rows_of, LiesInOne, ArePieces, choice_count, IsRun, IsNotAfter, IsEarliest}
+use Rattle.fare_split.specs.Workers.{IsSeated, HaveRun, IsPrepared}
 
 abbrev Found : Type 0
 Found = Option (List Part × ℕ)
@@ -49,121 +48,116 @@ in_map f xs y (k, low, e) =
     let more = at_map f xs k y (slice_get-get_or (map f xs) k y low ∙ ap Some e) in
     (more.0, k, more.1, more.2, more.3)
 
-all_map : {A B : Type 0} (f : A → B) (P : B → Type 0) (xs : List A) → ((k : ℕ) (d : A) → k < length xs → P (f (slice_index_or xs k d)))
-    → All P (map f xs)
-all_map f P [] h k d low = absurd (omega arith)
-all_map f P (x ∷ xs) h zero d low = h zero x (omega arith)
-all_map f P (x ∷ xs) h (suc k) d low = all_map f P xs (λ j e l. h (suc j) e (omega arith)) k d (omega arith)
+-- the pieces and the results of rows
+pub pieces_of_rows : (pieces : List Piece) (least : ℕ) (results : List Found) → length results ≡ length pieces
+    → map piece_of (rows_of pieces least results) ≡ pieces
+pieces_of_rows [] least results e = refl
+pieces_of_rows (p ∷ ps) least [] e = absurd (omega arith)
+pieces_of_rows (p ∷ ps) least (x ∷ xs) e = λ i. p ∷ pieces_of_rows ps least xs (omega arith) i
 
-module _ (word : TableId) (prices : Pricing) where
-  pub runs : (before after : List Worker) → HaveRun word prices before after → All (IsRun prices) (rows_of after)
-  runs before after h =
-      let same : length after ≡ length before = h.count in
-      all_map row_of (IsRun prices) after (λ k d low. (h.each k d (omega arith)).run)
+pub results_of_rows : (pieces : List Piece) (least : ℕ) (results : List Found) → length results ≡ length pieces
+    → map result_of (rows_of pieces least results) ≡ results
+results_of_rows [] least [] e = refl
+results_of_rows [] least (x ∷ xs) e = absurd (omega arith)
+results_of_rows (p ∷ ps) least [] e = absurd (omega arith)
+results_of_rows (p ∷ ps) least (x ∷ xs) e = λ i. x ∷ results_of_rows ps least xs (omega arith) i
 
-  kept_one_by_one : (before after : List Worker) → length after ≡ length before
-      → ((k : ℕ) (d : Worker) → k < length before → (slice_index_or after k d).piece ≡ (slice_index_or before k d).piece)
-      → map piece_of (rows_of after) ≡ map piece_of (rows_of before)
-  kept_one_by_one [] [] e h = refl
-  kept_one_by_one [] (y ∷ ys) e h = absurd (omega arith)
-  kept_one_by_one (x ∷ xs) [] e h = absurd (omega arith)
-  kept_one_by_one (x ∷ xs) (y ∷ ys) e h =
-      let first : y.piece ≡ x.piece = h zero x (omega arith) in
-      let more = kept_one_by_one xs ys (omega arith) (λ k d low. h (suc k) d (omega arith)) in
-      λ i. first i ∷ more i
+pub rows_count : (pieces : List Piece) (least : ℕ) (results : List Found) → length results ≡ length pieces
+    → length (rows_of pieces least results) ≡ length pieces
+rows_count [] least results e = refl
+rows_count (p ∷ ps) least [] e = absurd (omega arith)
+rows_count (p ∷ ps) least (x ∷ xs) e = ap suc (rows_count ps least xs (omega arith))
 
-  pub pieces_kept : (before after : List Worker) → HaveRun word prices before after
-      → map piece_of (rows_of after) ≡ map piece_of (rows_of before)
-  pieces_kept before after h = kept_one_by_one before after h.count (λ k d low. (h.each k d low).piece)
-
-  pub prepared_again : (rests : List (Option ℕ)) (before after : List Worker) (pieces : List Piece)
-      → IsPrepared prices rests word before pieces → HaveRun word prices before after
-      → IsPrepared prices rests word after pieces
-  prepared_again rests before after pieces p h =
-      let same : length after ≡ length before = h.count in
-      let some : 1 ≤ length before = p.some in
-      let few : length before ≤ 16 = p.few in
-      record {
-        one_word = p.one_word;
-        covers = p.covers;
-        some = omega arith;
-        few = omega arith;
-        seated = λ k d low. (h.each k d (omega arith)).seated;
-        own = p.own ∙ sym (pieces_kept before after h);
-        split = p.split;
-      }
+module _ (word : TableId) (prices : Pricing) (pieces : List Piece) where
+  pub prepared_again : (before after : List Worker) (results others : List Found)
+      → IsPrepared prices word before pieces results → HaveRun word prices pieces after → length others ≡ length pieces
+      → IsPrepared prices word after pieces others
+  prepared_again before after results others p h e = record {
+    one_word = p.one_word;
+    low = p.low;
+    some = p.some;
+    few = p.few;
+    each = h.count;
+    full = e;
+    seated = λ k d low. (h.each k d (within k low)).seated;
+    split = p.split;
+  }
+    where
+      within : (k : ℕ) → k < length after → k < length pieces
+      within k low = let same : length after ≡ length pieces = h.count in omega arith
 
   -- the workers of a vector whose slice was lent out for the runs
-  pub written : (before seen new : List Worker) (len : ℕ) → seen ≡ before → len ≡ length before → HaveRun word prices seen new
-      → HaveRun word prices before (take len (new ++ drop (length new) before))
-  written before seen new len e long h =
-      let P : List Worker → Type 0 = λ ws. HaveRun word prices ws new in
-      let ran : HaveRun word prices before new = subst P e h in
-      let count : length new ≡ length before = ran.count in
-      let Q : List Worker → Type 0 = λ ws. HaveRun word prices before ws in
+  pub written : (before new : List Worker) (len : ℕ) → len ≡ length before → length before ≡ length pieces
+      → HaveRun word prices pieces new → HaveRun word prices pieces (take len (new ++ drop (length new) before))
+  written before new len long each h =
+      let count : length new ≡ length pieces = h.count in
+      let P : List Worker → Type 0 = λ ws. HaveRun word prices pieces ws in
       let same : take len (new ++ drop (length new) before) ≡ new =
       take-append-le len new (drop (length new) before) (omega arith) ∙ take_all len new (omega arith) in
-      subst Q (sym same) ran
+      subst P (sym same) h
 
 -- the pieces of fresh rows
 fresh_pieces : (pieces : List Piece) → map piece_of (map fresh pieces) ≡ pieces
 fresh_pieces [] = refl
 fresh_pieces (x ∷ xs) = λ i. x ∷ fresh_pieces xs i
 
-made_pieces : (pieces : List Piece) (workers : List Worker) → rows_of workers ≡ map fresh pieces
-    → map piece_of (rows_of workers) ≡ pieces
-made_pieces pieces workers e = ap (map piece_of) e ∙ fresh_pieces pieces
-
-made_count : (pieces : List Piece) (workers : List Worker) → rows_of workers ≡ map fresh pieces
-    → length (rows_of workers) ≡ length pieces
-made_count pieces workers e = ap (λ (rows : List Row). length rows) e ∙ length-map pieces fresh
+-- nothing was found in each piece yet
+pub unsettled_rows : (pieces : List Piece) (results : List Found) → length results ≡ length pieces → All (λ result. result ≡ None) results
+    → rows_of pieces 18446744073709551615 results ≡ map fresh pieces
+unsettled_rows [] results e none = refl
+unsettled_rows (p ∷ ps) [] e none = absurd (omega arith)
+unsettled_rows (p ∷ ps) (x ∷ xs) e none =
+    let first : x ≡ None = none zero None (omega arith) in
+    let more = unsettled_rows ps xs (omega arith) (λ k d low. none (suc k) d (omega arith)) in
+    λ i. record { piece = p; least = 18446744073709551615; result = first i } ∷ more i
 
 -- what was made is prepared
-pub made_prepared : (word : TableId) (prices key : Pricing) (rests : List (Option ℕ)) (count n : ℕ) (seen pieces : List Piece)
-    (workers : List Worker) → word.words ≡ 1 → key ≡ prices → AreRests prices.edition prices.trip rests → 1 ≤ n → n ≤ 16
-    → seen ≡ pieces → length pieces ≡ n → count ≡ choice_count prices → ArePieces count pieces
-    → AreMade word (floor_of key) seen workers → IsPrepared prices rests word workers pieces
-made_prepared word prices key rests count n seen pieces workers one k covers some few s long c split made =
-    let rows : rows_of workers ≡ map fresh pieces = made.rows ∙ ap (map fresh) s in
-    let all : length (rows_of workers) ≡ length pieces = made_count pieces workers rows in
-    let each : length (rows_of workers) ≡ length workers = length-map workers row_of in
+pub made_prepared : (word : TableId) (prices key : Pricing) (count n : ℕ) (seen pieces : List Piece) (results : List Found)
+    (workers : List Worker) → word.words ≡ 1 → key ≡ prices → floor_of prices ≤ 18446744073709551615 → 1 ≤ n → n ≤ 16 → seen ≡ pieces → length pieces ≡ n
+    → count ≡ choice_count prices → ArePieces count pieces → length results ≡ length seen → length workers ≡ n
+    → All (IsSeated word (floor_of key)) workers → IsPrepared prices word workers pieces results
+made_prepared word prices key count n seen pieces results workers one k low some few s long c split full many seated =
     let P : Pricing → Type 0 = λ q. All (IsSeated word (floor_of q)) workers in
     let Q : ℕ → Type 0 = λ m. ArePieces m pieces in
     record {
       one_word = one;
-      covers = covers;
+      low = low;
       some = omega arith;
       few = omega arith;
-      seated = subst P k made.seated;
-      own = sym (made_pieces pieces workers rows);
+      each = many ∙ sym long;
+      full = full ∙ ap (λ (ps : List Piece). length ps) s;
+      seated = subst P k seated;
       split = subst Q c split;
     }
 
 -- what was made is fresh
-pub made_fresh : (tariff : Tariff) (trip : Itinerary) (prices : Pricing) (count n : ℕ) (seen pieces : List Piece)
-    (workers : List Worker) (word : TableId) (floor : ℕ) → prices ≡ record { edition = tariff; trip = trip }
-    → seen ≡ pieces → length pieces ≡ n → count ≡ choice_count prices → ArePieces count pieces
-    → AreMade word floor seen workers → IsFresh tariff trip n (record { prices = prices; rows = rows_of workers })
-made_fresh tariff trip prices count n seen pieces workers word floor p s long c split made =
-    let rows : rows_of workers ≡ map fresh pieces = made.rows ∙ ap (map fresh) s in
-    let same : map piece_of (rows_of workers) ≡ pieces = made_pieces pieces workers rows in
+pub made_fresh : (tariff : Tariff) (trip : Itinerary) (prices : Pricing) (count n least : ℕ) (seen pieces : List Piece)
+    (results : List Found) → prices ≡ record { edition = tariff; trip = trip } → seen ≡ pieces → length pieces ≡ n
+    → count ≡ choice_count prices → ArePieces count pieces → length results ≡ length seen
+    → rows_of seen least results ≡ map fresh seen
+    → IsFresh tariff trip n (record { prices = prices; rows = rows_of pieces least results })
+made_fresh tariff trip prices count n least seen pieces results p s long c split full rows =
+    let many : length results ≡ length pieces = full ∙ ap (λ (ps : List Piece). length ps) s in
+    let same : map piece_of (rows_of pieces least results) ≡ pieces = pieces_of_rows pieces least results many in
+    let fresh_rows : rows_of pieces least results ≡ map fresh pieces = subst (λ ps. rows_of ps least results ≡ map fresh ps) s rows in
     let total : count ≡ length (first_part_choices tariff trip) = c ∙ ap choice_count p in
     let P : List Piece → Type 0 = λ ps. ArePieces (length (first_part_choices tariff trip)) ps in
     let Q : ℕ → Type 0 = λ m. ArePieces m pieces in
     record {
       prices = p;
-      count = made_count pieces workers rows ∙ long;
-      rows = rows ∙ ap (map fresh) (sym same);
+      count = rows_count pieces least results many ∙ long;
+      rows = fresh_rows ∙ ap (map fresh) (sym same);
       pieces = subst P (sym same) (subst Q total split);
     }
 
--- what a worker found stands in its row
-pub result_there : (workers : List Worker) (k : ℕ) (d : Worker) → k < length (rows_of workers)
-    → slice_get (map result_of (rows_of workers)) k ≡ Some (get_or workers k d).found
-result_there workers k d low =
-    let each : length (rows_of workers) ≡ length workers = length-map workers row_of in
-    slice_get-map result_of (rows_of workers) k
-    ∙ ap (option_map result_of) (slice_get-map row_of workers k ∙ ap (option_map row_of) (slice_get-get_or workers k d (omega arith)))
+-- what was found in a piece stands in its row
+pub result_there : (pieces : List Piece) (least : ℕ) (results : List Found) (k : ℕ) (d : Found)
+    → length results ≡ length pieces → k < length (rows_of pieces least results)
+    → slice_get (map result_of (rows_of pieces least results)) k ≡ Some (get_or results k d)
+result_there pieces least results k d e low =
+    let many : length (rows_of pieces least results) ≡ length pieces = rows_count pieces least results e in
+    ap (λ (founds : List Found). slice_get founds k) (results_of_rows pieces least results e)
+    ∙ slice_get-get_or results k d (omega arith)
 
 module _ (tariff : Tariff) (trip : Itinerary) where
   -- two lawful constructions of which none is before the other are one

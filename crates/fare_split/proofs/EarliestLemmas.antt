@@ -1,14 +1,12 @@
 -- The earliest of results, one by one.
-use Rattle.std.proofs.Common.{◌≡◌, ℕ, zero, suc, ◌+◌, ◌<◌, true, List, [], ◌∷◌, ◌++◌, map, take, length, get_or, Option, Some, None, refl, ap, sym, subst, ◌∙◌, inl, inr, arith}
+use Rattle.std.proofs.Common.{◌≡◌, ℕ, zero, suc, ◌+◌, ◌<◌, true, List, [], ◌∷◌, ◌++◌, take, length, get_or, Option, Some, None, refl, sym, subst, inl, inr, arith}
 use Rattle.std.specs.Prelude.{All, Contains, slice_index_or}
 use Rattle.std.proofs.lemmas.Bool.{cases_Bool, both_ways}
 use Rattle.std.proofs.lemmas.List.{take_more}
 use Rattle.fare_rules.specs.declared.part.Part.{Part}
 use Rattle.fare_rules.specs.Order.{is_before}
 use Rattle.fare_rules.proofs.BestLemmas.{irreflexive, transitive}
-use Rattle.fare_split.specs.declared.worker.Worker.{Worker}
-use Rattle.fare_split.specs.Rows.{IsEarliest, IsNotAfter, earlier_of, result_of}
-use Rattle.fare_split.specs.Workers.{row_of, rows_of}
+use Rattle.fare_split.specs.Rows.{IsEarliest, IsNotAfter, earlier_of}
 
 abbrev Found : Type 0
 Found = Option (List Part × ℕ)
@@ -39,10 +37,6 @@ module _ {A : Type 0} where
       let within : more.0 < length (zs ++ x ∷ []) = more.1 in
       (suc more.0, omega arith, more.2)
 
-map_last : {A B : Type 0} (f : A → B) (xs : List A) (x : A) → map f (xs ++ x ∷ []) ≡ map f xs ++ f x ∷ []
-map_last f [] x = refl
-map_last f (y ∷ ys) x = ap (λ zs. f y ∷ zs) (map_last f ys x)
-
 -- what is not after one that comes first is not after one before that
 not_after : (found best : List Part × ℕ) → is_before found.0 found.1 best.0 best.1 ≡ true → (other : Found) → IsNotAfter best other → IsNotAfter found other
 not_after found best h None n = tt
@@ -68,20 +62,11 @@ earliest_last results (Some best) (Some found) h =
       | inr f ↦ rw f (among_more results (Some found) (Some best) h.0, all_last (IsNotAfter best) results (Some found) h.1 f)
     ]
 
--- the results of the first workers, with one more
-results_more : (workers : List Worker) (k : ℕ) (d : Worker) → k < length workers
-    → map result_of (rows_of (take (k + 1) workers)) ≡ map result_of (rows_of (take k workers)) ++ (get_or workers k d).found ∷ []
-results_more workers k d low =
-    ap (λ ws. map result_of (rows_of ws)) (take_more workers k d low)
-    ∙ ap (map result_of) (map_last row_of (take k workers) (get_or workers k d))
-    ∙ map_last result_of (rows_of (take k workers)) (row_of (get_or workers k d))
+pub earliest_more : (results : List Found) (k : ℕ) (d best : Found) → k < length results
+    → IsEarliest (take k results) best → IsEarliest (take (k + 1) results) (earlier_of best (get_or results k d))
+earliest_more results k d best low h =
+    let P : List Found → Type 0 = λ firsts. IsEarliest firsts (earlier_of best (get_or results k d)) in
+    subst P (sym (take_more results k d low)) (earliest_last (take k results) best (get_or results k d) h)
 
-pub earliest_more : (workers : List Worker) (k : ℕ) (d : Worker) (best : Found) → k < length workers
-    → IsEarliest (map result_of (rows_of (take k workers))) best
-    → IsEarliest (map result_of (rows_of (take (k + 1) workers))) (earlier_of best (get_or workers k d).found)
-earliest_more workers k d best low h =
-    let P : List Found → Type 0 = λ results. IsEarliest results (earlier_of best (get_or workers k d).found) in
-    subst P (sym (results_more workers k d low)) (earliest_last (map result_of (rows_of (take k workers))) best (get_or workers k d).found h)
-
-pub earliest_none : (workers : List Worker) → IsEarliest (map result_of (rows_of (take 0 workers))) None
-earliest_none workers = all_none (λ result. result ≡ None)
+pub earliest_none : (results : List Found) → IsEarliest (take 0 results) None
+earliest_none results = all_none (λ result. result ≡ None)

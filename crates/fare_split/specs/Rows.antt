@@ -1,6 +1,6 @@
 -- What workers have found: one row for each, and what follows for all of them.
-use Rattle.std.specs.Prelude.{◌≡◌, ℕ, ◌<◌, ◌≤◌, Bool, true, false, List, Option, Some, None, Contains, All, map, length}
-use Rattle.std.specs.Prelude.{slice_get, if◌then◌else◌}
+use Rattle.std.specs.Prelude.{◌≡◌, ℕ, ◌<◌, ◌≤◌, Bool, true, false, List, [], ◌∷◌, Option, Some, None, Contains, All, map}
+use Rattle.std.specs.Prelude.{length, slice_get, if◌then◌else◌}
 use Rattle.fare_trip.specs.Itinerary.{Itinerary}
 use Rattle.fare_tariff.specs.Tariff.{Tariff}
 use Rattle.fare_rules.specs.declared.part.Part.{Part}
@@ -12,7 +12,7 @@ use Rattle.fare_branch.specs.declared.pieces.Piece.{Piece}
 use Rattle.fare_branch.specs.Search.{IsSearched}
 use Rattle.fare_branch.specs.LeastPrice.{least_price}
 
--- a worker's piece, the least price that it knows, and what it found
+-- a worker's piece, the least price that is known, and what was found there
 pub record Row : Type 0 where
   pub piece : Piece
   pub least : ℕ
@@ -30,6 +30,13 @@ piece_of row = row.piece
 -- what was found in a row
 abbrev pub result_of : Row → Option (List Part × ℕ)
 result_of row = row.result
+
+-- the rows of pieces, by the least price known and what was found at it in each
+abbrev pub rows_of : List Piece → ℕ → List (Option (List Part × ℕ)) → List Row
+rows_of [] least results = []
+rows_of (piece ∷ pieces) least [] = []
+rows_of (piece ∷ pieces) least (result ∷ results) =
+    record { piece = piece; least = least; result = result } ∷ rows_of pieces least results
 
 -- the row of a worker that has not begun
 abbrev pub fresh : Piece → Row
@@ -56,7 +63,8 @@ ArePieces count pieces = (number : ℕ) → number < count → LiesInOne pieces 
 abbrev pub choice_count : Pricing → ℕ
 choice_count prices = length (first_part_choices prices.edition prices.trip)
 
--- a worker searched its piece to the least price that it knows, which is no less than that of any lawful construction
+-- the piece of a worker was searched to the least price that is known, which is no less than that of any lawful
+-- construction
 pub record IsRun (prices : Pricing) (row : Row) : Type 0 where
   pub floor : least_price prices.edition prices.trip ≤ row.least
   pub searched : IsSearched prices.edition prices.trip row.piece row.least row.result

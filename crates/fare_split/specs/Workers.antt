@@ -1,29 +1,26 @@
--- What workers have beside their rows: seats at one word that know the floor.
-use Rattle.std.specs.Prelude.{◌≡◌, ℕ, ◌<◌, ◌≤◌, List, Option, Some, None, All, map, length, slice_index_or}
+-- What workers have: seats at one word that know the floor, and what they found of their shares.
+use Rattle.std.specs.Prelude.{◌≡◌, ℕ, zero, suc, ◌<◌, ◌≤◌, ◌⊎◌, min, true, List, [], ◌∷◌, ◌++◌, Option, Some, None}
+use Rattle.std.specs.Prelude.{All, length, slice_index_or}
 use Rattle.atomic_table.specs.Seated.{TableId}
 use Rattle.atomic_table.specs.declared.shared.Seat.{Seat}
+use Rattle.fare_rules.specs.declared.part.Part.{Part}
+use Rattle.fare_rules.specs.Best.{IsLawful}
 use Rattle.fare_component.specs.Table.{Pricing}
-use Rattle.fare_bounds.specs.Covers.{AreRests}
 use Rattle.fare_branch.specs.declared.bound.TheConstants.{NO_PRICE}
 use Rattle.fare_branch.specs.declared.pieces.Piece.{Piece}
-use Rattle.fare_codes.specs.declared.limits.TheConstants.{MOST_WORKERS}
+use Rattle.fare_branch.specs.declared.searching.TheConstants.{MOST_PIECES}
+use Rattle.fare_branch.specs.declared.share.Share.{Share}
+use Rattle.fare_branch.specs.Search.{BeginsIn, kept_at}
+use Rattle.fare_branch.specs.Shares.{AreFoundIn, IsBegun, is_elsewhere}
+use Rattle.fare_branch.specs.Walked.{IsPassed}
 use Rattle.fare_split.specs.declared.word.View.{View}
 use Rattle.fare_split.specs.declared.worker.Worker.{Worker}
 use Rattle.fare_split.specs.PriceWord.{floor_of}
-use Rattle.fare_split.specs.Rows.{Row, IsRun, ArePieces, choice_count, fresh, piece_of}
+use Rattle.fare_split.specs.Rows.{ArePieces, choice_count, earlier_of}
 
--- the least number that a seat knows
-abbrev pub least_of : Option (Seat (Unit {0}) View) → ℕ
-least_of None = NO_PRICE
-least_of (Some seat) = seat.me.0.least
-
--- the row of a worker
-abbrev pub row_of : Worker → Row
-row_of worker = record { piece = worker.piece; least = least_of worker.seat; result = worker.found }
-
--- the rows of workers
-abbrev pub rows_of : List Worker → List Row
-rows_of workers = map row_of workers
+-- the share of a worker of so many
+abbrev pub share_at : ℕ → ℕ → Share
+share_at number count = record { number = number; count = count }
 
 -- a worker has a seat at a word, which knows a floor and nothing below it
 pub record IsSeated (word : TableId) (floor : ℕ) (worker : Worker) : Type 0 where
@@ -33,31 +30,75 @@ pub record IsSeated (word : TableId) (floor : ℕ) (worker : Worker) : Type 0 wh
   pub knows : seat.me.0.floor ≡ floor
   pub low : floor ≤ seat.me.0.least
 
--- a worker has run: its piece is as before, it has its seat, and its row is run
-pub record HasRun (word : TableId) (prices : Pricing) (before after : Worker) : Type 0 where
-  pub piece : after.piece ≡ before.piece
-  pub seated : IsSeated word (floor_of prices) after
-  pub run : IsRun prices (row_of after)
+-- a worker of a number has found what its share of each piece comes to, by a price no less than the least
+pub record HasFound (prices : Pricing) (pieces : List Piece) (number : ℕ) (worker : Worker) : Type 0 where
+  pub floor : floor_of prices ≤ worker.least
+  pub found : AreFoundIn prices.edition prices.trip (share_at number (length pieces)) worker.least pieces
+      worker.finds.items
 
--- each worker has run
-pub record HaveRun (word : TableId) (prices : Pricing) (before after : List Worker) : Type 0 where
-  pub count : length after ≡ length before
-  pub each : (k : ℕ) (d : Worker) → k < length before
-      → HasRun word prices (slice_index_or before k d) (slice_index_or after k d)
+-- each worker has, and there are as many as pieces
+pub record HaveFound (prices : Pricing) (pieces : List Piece) (workers : List Worker) : Type 0 where
+  pub count : length workers ≡ length pieces
+  pub each : (k : ℕ) (d : Worker) → k < length workers → HasFound prices pieces k (slice_index_or workers k d)
 
--- workers were made for some pieces: they have seats, and have not begun
-pub record AreMade (word : TableId) (floor : ℕ) (pieces : List Piece) (workers : List Worker) : Type 0 where
-  pub rows : rows_of workers ≡ map fresh pieces
-  pub seated : All (IsSeated word floor) workers
+-- a worker of a number has run: it has its seat, and has found what its share comes to
+pub record HasRun (word : TableId) (prices : Pricing) (pieces : List Piece) (number : ℕ) (worker : Worker) :
+    Type 0 where
+  pub seated : IsSeated word (floor_of prices) worker
+  pub found : HasFound prices pieces number worker
 
--- what is prepared holds together: the rests are those of the trip, the workers are some but no more than a limit, have
--- seats at the one word, and their pieces share out the first-part choices
-pub record IsPrepared (prices : Pricing) (rests : List (Option ℕ)) (word : TableId) (workers : List Worker)
-    (pieces : List Piece) : Type 0 where
+-- each worker has run, and there are as many as pieces
+pub record HaveRun (word : TableId) (prices : Pricing) (pieces : List Piece) (workers : List Worker) : Type 0 where
+  pub count : length workers ≡ length pieces
+  pub each : (k : ℕ) (d : Worker) → k < length pieces → HasRun word prices pieces k (slice_index_or workers k d)
+
+-- a worker found something or nothing in the piece of a number, and in so many pieces
+abbrev pub HasAt : ℕ → Worker → Type 0
+HasAt number worker = number < length worker.finds.items
+
+abbrev pub HasAll : ℕ → Worker → Type 0
+HasAll pieces worker = length worker.finds.items ≡ pieces
+
+-- what a worker found in the piece of a number
+abbrev pub found_at : ℕ → Worker → Option (List Part × ℕ)
+found_at number worker = slice_index_or worker.finds.items number None
+
+-- the least of a price and those that workers know
+abbrev pub least_from : ℕ → List Worker → ℕ
+least_from least [] = least
+least_from least (worker ∷ workers) = least_from (min least worker.least) workers
+
+-- the earliest of the best so far and what workers found in the piece of a number
+abbrev pub merged_from : Option (List Part × ℕ) → List Worker → ℕ → Option (List Part × ℕ)
+merged_from best [] number = best
+merged_from best (worker ∷ workers) number = merged_from (earlier_of best (found_at number worker)) workers number
+
+-- the earliest at a price of what workers found in each of so many pieces
+abbrev pub results_of : List Worker → ℕ → ℕ → List (Option (List Part × ℕ))
+results_of workers least zero = []
+results_of workers least (suc number) =
+    results_of workers least number ++ kept_at (merged_from None workers number) least ∷ []
+
+-- a construction belongs to no share of some first ones
+abbrev pub IsInNone : ℕ → ℕ → List Part → Type 0
+IsInNone upto count parts = (number : ℕ) → number < upto → is_elsewhere (share_at number count) parts ≡ true
+
+-- what some first workers found in a piece comes to one construction: each lawful one of their shares is passed
+pub record IsMerged (prices : Pricing) (piece : Piece) (upto count least : ℕ) (found : Option (List Part × ℕ)) :
+    Type 0 where
+  pub begun : IsBegun prices.edition prices.trip piece least found
+  pub passed : (parts : List Part) (price : ℕ) → IsLawful prices.edition prices.trip parts price
+      → BeginsIn prices.edition prices.trip piece parts → IsInNone upto count parts ⊎ IsPassed least found parts price
+
+-- what is prepared holds together: the workers are as many as the pieces and the results, have seats at the one word,
+-- and the pieces share out the first-part choices; no price is less than the floor
+pub record IsPrepared (prices : Pricing) (word : TableId) (workers : List Worker) (pieces : List Piece)
+    (results : List (Option (List Part × ℕ))) : Type 0 where
   pub one_word : word.words ≡ 1
-  pub covers : AreRests prices.edition prices.trip rests
-  pub some : 1 ≤ length workers
-  pub few : length workers ≤ MOST_WORKERS
+  pub low : floor_of prices ≤ NO_PRICE
+  pub some : 1 ≤ length pieces
+  pub few : length pieces ≤ MOST_PIECES
+  pub each : length workers ≡ length pieces
+  pub full : length results ≡ length pieces
   pub seated : All (IsSeated word (floor_of prices)) workers
-  pub own : pieces ≡ map piece_of (rows_of workers)
   pub split : ArePieces (choice_count prices) pieces

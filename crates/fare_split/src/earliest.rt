@@ -1,15 +1,13 @@
-//! The earliest of what workers found.
+//! The earliest of what was found.
 
-ghost use Rattle.std.specs.Prelude.{◌≡◌, ◌≤◌, length, map};
-ghost use Rattle.fare_split.specs.Rows.{IsEarliest, earlier_of, is_earlier, result_of};
-ghost use Rattle.fare_split.specs.Workers.{rows_of};
+ghost use Rattle.std.specs.Prelude.{◌≡◌, ◌≤◌, length};
+ghost use Rattle.fare_split.specs.Rows.{IsEarliest, earlier_of, is_earlier};
 
-use crate::worker::Worker;
 use fare_rules::Part;
 use fare_units::{Construction, MOST_PARTS, earlier};
 
 /// A construction that was found, with its price.
-type Found = Option<(Construction, u64)>;
+pub(crate) type Found = Option<(Construction, u64)>;
 
 /// A construction of some parts.
 fn copied(parts: &[Part]) -> Construction
@@ -33,8 +31,8 @@ fn is_earlier(parts: &Construction, price: u64, best: &Found) -> bool
     }
 }
 
-/// What a worker found, where it is before the best so far or is the first, and else the best so far.
-fn earlier_of(best: Found, found: &Found) -> Found
+/// What was found, where it is before the best so far or is the first, and else the best so far.
+pub(crate) fn earlier_of(best: Found, found: &Found) -> Found
     ensures { result ≡ earlier_of best found.now }
 {
     match found {
@@ -46,14 +44,14 @@ fn earlier_of(best: Found, found: &Found) -> Found
     }
 }
 
-/// The earliest of what workers found; nothing where none has found anything.
+/// The earliest of what was found in pieces; nothing where nothing was found in any.
 #[tactic(auto, using(crate::proofs::EarliestLemmas::earliest_more, crate::proofs::EarliestLemmas::earliest_none))]
-pub(crate) fn earliest(workers: &[Worker]) -> Found
-    ensures { IsEarliest (map result_of (rows_of workers.now)) result }
+pub(crate) fn earliest(results: &[Found]) -> Found
+    ensures { IsEarliest results.now result }
 {
     let mut best = None;
-    for worker in workers {
-        best = earlier_of(best, &worker.found);
+    for result in results {
+        best = earlier_of(best, result);
     }
     best
 }

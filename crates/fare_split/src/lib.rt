@@ -1,5 +1,5 @@
-//! The search shared out among workers: each searches a piece of the first-part choices of its own, and one word that
-//! all share holds the least price that any of them found.
+//! The search shared out among workers: each begins in a piece of the first-part choices of its own, and searches its
+//! share of all pieces; and one word that all share holds the least price that any of them found.
 //!
 //! - `word`: the shared word, and what a seat at it knows;
 //! - `lane`: a seat at the word as the bound of a search;
@@ -7,9 +7,10 @@
 //! - `pieces`: the pieces of the workers, ranges of the first-part choices with about as much work each;
 //! - `worker`: one worker, and its search at its seat;
 //! - `running`: the run of one worker;
-//! - `seating`: the workers of some pieces, each with a seat;
+//! - `seating`: the workers, each with a seat;
 //! - `threads`: the runs of all workers, each in a thread of its own;
-//! - `earliest`: the earliest of what they found;
+//! - `earliest`: the earliest of what was found;
+//! - `settling`: what was found in each piece, by what all workers found of their shares there;
 //! - `opening`: the word, with its first seat;
 //! - `sharing`: how many workers share a search;
 //! - `prepared`: all that a search on some workers needs, and the search;
@@ -27,6 +28,7 @@ mod prepared;
 mod quoter;
 mod running;
 mod seating;
+mod settling;
 mod shares;
 mod sharing;
 mod threads;

@@ -6,11 +6,11 @@ use crate::earliest::earliest;
 use crate::opening::opened;
 use crate::pieces::shared_out;
 use crate::seating::seated;
+use crate::settling::{settled, unsettled};
 use crate::threads::run_all;
 use crate::word::Word;
 use crate::worker::Worker;
-use fare_bounds::Rest;
-use fare_branch::Piece;
+use fare_branch::{Finds, NO_PRICE, Piece};
 use fare_codes::MOST_WORKERS;
 use fare_component::Table;
 use fare_ports::{Gate, NoMemory};
@@ -23,25 +23,27 @@ use std::marker::Model;
 use std::thread::Threads;
 
 /// All that a search on some workers needs. A contract sees what is priced and a row for each worker: its piece, the
-/// least price that it knows, and what it found. Until a search these two are `NO_PRICE` and nothing.
+/// least price that is known, and what was found there. Until a search these two are `NO_PRICE` and nothing.
 #[derive(Drop)]
 pub struct Prepared<'a> {
     table: Table<'a>,
-    rest: Rest,
     word: Word<'a>,
     workers: Vec<Worker>,
     pieces: Vec<Piece>,
+    /// The least price that any worker knows, and what was found at it in each piece.
+    least: u64,
+    results: Finds,
 }
 
 impl<'a> Model for Prepared<'a> {
-    ghost use Rattle.fare_split.specs.Rows.{Preparation};
-    ghost use Rattle.fare_split.specs.Workers.{IsPrepared, rows_of};
+    ghost use Rattle.fare_split.specs.Rows.{Preparation, rows_of};
+    ghost use Rattle.fare_split.specs.Workers.{IsPrepared};
 
     ghost Value = { Preparation };
 
-    ghost view = { λ p. record { prices = p.table; rows = rows_of p.workers.items } };
+    ghost view = { λ p. record { prices = p.table; rows = rows_of p.pieces.items p.least p.results.items } };
 
-    ghost invariant = { λ p. IsPrepared p.table p.rest p.word.shared.table_id p.workers.items p.pieces.items };
+    ghost invariant = { λ p. IsPrepared p.table p.word.shared.table_id p.workers.items p.pieces.items p.results.items };
 }
 
 impl<'a> Prepared<'a> {
@@ -73,16 +75,17 @@ impl<'a> Prepared<'a> {
     {
         edition_is_valid(table.edition());
         let _sectors = table.trip().count();
-        let rest = Rest::of(&table);
         let pieces = shared_out(alloc, &table, workers)?;
         let (word, seat) = opened(alloc, &table)?;
-        let workers = seated(alloc, &word, seat, pieces.as_slice())?;
+        let workers = seated(alloc, &word, seat, workers)?;
+        let results = unsettled(pieces.as_slice());
         Ok(Prepared {
             table,
-            rest,
             word,
             workers,
             pieces,
+            least: NO_PRICE,
+            results,
         })
     }
 
@@ -94,21 +97,21 @@ impl<'a> Prepared<'a> {
         self.pieces.as_slice()
     }
 
-    /// What a worker found, counted from 0.
+    /// What was found in the piece of a worker, counted from 0.
     pub fn result(&self, worker: u32) -> Option<(&Construction, u64)>
         requires { worker < length self.now.rows }
         ensures { slice_get (map result_of self.now.rows) worker
             ≡ Some (option_map (λ found. (found.0.now, found.1)) result) }
     {
-        match &self.workers[worker as usize].found {
+        match &self.results[worker as usize] {
             None => None,
             Some((parts, price)) => Some((parts, *price)),
         }
     }
 
     /// The best construction of the trip, with its price; nothing exactly where none is lawful. Each worker searches
-    /// its piece, once the gate has let it through, and the answer is the earliest of what they found. It takes no
-    /// memory.
+    /// its share of all pieces, once the gate has let it through, and the answer is the earliest of what they found in
+    /// any. It takes no memory.
     pub fn solve<R: Threads + Sync, G: Gate>(
         &mut self,
         rt: &R,
@@ -122,9 +125,12 @@ impl<'a> Prepared<'a> {
     {
         let word = &self.word;
         let table = &self.table;
-        let rest = &self.rest;
+        let pieces = self.pieces.as_slice();
         let _sectors = table.trip().count();
-        run_all(rt, gate, word, table, rest, self.workers.as_mut_slice());
-        earliest(self.workers.as_slice())
+        run_all(rt, gate, word, table, pieces, self.workers.as_mut_slice());
+        let (least, results) = settled(self.workers.as_slice(), pieces.len());
+        self.least = least;
+        self.results = results;
+        earliest(self.results.as_slice())
     }
 }

@@ -6,7 +6,7 @@ use Rattle.fare_split.proofs.seating.seated.Goals as goal
 pub split_seat-own-requires : goal.split_seat-own-requires
 split_seat-own-requires c =
     let one : c.args.word.now.shared.table_id.words ≡ 1 = c.requires.one_word in (
-      c.loop-piece.invariant.at,
+      c.loop-worker.invariant.at,
       omega arith,
-      copies (floor_of c.args.word.now.shared.key) c.loop-piece.seat.id c.loop-piece.seat.me.0,
+      copies (floor_of c.args.word.now.shared.key) c.loop-worker.seat.id c.loop-worker.seat.me.0,
     )

@@ -23,15 +23,17 @@ seated-requires-clause-low c =
 
 pub invariant_of-result : goal.invariant_of-result
 invariant_of-result c =
-    made_prepared c.in_ok-word.word.shared.table_id c.args.table c.in_ok-word.word.shared.key c.of-rest.result
-    (choice_count c.args.table) c.args.workers c.as_slice.result.now c.in_ok-pieces.pieces.items c.in_ok-workers.workers.items
-    c.in_ok-word.ensures.one_word c.in_ok-word.ensures.key c.of-rest.ensures c.requires.some c.requires.few c.as_slice.ensures.value
-    c.in_ok-pieces.ensures.count refl c.in_ok-pieces.ensures.split c.in_ok-workers.ensures
+    let sectors : c.count-sectors.result ≡ count c.args.table.trip = c.count-sectors.ensures.value ∙ ap count c.trip.ensures in
+    let few : c.count-sectors.result ≤ 16 = c.count-sectors.ensures.at_most in
+    made_prepared c.in_ok-word.word.shared.table_id c.args.table c.in_ok-word.word.shared.key
+    (choice_count c.args.table) c.args.workers c.as_slice.result.now c.in_ok-pieces.pieces.items c.unsettled-results.result.items
+    c.in_ok-workers.workers.items c.in_ok-word.ensures.one_word c.in_ok-word.ensures.key (least_price_low c.args.table.edition c.args.table.trip (subst HasFaresInForm c.edition.ensures c.edition_is_valid.ensures.in_form) (omega arith)) c.requires.some c.requires.few c.as_slice.ensures.value
+    c.in_ok-pieces.ensures.count refl c.in_ok-pieces.ensures.split c.unsettled-results.ensures.count c.in_ok-workers.ensures.count
+    c.in_ok-workers.ensures.seated
 
 pub returns : goal.returns
 returns c =
     made_fresh c.args.table.edition c.args.table.trip c.args.table
-    (choice_count c.args.table) c.args.workers c.as_slice.result.now c.in_ok-pieces.pieces.items c.in_ok-workers.workers.items
-    c.in_ok-word.word.shared.table_id (floor_of c.in_ok-word.word.shared.key)
-    refl c.as_slice.ensures.value
-    c.in_ok-pieces.ensures.count refl c.in_ok-pieces.ensures.split c.in_ok-workers.ensures
+    (choice_count c.args.table) c.args.workers 18446744073709551615 c.as_slice.result.now c.in_ok-pieces.pieces.items c.unsettled-results.result.items
+    refl c.as_slice.ensures.value c.in_ok-pieces.ensures.count refl c.in_ok-pieces.ensures.split c.unsettled-results.ensures.count
+    c.unsettled-results.ensures.rows
