@@ -171,8 +171,8 @@ fn has_key(one: &Record, key: &Key) -> bool
     }
 }
 
-/// Puts the key of each record at its place, on all processors. None is moved again: what each thread gathered by itself
-/// would be copied into one list, and the first touch of a page costs as much as some twenty keys.
+/// Puts the key of each record at its place, on all processors. None is moved again: what each thread gathered by
+/// itself would be copied into one list, and the first touch of a page costs as much as some twenty keys.
 fn put_keys<R: Threads + Sync>(rt: &R, records: &[Record], keys: &mut [Key])
     requires { length keys.old ≡ length records.now }
     ensures { (i : ℕ) (one : Record) (key : Key) → i < length keys.old →
