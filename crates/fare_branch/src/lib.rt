@@ -14,6 +14,7 @@
 //! - `walking`: the walk over the constructions that begin with some parts, whatever it looks for;
 //! - `opening`: what a search begins with: dives for a price, and a ceiling below it;
 //! - `searching`: the search of a piece, and of a share of each of some pieces;
+//! - `plan`: what the searches of all shares stand on, and what they begin with;
 //! - `quoter`: the quoter that searches all of them.
 //!
 //! Each of these stands on those above it.
@@ -28,6 +29,7 @@ mod diving;
 mod opening;
 mod own_bound;
 mod pieces;
+mod plan;
 mod quoter;
 mod searching;
 mod seeker;
@@ -42,6 +44,7 @@ pub use fare_floors::{Partial, floor_of};
 pub use opening::is_far;
 pub use own_bound::OwnBound;
 pub use pieces::{Piece, choices};
+pub use plan::{Plan, opening_price};
 pub use quoter::{BranchQuoter, best_of, best_under};
 pub use searching::{Finds, MOST_PIECES, kept_at, search, search_share};
 pub use seeker::Seeker;
