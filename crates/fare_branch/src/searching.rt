@@ -89,7 +89,12 @@ pub fn search_share<B: Bound>(plan: &Plan, number: u32, bound: &mut B) -> Finds
 }
 
 /// What dives come to in a piece. What is behind each point is then known for a search that begins with it.
-pub(crate) fn opened<B: Bound>(table: &Table, homing: &mut Homing, piece: Piece, bound: &mut B) -> Found
+pub(crate) fn opened<B: Bound>(
+    table: &Table,
+    homing: &mut Homing,
+    piece: Piece,
+    bound: &mut B,
+) -> Found
     requires homing { AreHomingsOf table.now.edition table.now.trip homing.old }
     requires under { IsUnderAll table.now.edition table.now.trip (B.fixed bound.old) }
     ensures homing { AreHomingsOf table.now.edition table.now.trip homing.new }

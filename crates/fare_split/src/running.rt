@@ -12,13 +12,7 @@ use fare_ports::Gate;
 use std::marker::Brand;
 
 /// Lets a worker of a number search its share of all pieces, once the gate has let it through.
-pub(crate) fn run<G: Gate>(
-    gate: &G,
-    number: u32,
-    word: &Word,
-    plan: &Plan,
-    worker: &mut Worker,
-)
+pub(crate) fn run<G: Gate>(gate: &G, number: u32, word: &Word, plan: &Plan, worker: &mut Worker)
     requires one_word { word.now.shared.table_id.words ≡ 1 }
     requires plan { IsPlan plan.now.table.now plan.now.homing.now plan.now.pieces.now plan.now.known }
     requires number { number < length plan.now.pieces.now }
