@@ -25,6 +25,17 @@ module _ (tariff : Tariff) (trip : Itinerary) where
       let low : best.1 < 40_000_000_000 = lawful_price_up_to tariff trip best.0 best.1 form short h.lawful in
       omega arith
 
+  -- two least prices are one
+  pub least_no_more : (a b : ℕ) → IsLeastPrice tariff trip a → IsLeastPrice tariff trip b → a ≤ b
+  least_no_more a b one other =
+      elim other.reached [
+        | inl (parts, lawful) ↦ one.under parts b lawful
+        | inr (none, far) ↦ elim one.reached [
+          | inl (parts, lawful) ↦ absurd (none parts a lawful)
+          | inr (still, same) ↦ omega arith
+        ]
+      ]
+
   pub least_price_is : IsLeastPrice tariff trip (least_price tariff trip)
   unfolding least_price
   least_price_is = of_best (best_answer tariff trip).0 (best_answer tariff trip).1

@@ -12,7 +12,7 @@ use Rattle.fare_units.proofs.NextLemmas.{front_part}
 use Rattle.fare_branch.specs.declared.pieces.Piece.{Piece}
 use Rattle.fare_branch.specs.declared.share.Share.{Share}
 use Rattle.fare_branch.specs.Search.{BeginsIn, IsSearched, kept_at}
-use Rattle.fare_branch.specs.Shares.{AreFoundIn, IsBegun, IsFoundIn, IsPassedIn, begun_at, is_elsewhere, mark, share_of}
+use Rattle.fare_branch.specs.Shares.{AreFoundIn, IsBegun, IsFoundIn, IsPassedIn, is_elsewhere, mark, share_of}
 use Rattle.fare_branch.specs.Sought.{AllBehindPassed, AllPassedFrom, IsStill, IsWalk}
 use Rattle.fare_branch.specs.Walked.{IsHeld, IsPassed, IsTold, is_beaten}
 use Rattle.fare_branch.proofs.PieceLemmas.{cheaper, dearer}
@@ -145,15 +145,6 @@ module _ (tariff : Tariff) (trip : Itinerary) where
   -- nothing was dived for
   pub begun_none : (piece : Piece) (least : ℕ) → IsBegun tariff trip piece least None
   begun_none piece least = record { told = tt; begins = λ parts h. absurd h }
-
-  -- what was dived for, in the search of its piece and of others
-  pub begun_here : (own piece : Piece) (least : ℕ) (first : Found) (is_there : Bool) → (is_there ≡ true → own ≡ piece) → IsBegun tariff trip own least first → IsBegun tariff trip piece least (begun_at first is_there)
-  begun_here own piece least first true here b = subst (λ p. IsBegun tariff trip p least first) (here refl) b
-  begun_here own piece least first false here b = begun_none piece least
-
-  pub begun_left : (own : Piece) (least : ℕ) (first : Found) (is_there : Bool) → IsBegun tariff trip own least first → IsBegun tariff trip own least (begun_at first (not is_there))
-  begun_left own least first true b = begun_none own least
-  begun_left own least first false b = b
 
   -- what a search answers where all that begins in its piece is passed
   pub searched_by : (piece : Piece) (after least : ℕ) (found : Found) → least ≤ after → IsBegun tariff trip piece after found → ((parts : List Part) (price : ℕ) → IsLawful tariff trip parts price → BeginsIn tariff trip piece parts → IsPassed after found parts price) → IsSearched tariff trip piece least (kept_at found least)

@@ -1,14 +1,19 @@
 -- Shares: constructions of three or more parts are shared out by their first three, and shorter ones belong to each.
-use Rattle.std.specs.Prelude.{◌≡◌, ℕ, ◌+◌, ◌*◌, ◌/◌, ◌%◌, ◌==◌, ◌⊎◌, Bool, true, not, ◌&&◌, nat_le, List, [], ◌∷◌}
-use Rattle.std.specs.Prelude.{length, Option, None, if◌then◌else◌}
+use Rattle.std.specs.Prelude.{◌≡◌, ℕ, ◌+◌, ◌*◌, ◌/◌, ◌%◌, ◌==◌, ◌≤◌, ◌⊎◌, Bool, true, not, ◌&&◌, nat_le, List, [], ◌∷◌}
+use Rattle.std.specs.Prelude.{length, Option}
 use Rattle.fare_trip.specs.Itinerary.{Itinerary}
 use Rattle.fare_tariff.specs.Tariff.{Tariff}
 use Rattle.fare_rules.specs.declared.part.Part.{Part}
 use Rattle.fare_rules.specs.Best.{IsLawful}
 use Rattle.fare_rules.specs.Construction.{part_at}
+use Rattle.fare_component.specs.Table.{Pricing}
+use Rattle.fare_homing.specs.declared.homing.Homing.{Homing}
+use Rattle.fare_homing.specs.Rows.{AreHomingsOf}
 use Rattle.fare_branch.specs.declared.pieces.Piece.{Piece}
+use Rattle.fare_branch.specs.declared.searching.TheConstants.{MOST_PIECES}
 use Rattle.fare_branch.specs.declared.share.Share.{Share}
 use Rattle.fare_branch.specs.declared.share.TheConstants.{MARKED_PARTS, MARKS, STRIDE}
+use Rattle.fare_branch.specs.LeastPrice.{least_price}
 use Rattle.fare_branch.specs.Search.{BeginsIn}
 use Rattle.fare_branch.specs.Walked.{IsHeld, IsPassed, IsTold}
 
@@ -33,10 +38,6 @@ is_elsewhere share parts =
 abbrev pub IsPassedIn : Share → ℕ → Option (List Part × ℕ) → List Part → ℕ → Type 0
 IsPassedIn share least best parts price = (is_elsewhere share parts ≡ true) ⊎ IsPassed least best parts price
 
--- what was found, where that is asked for, and else nothing
-abbrev pub begun_at : Option (List Part × ℕ) → Bool → Option (List Part × ℕ)
-begun_at found is_there = if is_there then found else None
-
 -- what was found begins in a piece, is lawful and costs its price, of which the bound was told
 pub record IsBegun (tariff : Tariff) (trip : Itinerary) (piece : Piece) (least : ℕ) (found : Option (List Part × ℕ)) :
     Type 0 where
@@ -57,3 +58,10 @@ AreFoundIn tariff trip share least (piece ∷ pieces) [] = ⊥
 AreFoundIn tariff trip share least [] (found ∷ finds) = ⊥
 AreFoundIn tariff trip share least (piece ∷ pieces) (found ∷ finds) =
     IsFoundIn tariff trip share least piece found × AreFoundIn tariff trip share least pieces finds
+
+-- what the searches of all shares stand on: what is behind each point, some pieces, and a price that is no less than the
+-- least
+pub record IsPlan (table : Pricing) (homing : Homing) (pieces : List Piece) (price : ℕ) : Type 0 where
+  pub homings : AreHomingsOf table.edition table.trip homing
+  pub few : length pieces ≤ MOST_PIECES
+  pub known : least_price table.edition table.trip ≤ price

@@ -15,6 +15,7 @@
 //! - `opening`: what a search begins with: dives for a price, and a ceiling below it;
 //! - `deepening`: a bound that dives once more where a search takes long;
 //! - `searching`: the search of a piece, and of a share of each of some pieces;
+//! - `plan`: what the searches of all shares stand on, and what they begin with;
 //! - `quoter`: the quoter that searches all of them.
 //!
 //! Each of these stands on those above it.
@@ -30,6 +31,7 @@ mod diving;
 mod opening;
 mod own_bound;
 mod pieces;
+mod plan;
 mod quoter;
 mod searching;
 mod seeker;
@@ -44,6 +46,7 @@ pub use fare_floors::{Partial, floor_of};
 pub use opening::is_far;
 pub use own_bound::OwnBound;
 pub use pieces::{Piece, choices};
+pub use plan::{Plan, opening_price};
 pub use quoter::{BranchQuoter, best_of, best_under};
 pub use searching::{Finds, MOST_PIECES, kept_at, search, search_share};
 pub use seeker::Seeker;

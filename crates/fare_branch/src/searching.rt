@@ -1,12 +1,13 @@
 //! The search of a piece.
 
-ghost use Rattle.std.specs.Prelude.{◌≡◌, ◌≤◌, ◌<◌, [], length, not};
+ghost use Rattle.std.specs.Prelude.{◌≡◌, ◌≤◌, ◌<◌, [], length};
 ghost use Rattle.fare_bounds.specs.Covers.{AreRests};
 ghost use Rattle.fare_floors.specs.Ahead.{IsStage};
 ghost use Rattle.fare_branch.specs.Beginnings.{AreCounts};
 ghost use Rattle.fare_homing.specs.Rows.{AreHomingsOf};
+ghost use Rattle.fare_branch.specs.LeastPrice.{least_price};
 ghost use Rattle.fare_branch.specs.Search.{IsLeastPrice, BeginsIn, BeginsBy, IsSearched, kept_at};
-ghost use Rattle.fare_branch.specs.Shares.{AreFoundIn, IsBegun, IsFoundIn, begun_at};
+ghost use Rattle.fare_branch.specs.Shares.{AreFoundIn, IsBegun, IsFoundIn, IsPlan};
 ghost use Rattle.fare_branch.specs.Sought.{IsWalk};
 ghost use Rattle.fare_branch.specs.Walked.{IsUnderAll};
 
@@ -14,6 +15,7 @@ use crate::best_so_far::{BestSoFar, Found};
 use crate::bound::Bound;
 use crate::opening::{bring_closer, dives, raise};
 use crate::pieces::{Counts, Piece, choice, choices, counts_of};
+use crate::plan::Plan;
 use crate::seeker::Seeker;
 use crate::share::{Share, WHOLE};
 use crate::walking::follow;
@@ -56,38 +58,43 @@ pub fn search<B: Bound>(
     kept_at(found, least)
 }
 
-/// The best of one share of the constructions in each of some pieces, or else one that was found before it was known
-/// that it costs more than the least price. There are as many shares as pieces, and what is dived for begins in the
-/// piece of the share's number. What the shares come to in a piece is together what `search` does.
-pub fn search_share<B: Bound>(table: &Table, pieces: &[Piece], number: u32, bound: &mut B) -> Finds
-    requires few { length pieces.now ≤ MOST_PIECES }
-    requires number { number < length pieces.now }
-    requires least { IsLeastPrice table.now.edition table.now.trip (B.fixed bound.old) }
+/// The best of one share of the constructions in each piece of a plan, or else one that was found before it was known
+/// that it costs more than the least price. There are as many shares as pieces; what all shares come to in a piece is
+/// together what `search` does.
+pub fn search_share<B: Bound>(plan: &Plan, number: u32, bound: &mut B) -> Finds
+    requires plan { IsPlan plan.now.table.now plan.now.homing.now plan.now.pieces.now plan.now.known }
+    requires number { number < length plan.now.pieces.now }
+    requires least { B.fixed bound.old ≡ least_price plan.now.table.now.edition plan.now.table.now.trip }
     ensures fixed { B.fixed bound.new ≡ B.fixed bound.old }
-    ensures found { AreFoundIn table.now.edition table.now.trip
-        (record { number = number; count = length pieces.now }) (B.least bound.new) pieces.now result.items }
+    ensures found { AreFoundIn plan.now.table.now.edition plan.now.table.now.trip
+        (record { number = number; count = length plan.now.pieces.now }) (B.least bound.new) plan.now.pieces.now
+        result.items }
 {
     let share = Share {
         number,
-        count: pieces.len() as u32,
+        count: plan.pieces.len() as u32,
     };
-    let mut homing = homing_of(table, None);
-    let mut first = opened(table, &mut homing, pieces[number as usize], bound);
+    bound.found(plan.known);
     let mut finds = Finds::new();
-    for piece in pieces {
+    for piece in plan.pieces {
         let best = BestSoFar {
             share,
             known: bound.seen(),
-            found: begun(&mut first, finds.len() == number as usize),
+            found: None,
         };
-        let found = found_in(table, &homing, *piece, best, bound);
+        let found = found_in(plan.table, plan.homing, *piece, best, bound);
         finds.push(found);
     }
     finds
 }
 
 /// What dives come to in a piece. What is behind each point is then known for a search that begins with it.
-fn opened<B: Bound>(table: &Table, homing: &mut Homing, piece: Piece, bound: &mut B) -> Found
+pub(crate) fn opened<B: Bound>(
+    table: &Table,
+    homing: &mut Homing,
+    piece: Piece,
+    bound: &mut B,
+) -> Found
     requires homing { AreHomingsOf table.now.edition table.now.trip homing.old }
     requires under { IsUnderAll table.now.edition table.now.trip (B.fixed bound.old) }
     ensures homing { AreHomingsOf table.now.edition table.now.trip homing.new }
@@ -99,14 +106,6 @@ fn opened<B: Bound>(table: &Table, homing: &mut Homing, piece: Piece, bound: &mu
     raise(table, homing, known);
     bring_closer(table, homing, known);
     first
-}
-
-/// What was dived for, where a search of its piece begins.
-fn begun(first: &mut Found, is_there: bool) -> Found
-    ensures value { result ≡ begun_at first.old is_there }
-    ensures left { first.new ≡ begun_at first.old (not is_there) }
-{
-    if is_there { first.take() } else { None }
 }
 
 /// The best of a share of the constructions that begin in a piece, by a seeker that begins with what was dived for.

@@ -1,5 +1,5 @@
-//! The search shared out among workers: each begins in a piece of the first-part choices of its own, and searches its
-//! share of all pieces; and one word that all share holds the least price that any of them found.
+//! The search shared out among workers: each searches its share of all pieces of the first-part choices, and one word
+//! that all share holds the least price that any of them found.
 //!
 //! - `word`: the shared word, and what a seat at it knows;
 //! - `lane`: a seat at the word as the bound of a search;

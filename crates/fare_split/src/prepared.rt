@@ -7,7 +7,7 @@ use crate::opening::opened;
 use crate::pieces::shared_out;
 use crate::seating::seated;
 use crate::settling::{settled, unsettled};
-use crate::threads::run_all;
+use crate::threads::search_all;
 use crate::word::Word;
 use crate::worker::Worker;
 use fare_branch::{Finds, NO_PRICE, Piece};
@@ -127,7 +127,7 @@ impl<'a> Prepared<'a> {
         let table = &self.table;
         let pieces = self.pieces.as_slice();
         let _sectors = table.trip().count();
-        run_all(rt, gate, word, table, pieces, self.workers.as_mut_slice());
+        search_all(rt, gate, word, table, pieces, self.workers.as_mut_slice());
         let (least, results) = settled(self.workers.as_slice(), pieces.len());
         self.least = least;
         self.results = results;

@@ -8,7 +8,7 @@ use crate::prepared::Prepared;
 use crate::shares::whole_work;
 use crate::sharing::workers_for;
 use crate::turnstile::Turnstile;
-use fare_branch::BranchQuoter;
+use fare_branch::{BranchQuoter, best_of};
 use fare_codes::MOST_WORKERS;
 use fare_component::Table;
 use fare_ports::{Gate, NoMemory, OpenGate};
@@ -58,6 +58,10 @@ impl<'g, G: Gate> SplitQuoter<'g, G> {
         }
         let table = Table::prepare(alloc, edition, trip)?;
         let workers = workers_for(self.workers, whole_work(&table));
+        if workers == 1 {
+            self.gate.begin(0);
+            return Ok(best_of(&table));
+        }
         let mut prepared = Prepared::over(alloc, table, workers)?;
         Ok(prepared.solve(rt, self.gate))
     }

@@ -1,13 +1,12 @@
 //! One worker: its seat at the word, and what it found of its share in each piece.
 
 ghost use Rattle.std.specs.Prelude.{◌≡◌, ◌≤◌, ◌<◌, length};
-ghost use Rattle.fare_branch.specs.Search.{IsLeastPrice};
-ghost use Rattle.fare_branch.specs.Shares.{AreFoundIn};
+ghost use Rattle.fare_branch.specs.Shares.{AreFoundIn, IsPlan};
+ghost use Rattle.fare_split.specs.PriceWord.{floor_of};
 
 use crate::lane::{Lane, Named};
 use crate::word::{Seat, Word};
-use fare_branch::{Bound, Finds, MOST_PIECES, Piece, search_share};
-use fare_component::Table;
+use fare_branch::{Bound, Finds, Plan, search_share};
 use std::marker::PhantomData;
 
 /// A worker. Between its runs it has a seat.
@@ -23,8 +22,7 @@ pub(crate) struct Worker {
 /// the least price that is known.
 pub(crate) fn search_at<N: Named>(
     word: &Word,
-    table: &Table,
-    pieces: &[Piece],
+    plan: &Plan,
     number: u32,
     seat: Seat,
 ) -> (Seat, Finds, u64)
@@ -32,22 +30,22 @@ pub(crate) fn search_at<N: Named>(
     requires word { word.now.shared.table_id ≡ N.id }
     requires seat { seat.table_id ≡ N.id }
     requires low { seat.me.0.floor ≤ seat.me.0.least }
-    requires few { length pieces.now ≤ MOST_PIECES }
-    requires number { number < length pieces.now }
-    requires least { IsLeastPrice table.now.edition table.now.trip seat.me.0.floor }
+    requires floor { seat.me.0.floor ≡ floor_of plan.now.table.now }
+    requires plan { IsPlan plan.now.table.now plan.now.homing.now plan.now.pieces.now plan.now.known }
+    requires number { number < length plan.now.pieces.now }
     ensures seat { result.0.table_id ≡ N.id }
     ensures floor { result.0.me.0.floor ≡ seat.me.0.floor }
     ensures low { seat.me.0.floor ≤ result.0.me.0.least }
     ensures known { seat.me.0.floor ≤ result.2 }
-    ensures found { AreFoundIn table.now.edition table.now.trip
-        (record { number = number; count = length pieces.now }) result.2 pieces.now result.1.items }
+    ensures found { AreFoundIn plan.now.table.now.edition plan.now.table.now.trip
+        (record { number = number; count = length plan.now.pieces.now }) result.2 plan.now.pieces.now result.1.items }
 {
     let mut lane = Lane::<N> {
         word,
         seat,
         of: PhantomData,
     };
-    let finds = search_share(table, pieces, number, &mut lane);
+    let finds = search_share(plan, number, &mut lane);
     let least = lane.seen();
     let Lane {
         word: _,
