@@ -12,7 +12,7 @@ use crate::walking::{Wanted, walk};
 use fare_branch::{best_of, dived_front, is_far};
 use fare_codes::MOST_BEST;
 use fare_component::Table;
-use fare_floors::{Partial, Stage, ahead_of, stack_of};
+use fare_floors::{Partial, Stage, add_bar, ahead_of, bar_limit, remake, stack_of};
 use fare_homing::{Homing, add_barred, homing_of, number_at};
 use fare_ports::NoMemory;
 use fare_ranking::BestList;
@@ -60,8 +60,9 @@ fn fill(table: &Table, k: usize, found: &mut BestList)
     rise(table, k, least, found)
 }
 
-/// Finds the first `k`. Where the least price is far above what all costs at least, a limit is had at once, since walks
-/// up to a lesser one would not be pruned.
+/// Finds the first `k`. Where something is known of the units of what costs a little more than the least price, walks are
+/// under that; where the least price is far above what all costs at least, a limit is had at once, since walks up to a
+/// lesser one would not be pruned.
 fn rise(table: &Table, k: usize, least: u64, found: &mut BestList)
     requires some { 1 ≤ k }
     requires few { k ≤ MOST_BEST }
@@ -69,6 +70,13 @@ fn rise(table: &Table, k: usize, least: u64, found: &mut BestList)
     ensures { IsFirstK table.now.edition table.now.trip k found.new }
 {
     let mut homing = homing_of(table, None);
+    add_bar(table, &mut homing, least);
+    if let Some(limit) = bar_limit(&homing, least) {
+        remake(&mut homing, table, limit);
+        add_barred(table, &mut homing);
+        sound(table, &homing, k, found);
+        return walk_up(table, &homing, k, least, found);
+    }
     add_barred(table, &mut homing);
     if is_far(&homing, least) {
         return search_far(table, &homing, k, least, found);

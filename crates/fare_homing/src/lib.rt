@@ -24,6 +24,7 @@ mod rests;
 mod rule_sets;
 mod standing;
 mod steps;
+mod turns;
 mod whole;
 
 pub use barring::add_barred;
@@ -32,6 +33,8 @@ pub use fare_legs::{
     day_behind, greater, is_rule_of, is_too_dear, lesser, number_at, paid_with, rule_at,
 };
 pub use homing::{
-    Homing, Standing, begun_from, cell, closing_from, homing_of, jaw_from, lie_near, remake,
+    Bar, Homing, Standing, begun_from, cell, closing_from, homing_of, jaw_from, lie_near, remake,
+    remake_barred,
 };
 pub use onward::{Onward, Onwards, next_set};
+pub use turns::greatest_turn;

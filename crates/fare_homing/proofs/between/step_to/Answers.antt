@@ -20,4 +20,4 @@ returns-in-None c x part =
 
 pub returns-in_default : goal.returns-in_default
 returns-in_default c x part =
-    c.least_within.ensures x (cost_is_within c.args.table.now.edition c.args.table.now.trip c.args.start.now.countries.now c.args.homing.now.of_two c.args.homing.now.ceiling c.args.start.now.point c.args.b c.args.home x c.heads_in-heads.result c.requires.countries (omega (arith, c.requires.point, c.requires.end)) c.requires.end c.requires.home c.heads_in-heads.ensures c.requires.of_two part)
+    c.least_within.ensures x (cost_is_within c.args.table.now.edition c.args.table.now.trip c.args.start.now.countries.now c.args.homing.now.of_two c.args.homing.now.unit_ceiling c.args.start.now.point c.args.b c.args.home x c.heads_in-heads.result c.requires.countries (omega (arith, c.requires.point, c.requires.end)) c.requires.end c.requires.home c.heads_in-heads.ensures c.requires.of_two part)

@@ -25,6 +25,8 @@ loop-c-init c =
       lonely = c.lonely_fares-homing.ensures;
       of_two = c.fares_of_two-homing.ensures;
       ceiling = c.ceiling_of-homing.ensures.ceiling;
+      bar = c.requires;
+      unit_ceiling = c.unit_ceiling_of-homing.ensures c.args.table.now.edition c.args.table.now.trip c.ceiling_of-homing.ensures.ceiling c.requires;
       price = c.ceiling_of-homing.ensures.value;
     }
 
@@ -51,6 +53,8 @@ loop-c-preserved c =
       lonely = known.lonely;
       of_two = known.of_two;
       ceiling = known.ceiling;
+      bar = known.bar;
+      unit_ceiling = known.unit_ceiling;
       price = known.price;
     }
 
@@ -66,6 +70,8 @@ returns-clause-homings c =
       lonely = c.loop-c.invariant.lonely;
       of_two = c.loop-c.invariant.of_two;
       ceiling = c.loop-c.invariant.ceiling;
+      bar = c.loop-c.invariant.bar;
+      unit_ceiling = c.loop-c.invariant.unit_ceiling;
     }
 
 pub returns-clause-ceiling : goal.returns-clause-ceiling
