@@ -65,6 +65,36 @@ fn next_ceiling(homing: &Homing, least: u64) -> Option<u64> {
     }
 }
 
+/// Adds what is known of the units of constructions up to a price, where one is known.
+fn add_known(table: &Table, homing: &mut Homing, least: u64)
+    requires homing { AreHomingsOf table.now.edition table.now.trip homing.old }
+    ensures homing { AreHomingsOf table.now.edition table.now.trip homing.new }
+{
+    if least != NO_PRICE {
+        add_bar(table, homing, least);
+    }
+}
+
+/// What the first dive comes to in a piece; what is known of the units of constructions up to its price is then added.
+fn first_dive<B: Bound>(
+    table: &Table,
+    homing: &mut Homing,
+    piece: Piece,
+    bound: &mut B,
+) -> Found
+    requires homing { AreHomingsOf table.now.edition table.now.trip homing.old }
+    requires under { IsUnderAll table.now.edition table.now.trip (B.fixed bound.old) }
+    ensures homing { AreHomingsOf table.now.edition table.now.trip homing.new }
+    ensures fixed { B.fixed bound.new ≡ B.fixed bound.old }
+    ensures dived { IsDived table.now.edition table.now.trip piece (B.least bound.old) None (B.least bound.new)
+        result }
+{
+    let best = try_dive(table, homing, piece, None, bound);
+    let least = bound.seen();
+    add_known(table, homing, least);
+    best
+}
+
 /// What dives come to in a piece; what is behind each point is then known under the last ceiling.
 pub(crate) fn dives<B: Bound>(
     table: &Table,
@@ -79,11 +109,7 @@ pub(crate) fn dives<B: Bound>(
     ensures dived { IsDived table.now.edition table.now.trip piece (B.least bound.old) None (B.least bound.new)
         result }
 {
-    let mut best = try_dive(table, homing, piece, None, bound);
-    let first = bound.seen();
-    if first != NO_PRICE {
-        add_bar(table, homing, first);
-    }
+    let mut best = first_dive(table, homing, piece, bound);
     for _ceiling in 0..MOST_CEILINGS {
         let least = bound.seen();
         let Some(price) = next_ceiling(homing, least) else {
