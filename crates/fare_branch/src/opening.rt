@@ -76,12 +76,7 @@ fn add_known(table: &Table, homing: &mut Homing, least: u64)
 }
 
 /// What the first dive comes to in a piece; what is known of the units of constructions up to its price is then added.
-fn first_dive<B: Bound>(
-    table: &Table,
-    homing: &mut Homing,
-    piece: Piece,
-    bound: &mut B,
-) -> Found
+fn first_dive<B: Bound>(table: &Table, homing: &mut Homing, piece: Piece, bound: &mut B) -> Found
     requires homing { AreHomingsOf table.now.edition table.now.trip homing.old }
     requires under { IsUnderAll table.now.edition table.now.trip (B.fixed bound.old) }
     ensures homing { AreHomingsOf table.now.edition table.now.trip homing.new }

@@ -188,9 +188,11 @@ module _ (table : Pricing) (homing : Homing) (are : AreHomingsOf table.edition t
       let d = dear_down t (k + 1) (omega arith) in
       let sum : d.0 + excess ≤ behind_cost (k + 1) = d.1 in
       let P : ℕ → Type 0 = λ j. Stands (k + 1) j d.0 in
-      let next : behind_cost k ≡ true_cost table.edition table.trip parts (k + 1) + behind_cost (k + 1) = one_more k high in
-      (true_cost table.edition table.trip parts (k + 1) + d.0, omega arith,
-      part_over table.edition table.trip parts price lawful homing.unit_ceiling are.unit_ceiling.alike cheap (begun_from homing) (closing_from homing) (jaw_from homing) (cell homing.whole) (rest_at homing.rest) behind k high d.0 (subst P (behind_next k) d.2) (omega arith))
+      let next : behind_cost k ≡ true_cost table.edition table.trip parts (k + 1) + behind_cost (k + 1) = one_more k high in (
+        true_cost table.edition table.trip parts (k + 1) + d.0,
+        omega arith,
+        part_over table.edition table.trip parts price lawful homing.unit_ceiling are.unit_ceiling.alike cheap (begun_from homing) (closing_from homing) (jaw_from homing) (cell homing.whole) (rest_at homing.rest) behind k high d.0 (subst P (behind_next k) d.2) (omega arith),
+      )
 
   -- so all cost no less than the least and that
   pub least_and_excess : least + excess ≤ price

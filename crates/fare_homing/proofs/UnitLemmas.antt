@@ -1,6 +1,6 @@
 -- What each unit of a lawful construction costs at most, by what that costs.
-use Rattle.std.proofs.Common.{◌≡◌, ℕ, ◌+◌, ◌<◌, ◌≤◌, List, [], ◌∷◌, refl, ap, inl, inr, arith}
-use Rattle.std.specs.Prelude.{IfSome, Option, Some, None, sum_by}
+use Rattle.std.proofs.Common.{◌≡◌, ℕ, ◌+◌, ◌≤◌, List, [], ◌∷◌, ap, inl, inr, arith}
+use Rattle.std.specs.Prelude.{Some, None, sum_by}
 use Rattle.std.proofs.lemmas.List.Sums.{sum_by-cons}
 use Rattle.fare_trip.specs.Itinerary.{Itinerary}
 use Rattle.fare_tariff.specs.Tariff.{Tariff}
@@ -11,9 +11,9 @@ use Rattle.fare_rules.specs.UnitPrice.{price, unit_price}
 use Rattle.fare_rules.proofs.LawfulLemmas.{price_of_lawful}
 use Rattle.fare_rules.proofs.MemberLemmas.{Member, member_numbers}
 use Rattle.fare_homing.specs.declared.homing.Bar.{Bar}
-use Rattle.fare_homing.specs.Units.{AreUnitsWithin, IsBar, IsUnitCeiling}
+use Rattle.fare_homing.specs.Units.{IsBar, IsUnitCeiling}
 use Rattle.fare_legs.specs.declared.ceiling.Ceiling.{Ceiling}
-use Rattle.fare_legs.specs.Ceiling.{IsCeiling, IsWithin}
+use Rattle.fare_legs.specs.Ceiling.{IsCeiling}
 
 -- a sum is no less than what one member adds
 sum_has : (f : ℕ → ℕ) (xs : List ℕ) (x : ℕ) → Member x xs → f x ≤ sum_by f xs

@@ -9,6 +9,7 @@
 //! - `onward`: what is behind each point where no unit is open, by the fares that are barred there;
 //! - `homing`: the numbers of a trip;
 //! - `rests`: what is behind each point where no unit is open, without the fares of some rules;
+//! - `turns`: what the circle minima of a trip may be;
 //! - `steps`: whether no more is barred behind a part than its rule bars;
 //! - `barring`: the numbers of a trip with what is behind each point by what is barred.
 //!

@@ -1,4 +1,4 @@
-use Rattle.std.proofs.Common.{◌≡◌, Bool, Option, Some, None, subst, sym, ◌∙◌, arith}
+use Rattle.std.proofs.Common.{Bool, Option, subst, sym, arith}
 use Rattle.std.specs.Prelude.{if◌then◌else◌}
 use Rattle.fare_bounds.specs.Covers.{rest_at}
 use Rattle.fare_legs.specs.declared.ceiling.Ceiling.{Ceiling}

@@ -1,14 +1,10 @@
-use Rattle.std.proofs.Common.{rules, ◌≡◌, ◌+◌, ◌-◌, ℕ, List, [], sym, subst, ◌∙◌, ap, arith, length-set}
-use Rattle.std.specs.Prelude.{IfSome, Some}
+use Rattle.std.proofs.Common.{rules, ◌≡◌, ◌+◌, ◌-◌, ℕ, List, [], subst, ◌∙◌, ap, arith, length-set}
+use Rattle.std.specs.Prelude.{Some}
 use Rattle.fare_trip.specs.Itinerary.{count}
 use Rattle.fare_bounds.specs.Covers.{rest_at}
-use Rattle.fare_legs.specs.Ceiling.{IsCeiling}
 use Rattle.fare_homing.specs.HomingRows.{AreWholes}
 use Rattle.fare_legs.specs.Legs.{AreLegsBehind}
-use Rattle.fare_legs.specs.Lonely.{AreLonely}
-use Rattle.fare_legs.specs.Countries.{AreCountries}
 use Rattle.fare_homing.specs.Rows.{begun_from, cell, jaw_from}
-use Rattle.fare_legs.specs.Threes.{AreOfTwo}
 use Rattle.fare_homing.proofs.HomingLemmas.{AreHomingsFrom, all_homings, no_homings, put_homings}
 use Rattle.fare_homing.proofs.homing.make.Goals as goal
 

@@ -1,4 +1,4 @@
-use Rattle.std.proofs.Common.{◌≤◌, arith}
+use Rattle.std.proofs.Common.{arith}
 use Rattle.fare_homing.proofs.UnitLemmas.{units_by_all, units_by_bar}
 use Rattle.fare_homing.proofs.homing.unit_ceiling_by.Goals as goal
 

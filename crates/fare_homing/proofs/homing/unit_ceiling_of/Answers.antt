@@ -1,4 +1,4 @@
-use Rattle.std.proofs.Common.{◌≡◌, sym, subst}
+use Rattle.std.proofs.Common.{sym, subst}
 use Rattle.std.specs.Prelude.{IfSome, Option, Some}
 use Rattle.fare_legs.specs.declared.ceiling.Ceiling.{Ceiling}
 use Rattle.fare_legs.specs.Ceiling.{IsCeiling}
