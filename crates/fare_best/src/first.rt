@@ -1,6 +1,6 @@
 //! The first constructions of all.
 
-ghost use Rattle.std.specs.Prelude.{◌≡◌, ◌≤◌, ℕ, [], List, IfOk};
+ghost use Rattle.std.specs.Prelude.{◌≡◌, ◌≤◌, ℕ, [], List, IfOk, true};
 ghost use Rattle.fare_trip.specs.Itinerary.{Itinerary};
 ghost use Rattle.fare_tariff.specs.Tariff.{Tariff};
 ghost use Rattle.fare_rules.specs.FirstK.{Priced, IsFirstK};
@@ -12,7 +12,7 @@ use crate::walking::{Wanted, walk};
 use fare_branch::{best_of, dived_front, is_far};
 use fare_codes::MOST_BEST;
 use fare_component::Table;
-use fare_floors::{Partial, Stage, ahead_of, stack_of};
+use fare_floors::{Partial, Stage, add_bar, ahead_of, bar_limit, remake, stack_of};
 use fare_homing::{Homing, add_barred, homing_of, number_at};
 use fare_ports::NoMemory;
 use fare_ranking::BestList;
@@ -60,8 +60,8 @@ fn fill(table: &Table, k: usize, found: &mut BestList)
     rise(table, k, least, found)
 }
 
-/// Finds the first `k`. Where the least price is far above what all costs at least, a limit is had at once, since walks
-/// up to a lesser one would not be pruned.
+/// Finds the first `k`: under what is known of the units of those that cost a little more than the least price, or where
+/// these are fewer, without that.
 fn rise(table: &Table, k: usize, least: u64, found: &mut BestList)
     requires some { 1 ≤ k }
     requires few { k ≤ MOST_BEST }
@@ -69,11 +69,73 @@ fn rise(table: &Table, k: usize, least: u64, found: &mut BestList)
     ensures { IsFirstK table.now.edition table.now.trip k found.new }
 {
     let mut homing = homing_of(table, None);
-    add_barred(table, &mut homing);
-    if is_far(&homing, least) {
-        return search_far(table, &homing, k, least, found);
+    add_bar(table, &mut homing, least);
+    let Some(limit) = bar_limit(&homing, least) else {
+        return rise_by(table, &mut homing, k, least, found);
+    };
+    if are_near(table, &mut homing, Wanted { count: k, limit }, least, found) {
+        return;
     }
-    walk_up(table, &homing, k, least, found)
+    rise_anew(table, k, least, found)
+}
+
+/// Finds the first ones up to a limit under which something is known of the units; whether they cost no more than it.
+fn are_near(
+    table: &Table,
+    homing: &mut Homing,
+    wanted: Wanted,
+    least: u64,
+    found: &mut BestList,
+) -> bool
+    requires homing { AreHomingsOf table.now.edition table.now.trip homing.old }
+    requires some { 1 ≤ wanted.count }
+    requires few { wanted.count ≤ MOST_BEST }
+    requires ranked { IsRanked table.now.edition table.now.trip wanted.count found.old }
+    ensures ranked { IsRanked table.now.edition table.now.trip wanted.count found.new }
+    ensures first { result ≡ true → IsFirstK table.now.edition table.now.trip wanted.count found.new }
+{
+    remake(homing, table, wanted.limit);
+    add_barred(table, homing);
+    sound(table, homing, wanted.count, found);
+    let near = Wanted {
+        count: wanted.count,
+        limit: least.saturating_add(least / STEPS).min(wanted.limit),
+    };
+    walk_all(table, homing, near, found);
+    if found.is_within(near.count, near.limit) {
+        return true;
+    }
+    walk_all(table, homing, wanted, found);
+    found.is_within(wanted.count, wanted.limit)
+}
+
+/// Finds the first `k` without what is known of the units. It stands apart since it makes the numbers of the trip once
+/// more.
+#[inline(never)]
+fn rise_anew(table: &Table, k: usize, least: u64, found: &mut BestList)
+    requires some { 1 ≤ k }
+    requires few { k ≤ MOST_BEST }
+    requires ranked { IsRanked table.now.edition table.now.trip k found.old }
+    ensures { IsFirstK table.now.edition table.now.trip k found.new }
+{
+    let mut homing = homing_of(table, None);
+    rise_by(table, &mut homing, k, least, found)
+}
+
+/// Finds the first `k`. Where the least price is far above what all costs at least, a limit is had at once, since walks
+/// up to a lesser one would not be pruned.
+fn rise_by(table: &Table, homing: &mut Homing, k: usize, least: u64, found: &mut BestList)
+    requires homing { AreHomingsOf table.now.edition table.now.trip homing.old }
+    requires some { 1 ≤ k }
+    requires few { k ≤ MOST_BEST }
+    requires ranked { IsRanked table.now.edition table.now.trip k found.old }
+    ensures { IsFirstK table.now.edition table.now.trip k found.new }
+{
+    add_barred(table, homing);
+    if is_far(homing, least) {
+        return search_far(table, homing, k, least, found);
+    }
+    walk_up(table, homing, k, least, found)
 }
 
 /// Finds the first `k` by a walk up to the price of the `k`th of those that a dive is near, under a ceiling just below

@@ -13,7 +13,8 @@ use crate::bound::{Bound, NO_PRICE};
 use crate::descent::dive;
 use crate::pieces::Piece;
 use fare_component::Table;
-use fare_homing::{Homing, add_barred, number_at, remake};
+use fare_floors::{add_bar, bar_limit, remake};
+use fare_homing::{Homing, add_barred, number_at};
 
 /// Under how many ceilings a search dives.
 const MOST_CEILINGS: u32 = 4;
@@ -49,15 +50,44 @@ pub fn is_far(homing: &Homing, price: u64) -> bool
 }
 
 /// The ceiling under which the next dive looks: just below the price known, where that is far above what all costs at
-/// least and no dive was made under it yet.
+/// least and no dive was made under it yet; but first the price up to which something is known of the units.
 fn next_ceiling(homing: &Homing, least: u64) -> Option<u64> {
-    if !is_far(homing, least) {
-        return None;
+    let below = least.saturating_sub(1);
+    let limit = match homing.ceiling {
+        None => bar_limit(homing, 0),
+        Some(ceiling) if below <= ceiling.price => return None,
+        Some(_ceiling) => None,
+    };
+    match limit {
+        Some(limit) if least != NO_PRICE => Some(limit.min(below)),
+        _ if is_far(homing, least) => Some(below),
+        _ => None,
     }
-    match homing.ceiling {
-        Some(ceiling) if ceiling.price < least => None,
-        _ => Some(least.saturating_sub(1)),
+}
+
+/// Adds what is known of the units of constructions up to a price, where one is known.
+fn add_known(table: &Table, homing: &mut Homing, least: u64)
+    requires homing { AreHomingsOf table.now.edition table.now.trip homing.old }
+    ensures homing { AreHomingsOf table.now.edition table.now.trip homing.new }
+{
+    if least != NO_PRICE {
+        add_bar(table, homing, least);
     }
+}
+
+/// What the first dive comes to in a piece; what is known of the units of constructions up to its price is then added.
+fn first_dive<B: Bound>(table: &Table, homing: &mut Homing, piece: Piece, bound: &mut B) -> Found
+    requires homing { AreHomingsOf table.now.edition table.now.trip homing.old }
+    requires under { IsUnderAll table.now.edition table.now.trip (B.fixed bound.old) }
+    ensures homing { AreHomingsOf table.now.edition table.now.trip homing.new }
+    ensures fixed { B.fixed bound.new ≡ B.fixed bound.old }
+    ensures dived { IsDived table.now.edition table.now.trip piece (B.least bound.old) None (B.least bound.new)
+        result }
+{
+    let best = try_dive(table, homing, piece, None, bound);
+    let least = bound.seen();
+    add_known(table, homing, least);
+    best
 }
 
 /// What dives come to in a piece; what is behind each point is then known under the last ceiling.
@@ -74,7 +104,7 @@ pub(crate) fn dives<B: Bound>(
     ensures dived { IsDived table.now.edition table.now.trip piece (B.least bound.old) None (B.least bound.new)
         result }
 {
-    let mut best = try_dive(table, homing, piece, None, bound);
+    let mut best = first_dive(table, homing, piece, bound);
     for _ceiling in 0..MOST_CEILINGS {
         let least = bound.seen();
         let Some(price) = next_ceiling(homing, least) else {
@@ -89,13 +119,18 @@ pub(crate) fn dives<B: Bound>(
     best
 }
 
+/// Whether nothing is below the price known, by what is behind the points under a ceiling just below it.
+fn is_settled(homing: &Homing, ceiling: u64, least: u64) -> bool {
+    least.saturating_sub(1) <= ceiling && homing.rest[0].is_nothing()
+}
+
 /// Makes what is behind each point anew under a ceiling that the price known is under, unless there is nothing below it.
 pub(crate) fn raise(table: &Table, homing: &mut Homing, least: u64)
     requires homing { AreHomingsOf table.now.edition table.now.trip homing.old }
     ensures homing { AreHomingsOf table.now.edition table.now.trip homing.new }
 {
     match homing.ceiling {
-        Some(ceiling) if ceiling.price < least && !homing.rest[0].is_nothing() => {
+        Some(ceiling) if ceiling.price < least && !is_settled(homing, ceiling.price, least) => {
             remake(homing, table, least)
         }
         _ => {}

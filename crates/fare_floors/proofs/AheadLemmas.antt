@@ -96,12 +96,12 @@ module _ (table : Pricing) (homing : Homing) (are : AreHomingsOf table.edition t
   module _ (cost : ℕ) (over : Stands (length front + 1) (greatest_unit (front ++ part ∷ rest) (places (front ++ part ∷ rest))) (end_of (front ++ part ∷ rest) (length front + 1)) cost) where
     from_low : end_of front (length front) ≤ end_of (front ++ part ∷ rest) (length front + 1)
     from_low =
-        let rise : point_behind (front ++ part ∷ rest) (length front) < end_of (front ++ part ∷ rest) (length front + 1) = rises table.edition table.trip (front ++ part ∷ rest) price lawful homing.ceiling are.ceiling cheap (begun_from homing) (closing_from homing) (jaw_from homing) (cell homing.whole) (rest_at (left_of table.edition homing front)) (left_is_behind table homing are front (part ∷ rest) price lawful) (length front) high cost over in
+        let rise : point_behind (front ++ part ∷ rest) (length front) < end_of (front ++ part ∷ rest) (length front + 1) = rises table.edition table.trip (front ++ part ∷ rest) price lawful homing.unit_ceiling are.unit_ceiling.alike (are.unit_ceiling.units (front ++ part ∷ rest) price lawful cheap) (begun_from homing) (closing_from homing) (jaw_from homing) (cell homing.whole) (rest_at (left_of table.edition homing front)) (left_is_behind table homing are front (part ∷ rest) price lawful) (length front) high cost over in
         let same : point_behind (front ++ part ∷ rest) (length front) ≡ end_of front (length front) = behind_front front (part ∷ rest) in
         omega arith
 
     to_end : end_of (front ++ part ∷ rest) (length front + 1) ≤ count table.trip
-    to_end = within table.edition table.trip (front ++ part ∷ rest) price lawful homing.ceiling are.ceiling cheap (begun_from homing) (closing_from homing) (jaw_from homing) (cell homing.whole) (rest_at (left_of table.edition homing front)) (left_is_behind table homing are front (part ∷ rest) price lawful) (length front) high cost over
+    to_end = within table.edition table.trip (front ++ part ∷ rest) price lawful homing.unit_ceiling are.unit_ceiling.alike (are.unit_ceiling.units (front ++ part ∷ rest) price lawful cheap) (begun_from homing) (closing_from homing) (jaw_from homing) (cell homing.whole) (rest_at (left_of table.edition homing front)) (left_is_behind table homing are front (part ∷ rest) price lawful) (length front) high cost over
 
     -- the row of the part's unit is no more than what is over the units that go on behind it
     module _ (way : is_ow table.edition (front ++ part ∷ rest) (length front + 1) ≡ false) (under row : List (Option ℕ)) (known : AreOver table homing front (unit_of (front ++ part ∷ rest) (length front + 1) - 1) under) (start : ℕ) (begins : begins_at table.trip (front ++ part ∷ rest) (unit_of (front ++ part ∷ rest) (length front + 1)) ≡ start) (begun : Bool)
@@ -115,20 +115,20 @@ module _ (table : Pricing) (homing : Homing) (are : AreHomingsOf table.edition t
       as_last last =
           let up : IsUpTo cost (rest_at under (end_of (front ++ part ∷ rest) (length front + 1))) =
           known (part ∷ rest) price (end_of (front ++ part ∷ rest) (length front + 1)) cost lawful cheap from_low to_end
-          (last_behind table.edition table.trip (front ++ part ∷ rest) price lawful homing.ceiling are.ceiling cheap (begun_from homing) (closing_from homing) (jaw_from homing) (cell homing.whole) (rest_at (left_of table.edition homing front)) (left_is_behind table homing are front (part ∷ rest) price lawful) (length front) high cost over way last) in
+          (last_behind table.edition table.trip (front ++ part ∷ rest) price lawful homing.unit_ceiling are.unit_ceiling.alike (are.unit_ceiling.units (front ++ part ∷ rest) price lawful cheap) (begun_from homing) (closing_from homing) (jaw_from homing) (cell homing.whole) (rest_at (left_of table.edition homing front)) (left_is_behind table homing are front (part ∷ rest) price lawful) (length front) high cost over way last) in
           let P : ℕ → Type 0 = λ a. may_end_at table.edition table.trip a (end_of (front ++ part ∷ rest) (length front + 1)) ≡ true in
-          let may : may_end_at table.edition table.trip start (end_of (front ++ part ∷ rest) (length front + 1)) ≡ true = subst P begins (last_may table.edition table.trip (front ++ part ∷ rest) price lawful homing.ceiling are.ceiling cheap (begun_from homing) (closing_from homing) (jaw_from homing) (cell homing.whole) (rest_at (left_of table.edition homing front)) (left_is_behind table homing are front (part ∷ rest) price lawful) (length front) high cost over way last) in
+          let may : may_end_at table.edition table.trip start (end_of (front ++ part ∷ rest) (length front + 1)) ≡ true = subst P begins (last_may table.edition table.trip (front ++ part ∷ rest) price lawful homing.unit_ceiling are.unit_ceiling.alike (are.unit_ceiling.units (front ++ part ∷ rest) price lawful cheap) (begun_from homing) (closing_from homing) (jaw_from homing) (cell homing.whole) (rest_at (left_of table.edition homing front)) (left_is_behind table homing are front (part ∷ rest) price lawful) (length front) high cost over way last) in
           elim (cases_Bool begun) [
             | inl t ↦
                 let free : must_go_from table.edition table.trip start begun (end_of (front ++ part ∷ rest) (length front + 1)) ≡ false = rw (t, may) refl in
                 here.whole free cost up
             | inr f ↦
                 let first : first_of (own (front ++ part ∷ rest) (unit_of (front ++ part ∷ rest) (length front + 1))) ≡ length front + 1 = now f in
-                let two : first_of (own (front ++ part ∷ rest) (unit_of (front ++ part ∷ rest) (length front + 1))) < last_of (own (front ++ part ∷ rest) (unit_of (front ++ part ∷ rest) (length front + 1))) = apart table.edition table.trip (front ++ part ∷ rest) price lawful homing.ceiling are.ceiling cheap (begun_from homing) (closing_from homing) (jaw_from homing) (cell homing.whole) (rest_at (left_of table.edition homing front)) (left_is_behind table homing are front (part ∷ rest) price lawful) (length front) high cost over way in
+                let two : first_of (own (front ++ part ∷ rest) (unit_of (front ++ part ∷ rest) (length front + 1))) < last_of (own (front ++ part ∷ rest) (unit_of (front ++ part ∷ rest) (length front + 1))) = apart table.edition table.trip (front ++ part ∷ rest) price lawful homing.unit_ceiling are.unit_ceiling.alike (are.unit_ceiling.units (front ++ part ∷ rest) price lawful cheap) (begun_from homing) (closing_from homing) (jaw_from homing) (cell homing.whole) (rest_at (left_of table.edition homing front)) (left_is_behind table homing are front (part ∷ rest) price lawful) (length front) high cost over way in
                 absurd (omega arith)
           ]
 
-      may_home : ComesHome table.edition table.trip (front ++ part ∷ rest) price lawful homing.ceiling are.ceiling cheap (begun_from homing) (closing_from homing) (jaw_from homing) (cell homing.whole) (rest_at (left_of table.edition homing front)) (left_is_behind table homing are front (part ∷ rest) price lawful) (length front) high cost over way
+      may_home : ComesHome table.edition table.trip (front ++ part ∷ rest) price lawful homing.unit_ceiling are.unit_ceiling.alike (are.unit_ceiling.units (front ++ part ∷ rest) price lawful cheap) (begun_from homing) (closing_from homing) (jaw_from homing) (cell homing.whole) (rest_at (left_of table.edition homing front)) (left_is_behind table homing are front (part ∷ rest) price lawful) (length front) high cost over way
           → may_come_to table.edition table.trip start begun (home_at (front ++ part ∷ rest) (unit_of (front ++ part ∷ rest) (length front + 1))) ≡ true
       may_home h =
           let P : ℕ → Type 0 = λ a. is_same_city table.trip a (home_at (front ++ part ∷ rest) (unit_of (front ++ part ∷ rest) (length front + 1))) ≡ true in
@@ -142,13 +142,13 @@ module _ (table : Pricing) (homing : Homing) (are : AreHomingsOf table.edition t
       more_is : has_more (front ++ part ∷ rest) (length front + 1) (unit_of (front ++ part ∷ rest) (length front + 1)) ≡ begun
       more_is =
           elim (cases_Bool begun) [
-            | inl t ↦ more_now table.edition table.trip (front ++ part ∷ rest) price lawful homing.ceiling are.ceiling cheap (begun_from homing) (closing_from homing) (jaw_from homing) (cell homing.whole) (rest_at (left_of table.edition homing front)) (left_is_behind table homing are front (part ∷ rest) price lawful) (length front) high cost over way (earlier t) ∙ sym t
-            | inr f ↦ one_now table.edition table.trip (front ++ part ∷ rest) price lawful homing.ceiling are.ceiling cheap (begun_from homing) (closing_from homing) (jaw_from homing) (cell homing.whole) (rest_at (left_of table.edition homing front)) (left_is_behind table homing are front (part ∷ rest) price lawful) (length front) high cost over way (now f) ∙ sym f
+            | inl t ↦ more_now table.edition table.trip (front ++ part ∷ rest) price lawful homing.unit_ceiling are.unit_ceiling.alike (are.unit_ceiling.units (front ++ part ∷ rest) price lawful cheap) (begun_from homing) (closing_from homing) (jaw_from homing) (cell homing.whole) (rest_at (left_of table.edition homing front)) (left_is_behind table homing are front (part ∷ rest) price lawful) (length front) high cost over way (earlier t) ∙ sym t
+            | inr f ↦ one_now table.edition table.trip (front ++ part ∷ rest) price lawful homing.unit_ceiling are.unit_ceiling.alike (are.unit_ceiling.units (front ++ part ∷ rest) price lawful cheap) (begun_from homing) (closing_from homing) (jaw_from homing) (cell homing.whole) (rest_at (left_of table.edition homing front)) (left_is_behind table homing are front (part ∷ rest) price lawful) (length front) high cost over way (now f) ∙ sym f
           ]
 
       as_open : length front + 1 < last_of (own (front ++ part ∷ rest) (unit_of (front ++ part ∷ rest) (length front + 1))) → IsUpTo cost (rest_at row (end_of (front ++ part ∷ rest) (length front + 1)))
       as_open less =
-          let h = comes_home_later table.edition table.trip (front ++ part ∷ rest) price lawful homing.ceiling are.ceiling cheap (begun_from homing) (closing_from homing) (jaw_from homing) (cell homing.whole) (rest_at (left_of table.edition homing front)) (left_is_behind table homing are front (part ∷ rest) price lawful) (length front) high cost over way less in
+          let h = comes_home_later table.edition table.trip (front ++ part ∷ rest) price lawful homing.unit_ceiling are.unit_ceiling.alike (are.unit_ceiling.units (front ++ part ∷ rest) price lawful cheap) (begun_from homing) (closing_from homing) (jaw_from homing) (cell homing.whole) (rest_at (left_of table.edition homing front)) (left_is_behind table homing are front (part ∷ rest) price lawful) (length front) high cost over way less in
           let home : ℕ = home_at (front ++ part ∷ rest) (unit_of (front ++ part ∷ rest) (length front + 1)) in
           let from : end_of front (length front) ≤ end_of (front ++ part ∷ rest) (length front + 1) = from_low in
           let later : end_of (front ++ part ∷ rest) (length front + 1) < home_at (front ++ part ∷ rest) (unit_of (front ++ part ∷ rest) (length front + 1)) = h.later in
@@ -166,7 +166,7 @@ module _ (table : Pricing) (homing : Homing) (are : AreHomingsOf table.edition t
 
       row_is_under : IsUpTo cost (rest_at row (end_of (front ++ part ∷ rest) (length front + 1)))
       row_is_under =
-          let most : length front + 1 ≤ last_of (own (front ++ part ∷ rest) (unit_of (front ++ part ∷ rest) (length front + 1))) = last_by table.edition table.trip (front ++ part ∷ rest) price lawful homing.ceiling are.ceiling cheap (begun_from homing) (closing_from homing) (jaw_from homing) (cell homing.whole) (rest_at (left_of table.edition homing front)) (left_is_behind table homing are front (part ∷ rest) price lawful) (length front) high cost over in
+          let most : length front + 1 ≤ last_of (own (front ++ part ∷ rest) (unit_of (front ++ part ∷ rest) (length front + 1))) = last_by table.edition table.trip (front ++ part ∷ rest) price lawful homing.unit_ceiling are.unit_ceiling.alike (are.unit_ceiling.units (front ++ part ∷ rest) price lawful cheap) (begun_from homing) (closing_from homing) (jaw_from homing) (cell homing.whole) (rest_at (left_of table.edition homing front)) (left_is_behind table homing are front (part ∷ rest) price lawful) (length front) high cost over in
           elim (cases_eq (last_of (own (front ++ part ∷ rest) (unit_of (front ++ part ∷ rest) (length front + 1)))) (length front + 1)) [
             | inl last ↦ as_last last
             | inr other ↦ as_open (above (last_of (own (front ++ part ∷ rest) (unit_of (front ++ part ∷ rest) (length front + 1)))) (length front + 1) most other)
@@ -210,7 +210,7 @@ module _ (table : Pricing) (homing : Homing) (are : AreHomingsOf table.edition t
           → IsOver table.edition table.trip (begun_from homing) (closing_from homing) (jaw_from homing) (rest_at (left_of table.edition homing front)) (front ++ part ∷ rest) (length front + 1) (greatest_unit (front ++ part ∷ rest) (places (front ++ part ∷ rest))) (end_of (front ++ part ∷ rest) (length front + 1)) cost
           → unit_of (front ++ part ∷ rest) (length front + 1) ≡ unit → unit ≡ greatest_unit front (places front) + 1 → first_of (own (front ++ part ∷ rest) (unit_of (front ++ part ∷ rest) (length front + 1))) ≡ length front + 1
       first_now part rest price cost lawful cheap over e new =
-          let most : first_of (own (front ++ part ∷ rest) (unit_of (front ++ part ∷ rest) (length front + 1))) ≤ length front + 1 = first_by table.edition table.trip (front ++ part ∷ rest) price lawful homing.ceiling are.ceiling cheap (begun_from homing) (closing_from homing) (jaw_from homing) (cell homing.whole) (rest_at (left_of table.edition homing front)) (left_is_behind table homing are front (part ∷ rest) price lawful) (length front) (high table homing are front part rest price lawful cheap) cost over in
+          let most : first_of (own (front ++ part ∷ rest) (unit_of (front ++ part ∷ rest) (length front + 1))) ≤ length front + 1 = first_by table.edition table.trip (front ++ part ∷ rest) price lawful homing.unit_ceiling are.unit_ceiling.alike (are.unit_ceiling.units (front ++ part ∷ rest) price lawful cheap) (begun_from homing) (closing_from homing) (jaw_from homing) (cell homing.whole) (rest_at (left_of table.edition homing front)) (left_is_behind table homing are front (part ∷ rest) price lawful) (length front) (high table homing are front part rest price lawful cheap) cost over in
           elim (cases_eq (first_of (own (front ++ part ∷ rest) (unit_of (front ++ part ∷ rest) (length front + 1)))) (length front + 1)) [
             | inl same ↦ same
             | inr other ↦ absurd (not_before (below (first_of (own (front ++ part ∷ rest) (unit_of (front ++ part ∷ rest) (length front + 1)))) (length front + 1) most other))
@@ -266,7 +266,7 @@ module _ (table : Pricing) (homing : Homing) (are : AreHomingsOf table.edition t
     next_over part rest price lawful cheap =
         let n : length (front ++ part ∷ rest) ≡ length front + suc (length rest) = length-append front (part ∷ rest) in
         let P : ℕ → Type 0 = λ j. IsOver table.edition table.trip (begun_from homing) (closing_from homing) (jaw_from homing) (rest_at (left_of table.edition homing front)) (front ++ part ∷ rest) (length front + 1) (greatest_unit (front ++ part ∷ rest) (places (front ++ part ∷ rest))) j (sum_by (true_cost table.edition table.trip (front ++ part ∷ rest)) (range_with_len (length front + 1 + 1) (length rest))) in
-        subst P (behind_next (front ++ part ∷ rest) (length front)) (all_over table.edition table.trip (front ++ part ∷ rest) price lawful homing.ceiling are.ceiling cheap (begun_from homing) (closing_from homing) (jaw_from homing) (cell homing.whole) (rest_at (left_of table.edition homing front)) (left_is_behind table homing are front (part ∷ rest) price lawful) (length rest) (length front + 1) (omega arith) (omega arith))
+        subst P (behind_next (front ++ part ∷ rest) (length front)) (all_over table.edition table.trip (front ++ part ∷ rest) price lawful homing.unit_ceiling are.unit_ceiling.alike (are.unit_ceiling.units (front ++ part ∷ rest) price lawful cheap) (begun_from homing) (closing_from homing) (jaw_from homing) (cell homing.whole) (rest_at (left_of table.edition homing front)) (left_is_behind table homing are front (part ∷ rest) price lawful) (length rest) (length front + 1) (omega arith) (omega arith))
 
     alone_by : AreOver table homing front (greatest_unit front (places front)) ahead.alone → (part : Part) (rest : List Part) (price : ℕ) → IsLawful table.edition table.trip (front ++ part ∷ rest) price → IsWithin homing.ceiling price → is_ow table.edition (front ++ part ∷ rest) (length front + 1) ≡ true
         → IsBehindNext table front part rest price ahead.spent (rest_at ahead.alone part.end)
@@ -274,7 +274,7 @@ module _ (table : Pricing) (homing : Homing) (are : AreHomingsOf table.edition t
         let over = next_over part rest price lawful cheap in
         let cost : ℕ = sum_by (true_cost table.edition table.trip (front ++ part ∷ rest)) (range_with_len (length front + 1 + 1) (length rest)) in
         let up_to_end = high table homing are front part rest price lawful cheap in
-        let o = alone_behind table.edition table.trip (front ++ part ∷ rest) price lawful homing.ceiling are.ceiling cheap (begun_from homing) (closing_from homing) (jaw_from homing) (cell homing.whole) (rest_at (left_of table.edition homing front)) (left_is_behind table homing are front (part ∷ rest) price lawful) (length front) up_to_end (sum_by (true_cost table.edition table.trip (front ++ part ∷ rest)) (range_with_len (length front + 1 + 1) (length rest))) over way in
+        let o = alone_behind table.edition table.trip (front ++ part ∷ rest) price lawful homing.unit_ceiling are.unit_ceiling.alike (are.unit_ceiling.units (front ++ part ∷ rest) price lawful cheap) (begun_from homing) (closing_from homing) (jaw_from homing) (cell homing.whole) (rest_at (left_of table.edition homing front)) (left_is_behind table homing are front (part ∷ rest) price lawful) (length front) up_to_end (sum_by (true_cost table.edition table.trip (front ++ part ∷ rest)) (range_with_len (length front + 1 + 1) (length rest))) over way in
         let down = over_down table.edition table.trip (begun_from homing) (closing_from homing) (jaw_from homing) (rest_at (left_of table.edition homing front)) (front ++ part ∷ rest) (length front) (greatest_unit front (places front)) (greatest_unit (front ++ part ∷ rest) (places (front ++ part ∷ rest))) (end_of (front ++ part ∷ rest) (length front + 1))
         (sum_by (true_cost table.edition table.trip (front ++ part ∷ rest)) (range_with_len (length front + 1 + 1) (length rest))) (fewer table.edition table.trip front (part ∷ rest) price lawful) (λ v low most. none_new table.edition table.trip front (part ∷ rest) price lawful v low) o in
         let S : ℕ → Type 0 = λ i. IsUpTo (sum_by (true_cost table.edition table.trip (front ++ part ∷ rest)) (range_with_len (length front + 1 + 1) (length rest))) (rest_at ahead.alone i) in

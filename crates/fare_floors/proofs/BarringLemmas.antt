@@ -121,7 +121,7 @@ module _ (tariff : Tariff) (trip : Itinerary) (front rest : List Part) (price : 
 
 -- so what is left of what is behind is behind the first parts
 pub left_is_behind : (table : Pricing) (homing : Homing) → AreHomingsOf table.edition table.trip homing → (front rest : List Part) (price : ℕ) → IsLawful table.edition table.trip (front ++ rest) price
-    → IsBehind table.edition table.trip homing.ceiling (begun_from homing) (closing_from homing) (jaw_from homing) (cell homing.whole) (rest_at (left_of table.edition homing front)) (front ++ rest) (length front)
+    → IsBehind table.edition table.trip homing.unit_ceiling (begun_from homing) (closing_from homing) (jaw_from homing) (cell homing.whole) (rest_at (left_of table.edition homing front)) (front ++ rest) (length front)
 left_is_behind table homing are front rest price lawful =
     let set : ℕ = set_after table.edition homing.onwards front (length front) in
     let within = after_within table.edition table.trip (begun_from homing) (jaw_from homing) homing.onwards are.onwards front (length front) in

@@ -119,18 +119,6 @@ module _ (tariff : Tariff) (trip : Itinerary) (ind : Indicator) (one : HasOneInd
   some_have [] n m within = absurd m
   some_have (x ∷ xs) n m within = has_all x xs within
 
--- a sum is no less than what one member adds
-sum_has : (f : ℕ → ℕ) (xs : List ℕ) (x : ℕ) → Member x xs → f x ≤ sum_by f xs
-sum_has f [] x m = absurd m
-sum_has f (y ∷ ys) x (inl same) =
-    let more : sum_by f (y ∷ ys) ≡ f y + sum_by f ys = sum_by-cons f y ys in
-    let here : f x ≡ f y = ap f same in
-    omega arith
-sum_has f (y ∷ ys) x (inr m) =
-    let more : sum_by f (y ∷ ys) ≡ f y + sum_by f ys = sum_by-cons f y ys in
-    let up : f x ≤ sum_by f ys = sum_has f ys x m in
-    omega arith
-
 -- a unit of three parts or more is no open jaw and no round trip
 no_jaw : (tariff : Tariff) (trip : Itinerary) (parts : List Part) (xs : List ℕ) → 3 ≤ length xs → is_jaw tariff trip parts xs ≡ false
 no_jaw tariff trip parts [] long = absurd (omega arith)
@@ -185,25 +173,7 @@ module _ (tariff : Tariff) (trip : Itinerary) (parts : List Part) (cost : ℕ) (
   unfolding unit_kind is_open_jaw is_round_trip
   circle = rw (none, no_jaw tariff trip parts (own parts (unit_of parts k)) long, not_two (part_cost tariff trip parts (own parts (unit_of parts k))) (own parts (unit_of parts k)) long, and_false (closes trip parts (own parts (unit_of parts k)))) refl
 
-  -- no unit costs more than all
-  unit_in_price : unit_price tariff trip parts (unit_of parts k) ≤ cost
-  unfolding price
-  unit_in_price =
-      let one : 1 ≤ unit_of parts k = unit_from_one tariff trip parts cost lawful k low high in
-      let most : unit_of parts k ≤ greatest_unit parts (places parts) = unit_in tariff trip parts cost lawful k low high in
-      let there : Member (unit_of parts k) (units parts) = member_numbers 1 (greatest_unit parts (places parts) + 1) (unit_of parts k) one (omega arith) in
-      let up : unit_price tariff trip parts (unit_of parts k) ≤ sum_by (unit_price tariff trip parts) (units parts) = sum_has (unit_price tariff trip parts) (units parts) (unit_of parts k) there in
-      let whole : sum_by (unit_price tariff trip parts) (units parts) ≡ cost = price_of_lawful tariff trip parts cost lawful in
-      omega arith
-
-  -- twice the reference to where an earlier part ends is no more than the price
-  turning_up : (amount : ℕ) → circle_reference tariff trip parts (own parts (unit_of parts k)) k (end_of parts k) ≡ Some amount → 2 * amount ≤ cost
-  turning_up amount e =
-      let up : 2 * amount ≤ unit_price tariff trip parts (unit_of parts k) = turning_in_unit tariff trip parts cost lawful k low high less circle amount e in
-      let most : unit_price tariff trip parts (unit_of parts k) ≤ cost = unit_in_price in
-      omega arith
-
-  module _ (ceiling : Ceiling) (alike : HasOneIndicator tariff trip ceiling.indicator) (within : cost ≤ ceiling.price) (home : ℕ) (city : point trip home ≡ origin trip parts (own parts (unit_of parts k))) where
+  module _ (ceiling : Ceiling) (alike : HasOneIndicator tariff trip ceiling.indicator) (within : unit_price tariff trip parts (unit_of parts k) ≤ ceiling.price) (home : ℕ) (city : point trip home ≡ origin trip parts (own parts (unit_of parts k))) where
     -- the unit's own sectors up to there have the indicator of all
     same_indicator : indicator_of tariff trip (own_sectors trip parts (own parts (unit_of parts k)) (end_of parts k)) ≡ ceiling.indicator
     unfolding own_sectors
@@ -234,11 +204,11 @@ module _ (tariff : Tariff) (trip : Itinerary) (parts : List Part) (cost : ℕ) (
         by_amount : (found : Option ℕ) → circle_reference tariff trip parts (own parts (unit_of parts k)) k (end_of parts k) ≡ found → is_too_dear tariff trip ceiling (start_of trip parts k) home (end_of parts k) (part_at parts k).fare ≡ false
         by_amount None e = ap (is_above ceiling.price) (same_reference ∙ e)
         by_amount (Some amount) e =
-            let up : 2 * amount ≤ cost = turning_up amount e in
+            let up : 2 * amount ≤ unit_price tariff trip parts (unit_of parts k) = turning_in_unit tariff trip parts cost lawful k low high less circle amount e in
             ap (is_above ceiling.price) (same_reference ∙ e) ∙ not_above (2 * amount) (omega (arith, within))
 
   -- so it costs what it does under any ceiling
-  pub below_every : (ceiling : Option Ceiling) → IsCeiling tariff trip ceiling → IsWithin ceiling cost → (home : ℕ) → point trip home ≡ origin trip parts (own parts (unit_of parts k))
+  pub below_every : (ceiling : Option Ceiling) → IsCeiling tariff trip ceiling → IsWithin ceiling (unit_price tariff trip parts (unit_of parts k)) → (home : ℕ) → point trip home ≡ origin trip parts (own parts (unit_of parts k))
       → (cost_of : Entry → Option ℕ) (entry : Entry) → entry.fare ≡ (part_at parts k).fare → (x : ℕ) → cost_of entry ≡ Some x → below_ceiling tariff trip ceiling (start_of trip parts k) home (end_of parts k) cost_of entry ≡ Some x
   below_every None alike within home city cost_of entry same x costs = costs
   below_every (Some ceiling) alike within home city cost_of entry same x costs =

@@ -1,4 +1,4 @@
--- A part between that is too dear for a ceiling is in no construction under it.
+-- A part between that is too dear for a ceiling is in no construction whose units are under it.
 use Rattle.std.proofs.Common.{◌≡◌, ℕ, suc, ◌+◌, ◌<◌, ◌≤◌, Bool, true, false, ◌&&◌, List, [], ◌∷◌, ◌++◌, length, length-append, ap, sym, subst, ◌∙◌, refl, inl, inr, arith}
 use Rattle.std.specs.Prelude.{Option, Some, None, nat_lt}
 use Rattle.std.proofs.lemmas.Bool.{ltb-true}
@@ -9,10 +9,12 @@ use Rattle.fare_rules.specs.Best.{IsLawful}
 use Rattle.fare_rules.specs.Completion.{IsCompletion}
 use Rattle.fare_rules.specs.Construction.{end_of, first_of, greatest_unit, last_of, own, origin, part_at, places, start_of, unit_of}
 use Rattle.fare_rules.specs.Shape.{holds_ow}
+use Rattle.fare_rules.specs.UnitPrice.{unit_price}
 use Rattle.fare_rules.proofs.MemberLemmas.{Member}
 use Rattle.fare_units.proofs.NextLemmas.{front_part, front_start, front_unit}
 use Rattle.fare_legs.specs.declared.ceiling.Ceiling.{Ceiling}
-use Rattle.fare_legs.specs.Ceiling.{HasOneIndicator, IsCeiling, IsWithin, is_too_dear}
+use Rattle.fare_legs.specs.Ceiling.{HasOneIndicator, IsCeiling, is_too_dear}
+use Rattle.fare_homing.specs.Units.{AreUnitsWithin}
 use Rattle.fare_floors.specs.Dear.{is_dear_between, is_over}
 use Rattle.fare_floors.specs.Ending.{needs_more}
 use Rattle.fare_floors.proofs.CircleLemmas.{turn_is_cheap}
@@ -47,7 +49,7 @@ module _ (tariff : Tariff) (trip : Itinerary) (front rest : List Part) (price : 
   greatest : unit ≤ greatest_unit (front ++ rest) (places (front ++ rest))
   greatest = subst (λ u. u ≤ greatest_unit (front ++ rest) (places (front ++ rest))) same_unit (unit_in tariff trip (front ++ rest) price lawful (length front) some within)
 
-  module _ (x : ℕ) (xs : List ℕ) (e : own front unit ≡ x ∷ xs) (more : needs_more tariff trip front (x ∷ xs) ≡ true) (two : 2 ≤ length (own front unit)) (ceiling : Ceiling) (alike : HasOneIndicator tariff trip ceiling.indicator) (cheap : price ≤ ceiling.price) where
+  module _ (x : ℕ) (xs : List ℕ) (e : own front unit ≡ x ∷ xs) (more : needs_more tariff trip front (x ∷ xs) ≡ true) (two : 2 ≤ length (own front unit)) (ceiling : Ceiling) (alike : HasOneIndicator tariff trip ceiling.indicator) (cheap : AreUnitsWithin tariff trip (front ++ rest) (Some ceiling)) where
     first : AreFirst tariff trip front rest (x ∷ xs)
     first =
         let P : List ℕ → Type 0 = λ ys. AreFirst tariff trip front rest ys in
@@ -113,13 +115,14 @@ module _ (tariff : Tariff) (trip : Itinerary) (front rest : List Part) (price : 
         let B : ℕ → Type 0 = λ u. length front < last_of (own (front ++ rest) u) in
         let C : ℕ → Type 0 = λ u. point trip home ≡ origin trip (front ++ rest) (own (front ++ rest) u) in
         let D : ℕ → Type 0 = λ a. is_too_dear tariff trip ceiling a home (end_of front (length front)) (part_at front (length front)).fare ≡ false in
+        let U : ℕ → Type 0 = λ u. unit_price tariff trip (front ++ rest) u ≤ ceiling.price in
         let E : Part → Type 0 = λ p. is_too_dear tariff trip ceiling (start_of trip (front ++ rest) (length front)) home p.end p.fare ≡ false in
         subst D (front_start trip front rest (length front) some (omega arith)) (subst E (front_part front rest (length front) some (omega arith))
-        (turn_is_cheap tariff trip (front ++ rest) price lawful (length front) some within (subst N (sym same_unit) none) (subst L (sym same_unit) long) (subst B (sym same_unit) last) ceiling alike cheap home (subst C (sym same_unit) city)))
+        (turn_is_cheap tariff trip (front ++ rest) price lawful (length front) some within (subst N (sym same_unit) none) (subst L (sym same_unit) long) (subst B (sym same_unit) last) ceiling alike (subst U (sym same_unit) (cheap unit from_one greatest long)) home (subst C (sym same_unit) city)))
 
--- so nothing that begins with parts that are over the ceiling is under it
+-- so in nothing that begins with parts that are over the ceiling are all units under it
 pub over_is_beyond : (tariff : Tariff) (trip : Itinerary) (ceiling : Option Ceiling) (front : List Part) → IsCeiling tariff trip ceiling → is_over tariff trip ceiling front ≡ true
-    → (parts : List Part) (price : ℕ) → IsCompletion tariff trip front parts price → IsWithin ceiling price → ⊥
+    → (parts : List Part) (price : ℕ) → IsCompletion tariff trip front parts price → AreUnitsWithin tariff trip parts ceiling → ⊥
 over_is_beyond tariff trip None front alike over parts price c cheap = false_true over
 over_is_beyond tariff trip (Some ceiling) front alike over parts price c cheap =
     let one = and_parts (nat_lt 0 (length front)) (is_dear_between tariff trip ceiling front (length front)) over in
@@ -129,13 +132,14 @@ over_is_beyond tariff trip (Some ceiling) front alike over parts price c cheap =
     let long : 1 < length (own front (unit_of front (length front))) = ltb-true 1 (length (own front (unit_of front (length front)))) two.0 in
     let three = and_parts (needs_more tariff trip front (own front (unit_of front (length front)))) _ two.1 in
     let P : List Part → Type 0 = λ xs. IsLawful tariff trip xs price in
+    let U : List Part → Type 0 = λ xs. AreUnitsWithin tariff trip xs (Some ceiling) in
     let lawful : IsLawful tariff trip (front ++ c.begins.0) price = subst P c.begins.1 c.lawful in
-    by_own (own front (unit_of front (length front))) refl long three.0 lawful (omega arith) three.1
+    by_own (own front (unit_of front (length front))) refl long three.0 lawful (subst U c.begins.1 cheap) (omega arith) three.1
   where
     by_own : (ys : List ℕ) → own front (unit_of front (length front)) ≡ ys → 1 < length (own front (unit_of front (length front))) → needs_more tariff trip front (own front (unit_of front (length front))) ≡ true
-        → IsLawful tariff trip (front ++ c.begins.0) price → 1 ≤ length front
+        → IsLawful tariff trip (front ++ c.begins.0) price → AreUnitsWithin tariff trip (front ++ c.begins.0) (Some ceiling) → 1 ≤ length front
         → is_too_dear tariff trip ceiling (start_of trip front (length front)) (start_of trip front (first_of (own front (unit_of front (length front))))) (end_of front (length front)) (part_at front (length front)).fare ≡ true → ⊥
-    by_own [] e long more lawful some dear = let n : length (own front (unit_of front (length front))) ≡ 0 = ap length e in absurd (omega arith)
-    by_own (x ∷ xs) e long more lawful some dear =
+    by_own [] e long more lawful within some dear = let n : length (own front (unit_of front (length front))) ≡ 0 = ap length e in absurd (omega arith)
+    by_own (x ∷ xs) e long more lawful within some dear =
         let M : List ℕ → Type 0 = λ ys. needs_more tariff trip front ys ≡ true in
-        false_true (sym (not_dear tariff trip front c.begins.0 price lawful some x xs e (subst M e more) (omega arith) ceiling alike cheap) ∙ dear)
+        false_true (sym (not_dear tariff trip front c.begins.0 price lawful some x xs e (subst M e more) (omega arith) ceiling alike within) ∙ dear)

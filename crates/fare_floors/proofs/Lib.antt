@@ -31,3 +31,4 @@ pub mod CircleLemmas
 pub mod FollowLemmas
 pub mod EntryLemmas
 pub mod DearLemmas
+pub mod BarLemmas

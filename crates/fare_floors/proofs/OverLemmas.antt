@@ -3,7 +3,7 @@ use Rattle.std.proofs.Common.{◌≡◌, ℕ, zero, suc, ◌+◌, ◌-◌, ◌<�
 use Rattle.std.specs.Prelude.{Option, Some, Contains, filter, sum_by, bytes_eq}
 use Rattle.std.specs.List.{range_with_len, list_any}
 use Rattle.std.proofs.Math.ListN.{length-append}
-use Rattle.std.proofs.lemmas.Bool.{cases_Bool, cases_lt, cases_eq, and_parts, leb-true, lt-leb, or_parts}
+use Rattle.std.proofs.lemmas.Bool.{cases_Bool, cases_lt, cases_eq, eqb-true, and_parts, leb-true, lt-leb, or_parts}
 use Rattle.std.proofs.lemmas.Slice.Eq.{bytes_eq-Decides}
 use Rattle.std.proofs.lemmas.List.Sums.{sum_by-cons}
 use Rattle.fare_trip.specs.Itinerary.{Itinerary, count, point}
@@ -23,10 +23,11 @@ use Rattle.fare_rules.proofs.NumberLemmas.{any_next}
 use Rattle.fare_units.proofs.NextLemmas.{front_unit, greatest_same}
 use Rattle.fare_component.specs.Table.{entries_of}
 use Rattle.fare_legs.specs.declared.ceiling.Ceiling.{Ceiling}
-use Rattle.fare_legs.specs.Ceiling.{IsCeiling, IsWithin, below_ceiling}
+use Rattle.fare_legs.specs.Ceiling.{IsCeiling, below_ceiling}
 use Rattle.fare_legs.specs.Costs.{IsUpTo, is_same_city, back_cost, between_cost, heads_to}
 use Rattle.fare_homing.specs.Homing.{closing_by, homing_at, may_end_at, may_go_on}
 use Rattle.fare_homing.specs.HomingRows.{IsLast, IsPart}
+use Rattle.fare_homing.specs.Units.{AreUnitsWithin}
 use Rattle.fare_legs.specs.Owed.{IsOwed}
 use Rattle.fare_legs.specs.Barred.{is_barred}
 use Rattle.fare_floors.proofs.CircleLemmas.{below_every}
@@ -39,13 +40,13 @@ use Rattle.fare_legs.specs.Threes.{IsOneOfThree}
 use Rattle.fare_floors.proofs.PairLemmas.{pair_of, third_of}
 use Rattle.fare_floors.proofs.OnwardLemmas.{ends_rise, must_close_from, closed_whole, ends_home, either_left, either_right}
 use Rattle.fare_floors.specs.Costs.{true_cost}
-use Rattle.fare_floors.specs.Stack.{goes_on, has_more, own_to, stand_of, IsOver, LastsBy}
+use Rattle.fare_floors.specs.Stack.{goes_on, has_more, own_from, own_to, stand_of, IsOver, LastsBy}
 use Rattle.fare_legs.proofs.ReachLemmas.{up_more}
 use Rattle.fare_homing.proofs.UnderLemmas.{alone_free_under, alone_under, between_under, first_free_under, first_under, last_closes_under, last_jaw_under, nothing_free_left, second_closes_under}
-use Rattle.fare_floors.proofs.StackLemmas.{IsBehind, home_at, begins_at, lasts_more, AreSame, over_more, over_same, over_down, over_up, Opens, opens, from_open, step_over}
+use Rattle.fare_floors.proofs.StackLemmas.{IsBehind, home_at, begins_at, AreSame, over_more, over_same, over_down, over_up, Opens, opens, from_open, step_over}
 use Rattle.fare_floors.proofs.ShutLemmas.{any_at, long_ends_at_home}
 use Rattle.fare_floors.proofs.OwedLemmas.{owes, pair_at}
-use Rattle.fare_floors.proofs.StandLemmas.{point_behind, ends_before, begins_between, begins_near, begins_there, more_here, more_over, one_here, own_about, some_to, stand_here, stand_low, stand_over}
+use Rattle.fare_floors.proofs.StandLemmas.{from_here, from_over, point_behind, ends_before, begins_between, begins_near, begins_there, more_here, more_over, one_here, own_about, some_to, stand_here, stand_low, stand_over}
 use Rattle.fare_floors.proofs.SumLemmas.{greatest_fewer, kept_member, unit_up_to}
 use Rattle.fare_floors.proofs.TrueCostLemmas.{entry, entry_there, alone_cost, first_costs, back_costs, between_costs}
 
@@ -137,7 +138,7 @@ module _ (tariff : Tariff) (trip : Itinerary) (parts : List Part) (price : ℕ) 
       omega arith
 
   -- a unit of half round trips has two parts or more; of three or more the last ends in the city where the first begins
-  half_shape : (unit : ℕ) → 1 ≤ unit → unit ≤ greatest_unit parts (places parts) → (xs : List ℕ) → own parts unit ≡ xs → holds_ow tariff parts xs ≡ false → (2 ≤ length xs) × (3 ≤ length xs → comes_home trip parts xs ≡ true)
+  pub half_shape : (unit : ℕ) → 1 ≤ unit → unit ≤ greatest_unit parts (places parts) → (xs : List ℕ) → own parts unit ≡ xs → holds_ow tariff parts xs ≡ false → (2 ≤ length xs) × (3 ≤ length xs → comes_home trip parts xs ≡ true)
   half_shape unit low high xs e none =
       elim (cases_Bool (is_jaw tariff trip parts xs)) [
         | inl t ↦ let two : length xs ≡ 2 = jaw_is_two tariff trip parts xs t in (omega arith, λ h. absurd (omega arith))
@@ -157,7 +158,7 @@ module _ (tariff : Tariff) (trip : Itinerary) (parts : List Part) (price : ℕ) 
       either j last (inl home) = either_left (bytes_eq (point trip (end_of parts last)) (point trip (start_of trip parts j))) (lie_together tariff (point trip (end_of parts last)) (point trip (start_of trip parts j))) home
       either j last (inr near) = either_right (bytes_eq (point trip (end_of parts last)) (point trip (start_of trip parts j))) (lie_together tariff (point trip (end_of parts last)) (point trip (start_of trip parts j))) near
 
-  module _ (ceiling : Option Ceiling) (alike : IsCeiling tariff trip ceiling) (cheap : IsWithin ceiling price) (begun closing jaw : ℕ → ℕ → ℕ → Option ℕ) (whole : ℕ → ℕ → Option ℕ) (left : ℕ → Option ℕ) {from : ℕ} (are : IsBehind tariff trip ceiling begun closing jaw whole left parts from) where
+  module _ (ceiling : Option Ceiling) (alike : IsCeiling tariff trip ceiling) (cheap : AreUnitsWithin tariff trip parts ceiling) (begun closing jaw : ℕ → ℕ → ℕ → Option ℕ) (whole : ℕ → ℕ → Option ℕ) (left : ℕ → Option ℕ) {from : ℕ} (are : IsBehind tariff trip ceiling begun closing jaw whole left parts from) where
     abbrev Stands : ℕ → ℕ → ℕ → ℕ → Type 0
     Stands k u i cost = IsOver tariff trip begun closing jaw left parts k u i cost
 
@@ -227,7 +228,7 @@ module _ (tariff : Tariff) (trip : Itinerary) (parts : List Part) (price : ℕ) 
       under_same : (i x : ℕ) → Stands (k + 1) (unit_of parts (k + 1) - 1) i x → Stands k (unit_of parts (k + 1) - 1) i x
       under_same i x o =
           let low_mine : 1 ≤ unit_of parts (k + 1) = mine_low in
-          let same : AreSame tariff trip begun closing jaw left parts (k + 1) k (unit_of parts (k + 1) - 1) = λ v low most. (other_same v (λ e. omega arith), λ t. (stand_over parts k v (λ e. omega arith), more_over parts k v (λ e. omega arith))) in
+          let same : AreSame tariff trip begun closing jaw left parts (k + 1) k (unit_of parts (k + 1) - 1) = λ v low most. (other_same v (λ e. omega arith), λ t. (stand_over parts k v (λ e. omega arith), more_over parts k v (λ e. omega arith), from_over parts k v (λ e. omega arith))) in
           over_same tariff trip begun closing jaw left parts (k + 1) k (unit_of parts (k + 1) - 1) i x same o
 
       -- what goes on before it and behind it comes home behind it, and stands before it
@@ -264,12 +265,12 @@ module _ (tariff : Tariff) (trip : Itinerary) (parts : List Part) (price : ℕ) 
               | inr other ↦ other_same v other
             ]
 
-        alone_stands : (v : ℕ) → goes_on parts (k + 1) v ≡ true → (stand_of parts (k + 1) v ≡ stand_of parts k v) × (has_more parts (k + 1) v ≡ has_more parts k v)
+        alone_stands : (v : ℕ) → goes_on parts (k + 1) v ≡ true → (stand_of parts (k + 1) v ≡ stand_of parts k v) × (has_more parts (k + 1) v ≡ has_more parts k v) × (own_from parts (k + 1) v ≡ own_from parts k v)
         alone_stands v t =
             let other : unit_of parts (k + 1) ≡ v → ⊥ = λ e.
             let P : ℕ → Type 0 = λ u. goes_on parts (k + 1) u ≡ false in
             true_false (sym t ∙ subst P e alone_not) in
-            (stand_over parts k v other, more_over parts k v other)
+            (stand_over parts k v other, more_over parts k v other, from_over parts k v other)
 
         -- so what is over the units behind it is over those before it
         pub alone_behind : Stands k (greatest_unit parts (places parts)) (end_of parts (k + 1)) behind
@@ -449,8 +450,19 @@ module _ (tariff : Tariff) (trip : Itinerary) (parts : List Part) (price : ℕ) 
               city = λ first. shape.1 (three first less);
             }
 
-        first_over : from ≤ k → first_of (own parts (unit_of parts (k + 1))) ≡ k + 1 → Stands k (greatest_unit parts (places parts)) (point_behind parts k) (true_cost tariff trip parts (k + 1) + behind)
-        first_over past first =
+        -- where its unit begins with it, that is a whole unit from there, before what is over the others
+        pub record IsWhole : Type 0 where
+          pub unit_cost : ℕ
+          pub left_over : ℕ
+          pub sum : unit_cost + left_over ≤ true_cost tariff trip parts (k + 1) + behind
+          pub up : IsUpTo unit_cost (whole (point_behind parts k) (home_at parts (unit_of parts (k + 1))))
+          pub free : IsUpTo unit_cost (are.outer (point_behind parts k) (home_at parts (unit_of parts (k + 1))))
+          pub all : true_cost tariff trip parts (k + 1) + sum_by (true_cost tariff trip parts) (own_from parts (k + 1) (unit_of parts (k + 1))) ≤ unit_cost
+          pub over_it : (cost : ℕ) → IsUpTo cost (whole (point_behind parts k) (home_at parts (unit_of parts (k + 1)))) → IsUpTo cost (are.outer (point_behind parts k) (home_at parts (unit_of parts (k + 1))))
+              → Stands k (greatest_unit parts (places parts)) (point_behind parts k) (cost + left_over)
+
+        pub first_whole : from ≤ k → first_of (own parts (unit_of parts (k + 1))) ≡ k + 1 → IsWhole
+        first_whole past first =
             let both : first_of (own parts (unit_of parts (k + 1))) < last_of (own parts (unit_of parts (k + 1))) = apart in
             let less : k + 1 < last_of (own parts (unit_of parts (k + 1))) = omega arith in
             let c = opened less in
@@ -485,13 +497,56 @@ module _ (tariff : Tariff) (trip : Itinerary) (parts : List Part) (price : ℕ) 
             first_free_under are.rests (point_behind parts k) (end_of parts (k + 1)) (home_at parts (unit_of parts (k + 1))) (entry tariff trip parts price lawful (k + 1)) (true_cost tariff trip parts (k + 1)) c.0 (true_cost tariff trip parts (k + 1) + c.0) contained here_free cost h.0 may homing (omega arith) (pair are.barred (subst B (sym first) here_free) last_free) in
             let rise : point_behind parts k < end_of parts (k + 1) = rises in
             let home_past : end_of parts (k + 1) < home_at parts (unit_of parts (k + 1)) = h.0 in
-            let o : Stands k (unit_of parts (k + 1) - 1) (point_behind parts k) ((true_cost tariff trip parts (k + 1) + c.0) + c.1) =
-            step_over tariff trip ceiling begun closing jaw whole left parts are k (unit_of parts (k + 1) - 1) (point_behind parts k) (home_at parts (unit_of parts (k + 1))) (true_cost tariff trip parts (k + 1) + c.0) c.1 (omega arith) h.1 up free
-            (λ v low most t. (home_behind tariff trip parts price lawful k v low high (omega arith) first less (other_same v (λ e. omega arith) ∙ t), stand_low tariff trip parts price lawful k v t)) (under_same (home_at parts (unit_of parts (k + 1))) c.1 c.4) in
-            let here : goes_on parts k (unit_of parts (k + 1)) ≡ false = goes_not parts k (unit_of parts (k + 1)) (λ a b. omega arith) in
-            let m : Stands k (greatest_unit parts (places parts)) (point_behind parts k) ((true_cost tariff trip parts (k + 1) + c.0) + c.1) =
-            over_up tariff trip begun closing jaw left parts k (unit_of parts (k + 1) - 1) (greatest_unit parts (places parts)) (point_behind parts k) ((true_cost tariff trip parts (k + 1) + c.0) + c.1) under_most (λ v low most. from_mine k here above_not v low) o in
-            over_more tariff trip begun closing jaw left parts k (greatest_unit parts (places parts)) (point_behind parts k) ((true_cost tariff trip parts (k + 1) + c.0) + c.1) (true_cost tariff trip parts (k + 1) + behind) (omega arith) m
+            let parts_behind : sum_by (true_cost tariff trip parts) (own_from parts (k + 1) (unit_of parts (k + 1))) ≤ c.0 = c.5.all in
+            record {
+              unit_cost = true_cost tariff trip parts (k + 1) + c.0;
+              left_over = c.1;
+              sum = omega arith;
+              up = up;
+              free = free;
+              all = omega arith;
+              over_it = λ cost whole_up outer_up.
+                  let o : Stands k (unit_of parts (k + 1) - 1) (point_behind parts k) (cost + c.1) =
+                  step_over tariff trip ceiling begun closing jaw whole left parts are k (unit_of parts (k + 1) - 1) (point_behind parts k) (home_at parts (unit_of parts (k + 1))) cost c.1 (omega arith) h.1 whole_up outer_up
+                  (λ v low most t. (home_behind tariff trip parts price lawful k v low high (omega arith) first less (other_same v (λ e. omega arith) ∙ t), stand_low tariff trip parts price lawful k v t)) (under_same (home_at parts (unit_of parts (k + 1))) c.1 c.4) in
+                  let here : goes_on parts k (unit_of parts (k + 1)) ≡ false = goes_not parts k (unit_of parts (k + 1)) (λ a b. omega arith) in
+                  over_up tariff trip begun closing jaw left parts k (unit_of parts (k + 1) - 1) (greatest_unit parts (places parts)) (point_behind parts k) (cost + c.1) under_most (λ v low most. from_mine k here above_not v low) o;
+            }
+
+        first_over : from ≤ k → first_of (own parts (unit_of parts (k + 1))) ≡ k + 1 → Stands k (greatest_unit parts (places parts)) (point_behind parts k) (true_cost tariff trip parts (k + 1) + behind)
+        first_over past first =
+            let w = first_whole past first in
+            over_more tariff trip begun closing jaw left parts k (greatest_unit parts (places parts)) (point_behind parts k) (w.unit_cost + w.left_over) (true_cost tariff trip parts (k + 1) + behind) w.sum (w.over_it w.unit_cost w.up w.free)
+
+        -- what its unit has behind the part before it is this part, and what it has behind that
+        from_sum : sum_by (true_cost tariff trip parts) (own_from parts k (unit_of parts (k + 1))) ≡ true_cost tariff trip parts (k + 1) + sum_by (true_cost tariff trip parts) (own_from parts (k + 1) (unit_of parts (k + 1)))
+        from_sum = ap (sum_by (true_cost tariff trip parts)) (from_here parts k high) ∙ sum_by-cons (true_cost tariff trip parts) (k + 1) (own_from parts (k + 1) (unit_of parts (k + 1)))
+
+        lasts_here : (i x : ℕ) → point_behind parts k ≤ i → LastsBy tariff trip parts (k + 1) (unit_of parts (k + 1)) i x → LastsBy tariff trip parts k (unit_of parts (k + 1)) (point_behind parts k) (true_cost tariff trip parts (k + 1) + x)
+        lasts_here i x low by =
+            let sum : sum_by (true_cost tariff trip parts) (own_from parts k (unit_of parts (k + 1))) ≡ true_cost tariff trip parts (k + 1) + sum_by (true_cost tariff trip parts) (own_from parts (k + 1) (unit_of parts (k + 1))) = from_sum in
+            let begins : i ≤ start_of trip parts (last_of (own parts (unit_of parts (k + 1)))) = by.begins in
+            let costs : true_cost tariff trip parts (last_of (own parts (unit_of parts (k + 1)))) ≤ x = by.costs in
+            let more : sum_by (true_cost tariff trip parts) (own_from parts (k + 1) (unit_of parts (k + 1))) ≤ x = by.all in
+            record { begins = omega arith; costs = omega arith; all = omega arith }
+
+        last_all : last_of (own parts (unit_of parts (k + 1))) ≡ k + 1 → sum_by (true_cost tariff trip parts) (own_from parts k (unit_of parts (k + 1))) ≤ true_cost tariff trip parts (k + 1)
+        last_all last =
+            let sum : sum_by (true_cost tariff trip parts) (own_from parts k (unit_of parts (k + 1))) ≡ true_cost tariff trip parts (k + 1) + sum_by (true_cost tariff trip parts) (own_from parts (k + 1) (unit_of parts (k + 1))) = from_sum in
+            let none : sum_by (true_cost tariff trip parts) (own_from parts (k + 1) (unit_of parts (k + 1))) ≡ 0 = ap (sum_by (true_cost tariff trip parts)) (none_left (own_from parts (k + 1) (unit_of parts (k + 1))) refl) in
+            omega arith
+          where
+            none_left : (xs : List ℕ) → own_from parts (k + 1) (unit_of parts (k + 1)) ≡ xs → own_from parts (k + 1) (unit_of parts (k + 1)) ≡ []
+            none_left [] e = e
+            none_left (x ∷ xs) e =
+                let P : List ℕ → Type 0 = λ ys. Member x ys in
+                let there = kept_member (is_own parts (unit_of parts (k + 1))) (k + 1 + 1) (length parts + 1 - (k + 1 + 1)) x (subst P (sym e) (inl refl)) in
+                let behind_it : k + 1 + 1 ≤ x = there.0 in
+                let past : x < k + 1 + 1 + (length parts + 1 - (k + 1 + 1)) = there.1 in
+                let same : unit_of parts x ≡ unit_of parts (k + 1) = eqb-true (unit_of parts x) (unit_of parts (k + 1)) there.2 in
+                let Q : ℕ → Type 0 = λ u. Member x (own parts u) in
+                let up : x ≤ last_of (own parts (unit_of parts (k + 1))) = own_last parts (unit_of parts (k + 1)) x (subst Q same (own_has tariff trip parts price lawful x (omega arith) (omega arith))) in
+                absurd (omega arith)
 
         between_over : first_of (own parts (unit_of parts (k + 1))) < k + 1 → k + 1 < last_of (own parts (unit_of parts (k + 1))) → Stands k (greatest_unit parts (places parts)) (point_behind parts k) (true_cost tariff trip parts (k + 1) + behind)
         between_over first less =
@@ -506,7 +561,7 @@ module _ (tariff : Tariff) (trip : Itinerary) (parts : List Part) (price : ℕ) 
             let home : ℕ = home_at parts (unit_of parts (k + 1)) in
             let origin_there : point trip home ≡ point trip (begins_at trip parts (unit_of parts (k + 1))) = (bytes_eq-Decides (point trip home) (point trip (begins_at trip parts (unit_of parts (k + 1))))).0 city in
             let C : ℕ → Type 0 = λ a. below_ceiling tariff trip ceiling a home (end_of parts (k + 1)) (between_cost (heads_to tariff trip a (end_of parts (k + 1)) home)) (entry tariff trip parts price lawful (k + 1)) ≡ Some (true_cost tariff trip parts (k + 1)) in
-            let cost : C (begin_after trip (point_behind parts k)) = subst C (sym (begins_next k high)) (below_every tariff trip parts price lawful (k + 1) (omega arith) high none_ow long less ceiling alike cheap home origin_there (between_cost (heads_to tariff trip (start_of trip parts (k + 1)) (end_of parts (k + 1)) home)) (entry tariff trip parts price lawful (k + 1)) refl (true_cost tariff trip parts (k + 1)) (between_costs tariff trip parts price lawful (k + 1) (omega arith) high way less home origin_there)) in
+            let cost : C (begin_after trip (point_behind parts k)) = subst C (sym (begins_next k high)) (below_every tariff trip parts price lawful (k + 1) (omega arith) high none_ow long less ceiling alike (cheap (unit_of parts (k + 1)) mine_low mine_high long) home origin_there (between_cost (heads_to tariff trip (start_of trip parts (k + 1)) (end_of parts (k + 1)) home)) (entry tariff trip parts price lawful (k + 1)) refl (true_cost tariff trip parts (k + 1)) (between_costs tariff trip parts price lawful (k + 1) (omega arith) high way less home origin_there)) in
             let third : IsOneOfThree tariff trip (part_at parts (k + 1)).fare = third_of tariff trip parts price lawful (unit_of parts (k + 1)) mine_low mine_high (omega arith) (k + 1) (own_has tariff trip parts price lawful (k + 1) (omega arith) high) first less in
             let stand : ℕ = stand_of parts k (unit_of parts (k + 1)) in
             let elsewhere : is_same_city trip home (end_of parts (k + 1)) ≡ false = ends_apart (unit_of parts (k + 1)) (k + 1) mine_low mine_high long (own_has tariff trip parts price lawful (k + 1) (omega arith) high) less city in
@@ -514,7 +569,7 @@ module _ (tariff : Tariff) (trip : Itinerary) (parts : List Part) (price : ℕ) 
             between_under are.homings (has_more parts k (unit_of parts (k + 1))) stand (point_behind parts k) (end_of parts (k + 1)) home (entry tariff trip parts price lawful (k + 1)) (true_cost tariff trip parts (k + 1)) c.0 (stand_before first) (there_between first long) contained cost third h.0 h.1 elsewhere closes in
             let here : goes_on parts k (unit_of parts (k + 1)) ≡ true = goes_on_from parts k (unit_of parts (k + 1)) (omega arith) (omega arith) in
             let o : Stands k (unit_of parts (k + 1)) (point_behind parts k) ((true_cost tariff trip parts (k + 1) + c.0) + c.1) = from_open tariff trip begun closing jaw left parts k (unit_of parts (k + 1)) (point_behind parts k) (true_cost tariff trip parts (k + 1) + c.0) c.1 mine_low here (from_city (has_more parts k (unit_of parts (k + 1))) stand (begins_at trip parts (unit_of parts (k + 1))) (point_behind parts k) (home_at parts (unit_of parts (k + 1))) (true_cost tariff trip parts (k + 1) + c.0) city up) (under_same (home_at parts (unit_of parts (k + 1))) c.1 c.4)
-            (lasts_more tariff trip parts (last_of (own parts (unit_of parts (k + 1)))) (point_behind parts k) (end_of parts (k + 1)) c.0 (true_cost tariff trip parts (k + 1) + c.0) (omega arith) (omega arith) c.5) in
+            (lasts_here (end_of parts (k + 1)) c.0 (omega arith) c.5) in
             let m : Stands k (greatest_unit parts (places parts)) (point_behind parts k) ((true_cost tariff trip parts (k + 1) + c.0) + c.1) = over_up tariff trip begun closing jaw left parts k (unit_of parts (k + 1)) (greatest_unit parts (places parts)) (point_behind parts k) ((true_cost tariff trip parts (k + 1) + c.0) + c.1) mine_high (λ v low most. above_not v low) o in
             over_more tariff trip begun closing jaw left parts k (greatest_unit parts (places parts)) (point_behind parts k) ((true_cost tariff trip parts (k + 1) + c.0) + c.1) (true_cost tariff trip parts (k + 1) + behind) (omega arith) m
 
@@ -526,10 +581,11 @@ module _ (tariff : Tariff) (trip : Itinerary) (parts : List Part) (price : ℕ) 
             let stand : ℕ = stand_of parts k (unit_of parts (k + 1)) in
             let up : IsUpTo (true_cost tariff trip parts (k + 1)) (homing_at trip (closing_by (has_more parts k (unit_of parts (k + 1))) begun closing stand) (jaw stand) (begins_at trip parts (unit_of parts (k + 1))) (point_behind parts k) (end_of parts (k + 1))) = last_up first last in
             let home : end_of parts (k + 1) ≡ home_at parts (unit_of parts (k + 1)) = ap (end_of parts) (sym last) in
-            let L : ℕ → Type 0 = λ j. LastsBy tariff trip parts j (point_behind parts k) (true_cost tariff trip parts (k + 1)) in
             let begins : begin_after trip (point_behind parts k) ≡ start_of trip parts (k + 1) = begins_next k high in
             let later : point_behind parts k ≤ begin_after trip (point_behind parts k) = begins_later trip (point_behind parts k) in
-            let by_last : LastsBy tariff trip parts (last_of (own parts (unit_of parts (k + 1)))) (point_behind parts k) (true_cost tariff trip parts (k + 1)) = subst L (sym last) (record { begins = omega arith; costs = omega arith }) in
+            let S : ℕ → Type 0 = λ j. (point_behind parts k ≤ start_of trip parts j) × (true_cost tariff trip parts j ≤ true_cost tariff trip parts (k + 1)) in
+            let ends : S (last_of (own parts (unit_of parts (k + 1)))) = subst S (sym last) (omega arith, omega arith) in
+            let by_last : LastsBy tariff trip parts k (unit_of parts (k + 1)) (point_behind parts k) (true_cost tariff trip parts (k + 1)) = record { begins = ends.0; costs = ends.1; all = last_all last } in
             let P : ℕ → Type 0 = λ j. IsUpTo (true_cost tariff trip parts (k + 1)) (homing_at trip (closing_by (has_more parts k (unit_of parts (k + 1))) begun closing stand) (jaw stand) (begins_at trip parts (unit_of parts (k + 1))) (point_behind parts k) j) in
             let Q : ℕ → Type 0 = λ j. Stands k (unit_of parts (k + 1) - 1) j behind in
             let here : goes_on parts k (unit_of parts (k + 1)) ≡ true = goes_on_from parts k (unit_of parts (k + 1)) (omega arith) (omega arith) in
@@ -547,7 +603,7 @@ module _ (tariff : Tariff) (trip : Itinerary) (parts : List Part) (price : ℕ) 
             ]
 
       -- a part that comes before it costs what it does
-      part_over : from ≤ k → Stands k (greatest_unit parts (places parts)) (point_behind parts k) (true_cost tariff trip parts (k + 1) + behind)
+      pub part_over : from ≤ k → Stands k (greatest_unit parts (places parts)) (point_behind parts k) (true_cost tariff trip parts (k + 1) + behind)
       part_over past =
           elim (cases_Bool (is_ow tariff parts (k + 1))) [ inl way ↦ alone_over way past | inr way ↦ half_over way past ]
 
@@ -596,7 +652,7 @@ module _ (tariff : Tariff) (trip : Itinerary) (front rest : List Part) (price : 
 
 -- what the parts behind the first parts of a lawful construction cost is over the units of these that go on
 pub behind_is_over : (tariff : Tariff) (trip : Itinerary) (ceiling : Option Ceiling) → IsCeiling tariff trip ceiling → (begun closing jaw : ℕ → ℕ → ℕ → Option ℕ) (whole : ℕ → ℕ → Option ℕ) (left : ℕ → Option ℕ)
-    → (front rest : List Part) → IsBehind tariff trip ceiling begun closing jaw whole left (front ++ rest) (length front) → (price : ℕ) → IsLawful tariff trip (front ++ rest) price → IsWithin ceiling price
+    → (front rest : List Part) → IsBehind tariff trip ceiling begun closing jaw whole left (front ++ rest) (length front) → (price : ℕ) → IsLawful tariff trip (front ++ rest) price → AreUnitsWithin tariff trip (front ++ rest) ceiling
     → IsOver tariff trip begun closing jaw left (front ++ rest) (length front) (greatest_unit front (places front)) (end_of front (length front)) (sum_by (true_cost tariff trip (front ++ rest)) (range_with_len (length front + 1) (length rest)))
 behind_is_over tariff trip ceiling alike begun closing jaw whole left front rest are price lawful cheap =
     let n : length (front ++ rest) ≡ length front + length rest = length-append front rest in

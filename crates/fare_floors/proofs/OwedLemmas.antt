@@ -23,7 +23,7 @@ use Rattle.fare_rules.specs.UnitPrice.{are_two_equal, is_round_trip, part_cost, 
 use Rattle.fare_rules.proofs.MemberLemmas.{Member}
 use Rattle.fare_legs.specs.Costs.{is_same_city}
 use Rattle.fare_legs.specs.Owed.{IsOwed, owed_above, owed_by, reference_over}
-use Rattle.fare_floors.specs.Costs.{is_second, true_cost}
+use Rattle.fare_floors.specs.Costs.{true_cost}
 use Rattle.fare_floors.specs.Stack.{has_more, own_to}
 use Rattle.fare_floors.proofs.CircleLemmas.{turning_in_unit}
 use Rattle.fare_floors.proofs.CostLemmas.{member_place}

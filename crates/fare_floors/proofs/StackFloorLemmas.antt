@@ -400,7 +400,7 @@ module _ (table : Pricing) (homing : Homing) (are : AreHomingsOf table.edition t
       let P : List Part → Type 0 = λ xs. IsLawful table.edition table.trip xs price in
       let lawful : IsLawful table.edition table.trip (front ++ c.begins.0) price = subst P c.begins.1 c.lawful in
       let least = over c.begins.0 price (end_of front (length front)) (sum_by (true_cost table.edition table.trip (front ++ c.begins.0)) (range_with_len (length front + 1) (length c.begins.0))) lawful cheap (omega arith) within
-      (behind_is_over table.edition table.trip homing.ceiling are.ceiling (begun_from homing) (closing_from homing) (jaw_from homing) (cell homing.whole) (rest_at (left_of table.edition homing front)) front c.begins.0 (left_is_behind table homing are front c.begins.0 price lawful) price lawful cheap) in
+      (behind_is_over table.edition table.trip homing.unit_ceiling are.unit_ceiling.alike (begun_from homing) (closing_from homing) (jaw_from homing) (cell homing.whole) (rest_at (left_of table.edition homing front)) front c.begins.0 (left_is_behind table homing are front c.begins.0 price lawful) price lawful (are.unit_ceiling.units (front ++ c.begins.0) price lawful cheap)) in
       let spent : units_floor table.edition table.trip front + sum_by (true_cost table.edition table.trip (front ++ c.begins.0)) (range_with_len (length front + 1) (length c.begins.0)) ≤ price = spent_up table.edition table.trip front c.begins.0 price lawful in
       let low : least.0 ≤ sum_by (true_cost table.edition table.trip (front ++ c.begins.0)) (range_with_len (length front + 1) (length c.begins.0)) = least.2 in
       up_more (units_floor table.edition table.trip front + least.0) price found (omega arith) (sum (units_floor table.edition table.trip front) least.0 refl least.1)

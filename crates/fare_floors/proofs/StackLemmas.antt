@@ -1,6 +1,6 @@
 -- What the parts behind the first parts of a lawful construction cost is no less than what the units that go on say.
 use Rattle.std.proofs.Common.{◌≡◌, ℕ, zero, suc, ◌+◌, ◌-◌, ◌<◌, ◌≤◌, Bool, true, false, List, length, sym, subst, ◌∙◌, inl, inr, arith}
-use Rattle.std.specs.Prelude.{Option}
+use Rattle.std.specs.Prelude.{Option, sum_by}
 use Rattle.std.proofs.lemmas.Bool.{cases_Bool, cases_lt}
 use Rattle.fare_trip.specs.Itinerary.{Itinerary, count}
 use Rattle.fare_tariff.specs.Tariff.{Tariff}
@@ -12,7 +12,7 @@ use Rattle.fare_legs.specs.Costs.{IsUpTo, is_same_city}
 use Rattle.fare_homing.specs.Homing.{closing_by, homing_at}
 use Rattle.fare_homing.specs.HomingRows.{AreHomings, AreRests}
 use Rattle.fare_floors.specs.Costs.{true_cost}
-use Rattle.fare_floors.specs.Stack.{goes_on, has_more, stand_of, IsOver, LastsBy}
+use Rattle.fare_floors.specs.Stack.{goes_on, has_more, own_from, stand_of, IsOver, LastsBy}
 use Rattle.fare_legs.proofs.ReachLemmas.{up_more}
 use Rattle.fare_homing.proofs.UnderLemmas.{nested_closes_under, nested_jaw_under, onward_free_under}
 
@@ -36,11 +36,18 @@ abbrev pub home_at : List Part → ℕ → ℕ
 home_at parts unit = end_of parts (last_of (own parts unit))
 
 -- the last part of a unit costs no more than more, and begins behind a point that lies before
-pub lasts_more : (tariff : Tariff) (trip : Itinerary) (parts : List Part) (k i j x y : ℕ) → i ≤ j → x ≤ y → LastsBy tariff trip parts k j x → LastsBy tariff trip parts k i y
-lasts_more tariff trip parts k i j x y low h last =
-    let begins : j ≤ start_of trip parts k = last.begins in
-    let costs : true_cost tariff trip parts k ≤ x = last.costs in
-    record { begins = omega arith; costs = omega arith }
+pub lasts_more : (tariff : Tariff) (trip : Itinerary) (parts : List Part) (k unit i j x y : ℕ) → i ≤ j → x ≤ y → LastsBy tariff trip parts k unit j x → LastsBy tariff trip parts k unit i y
+lasts_more tariff trip parts k unit i j x y low h last =
+    let begins : j ≤ start_of trip parts (last_of (own parts unit)) = last.begins in
+    let costs : true_cost tariff trip parts (last_of (own parts unit)) ≤ x = last.costs in
+    let all : sum_by (true_cost tariff trip parts) (own_from parts k unit) ≤ x = last.all in
+    record { begins = omega arith; costs = omega arith; all = omega arith }
+
+-- and is the same behind another place behind which the unit has the same parts
+pub lasts_same : (tariff : Tariff) (trip : Itinerary) (parts : List Part) (k m unit i x : ℕ) → own_from parts k unit ≡ own_from parts m unit → LastsBy tariff trip parts k unit i x → LastsBy tariff trip parts m unit i x
+lasts_same tariff trip parts k m unit i x same last =
+    let P : List ℕ → Type 0 = λ xs. sum_by (true_cost tariff trip parts) xs ≤ x in
+    record { begins = last.begins; costs = last.costs; all = subst P same last.all }
 
 module _ (tariff : Tariff) (trip : Itinerary) (begun closing jaw : ℕ → ℕ → ℕ → Option ℕ) (left : ℕ → Option ℕ) (parts : List Part) where
   abbrev pub Over : ℕ → ℕ → ℕ → ℕ → Type 0
@@ -62,9 +69,10 @@ module _ (tariff : Tariff) (trip : Itinerary) (begun closing jaw : ℕ → ℕ �
       let Q : Bool → Type 0 = λ more. IsUpTo x (homing_at trip (closing_by more begun closing (stand_of parts m unit)) (jaw (stand_of parts m unit)) (begins_at trip parts unit) i (home_at parts unit)) in
       subst Q e.1 (subst P e.0 up)
 
-  -- two places at which the same units go on, stand at the same points, and have more than one part there or not
+  -- two places at which the same units go on, stand at the same points, have more than one part there or not, and have the
+  -- same parts behind
   abbrev pub AreSame : ℕ → ℕ → ℕ → Type 0
-  AreSame k m u = (v : ℕ) → 1 ≤ v → v ≤ u → (goes_on parts k v ≡ goes_on parts m v) × (goes_on parts k v ≡ true → (stand_of parts k v ≡ stand_of parts m v) × (has_more parts k v ≡ has_more parts m v))
+  AreSame k m u = (v : ℕ) → 1 ≤ v → v ≤ u → (goes_on parts k v ≡ goes_on parts m v) × (goes_on parts k v ≡ true → (stand_of parts k v ≡ stand_of parts m v) × (has_more parts k v ≡ has_more parts m v) × (own_from parts k v ≡ own_from parts m v))
 
   -- what is over is the same behind both
   pub over_same : (k m u i x : ℕ) → AreSame k m u → Over k u i x → Over m u i x
@@ -72,7 +80,10 @@ module _ (tariff : Tariff) (trip : Itinerary) (begun closing jaw : ℕ → ℕ �
   over_same k m (suc u) i x h o =
       let here = h (suc u) (omega arith) (omega arith) in
       let e : goes_on parts k (suc u) ≡ goes_on parts m (suc u) = here.0 in (
-        λ t. let c = o.0 (e ∙ t) in (c.0, c.1, c.2, home_same k m (suc u) i c.0 (here.1 (e ∙ t)) c.3, over_same k m u (home_at parts (suc u)) c.1 (λ v low high. h v low (omega arith)) c.4, c.5),
+        λ t.
+            let c = o.0 (e ∙ t) in
+            let same = here.1 (e ∙ t) in
+            (c.0, c.1, c.2, home_same k m (suc u) i c.0 (same.0, same.1) c.3, over_same k m u (home_at parts (suc u)) c.1 (λ v low high. h v low (omega arith)) c.4, lasts_same tariff trip parts k m (suc u) i c.0 same.2 c.5),
         λ f. over_same k m u i x (λ v low high. h v low (omega arith)) (o.1 (e ∙ f)),
       )
 
@@ -109,13 +120,13 @@ module _ (tariff : Tariff) (trip : Itinerary) (begun closing jaw : ℕ → ℕ �
       ]
 
   -- a unit that goes on, with what is behind its home
-  pub over_open : (k u i x y : ℕ) → goes_on parts k (suc u) ≡ true → HomeFrom k (suc u) i x → Over k u (home_at parts (suc u)) y → LastsBy tariff trip parts (last_of (own parts (suc u))) i x
+  pub over_open : (k u i x y : ℕ) → goes_on parts k (suc u) ≡ true → HomeFrom k (suc u) i x → Over k u (home_at parts (suc u)) y → LastsBy tariff trip parts k (suc u) i x
       → Over k (suc u) i (x + y)
   over_open k u i x y t up o last = (λ s. (x, y, omega arith, up, o, last), λ f. absurd (true_false (sym t ∙ f)))
 
   -- the same for a unit by its number
   abbrev pub Opens : ℕ → ℕ → ℕ → ℕ → Type 0
-  Opens k unit i cost = (x : ℕ) × (y : ℕ) × (x + y ≤ cost) × HomeFrom k unit i x × Over k (unit - 1) (home_at parts unit) y × LastsBy tariff trip parts (last_of (own parts unit)) i x
+  Opens k unit i cost = (x : ℕ) × (y : ℕ) × (x + y ≤ cost) × HomeFrom k unit i x × Over k (unit - 1) (home_at parts unit) y × LastsBy tariff trip parts k unit i x
 
   pub opens : (k unit i cost : ℕ) → 1 ≤ unit → goes_on parts k unit ≡ true → Over k unit i cost → Opens k unit i cost
   opens k zero i cost low t o = absurd (omega arith)
@@ -125,7 +136,7 @@ module _ (tariff : Tariff) (trip : Itinerary) (begun closing jaw : ℕ → ℕ �
       let P : ℕ → Type 0 = λ w. Over k w (home_at parts (suc u)) c.1 in
       (c.0, c.1, c.2, c.3, subst P e c.4, c.5)
 
-  pub from_open : (k unit i x y : ℕ) → 1 ≤ unit → goes_on parts k unit ≡ true → HomeFrom k unit i x → Over k (unit - 1) (home_at parts unit) y → LastsBy tariff trip parts (last_of (own parts unit)) i x
+  pub from_open : (k unit i x y : ℕ) → 1 ≤ unit → goes_on parts k unit ≡ true → HomeFrom k unit i x → Over k (unit - 1) (home_at parts unit) y → LastsBy tariff trip parts k unit i x
       → Over k unit i (x + y)
   from_open k zero i x y low t up o last = absurd (omega arith)
   from_open k (suc u) i x y low t up o last =
@@ -153,6 +164,6 @@ module _ (tariff : Tariff) (trip : Itinerary) (ceiling : Option Ceiling) (begun 
         let c = o.0 t in
         let s : c.0 + c.1 ≤ x = c.2 in
         let h = homes (suc u) (omega arith) (omega arith) t in
-        (w + c.0, c.1, omega arith, nested tariff trip ceiling begun closing jaw whole are.kept are.homings (has_more parts k (suc u)) (stand_of parts k (suc u)) (begins_at trip parts (suc u)) i b (home_at parts (suc u)) w c.0 h.1 low h.0 high up c.3, c.4, lasts_more tariff trip parts (last_of (own parts (suc u))) i b c.0 (w + c.0) (omega arith) (omega arith) c.5),
+        (w + c.0, c.1, omega arith, nested tariff trip ceiling begun closing jaw whole are.kept are.homings (has_more parts k (suc u)) (stand_of parts k (suc u)) (begins_at trip parts (suc u)) i b (home_at parts (suc u)) w c.0 h.1 low h.0 high up c.3, c.4, lasts_more tariff trip parts k (suc u) i b c.0 (w + c.0) (omega arith) (omega arith) c.5),
     λ f. step_over k u i b w x low high up free (λ v one most. homes v one (omega arith)) (o.1 f),
   )

@@ -3,7 +3,7 @@ use Rattle.std.proofs.Common.{◌≡◌, ℕ, zero, suc, ◌+◌, ◌-◌, ◌<�
 use Rattle.std.specs.Prelude.{filter, bytes_eq, nat_lt}
 use Rattle.std.proofs.Math.ListN.{length-append}
 use Rattle.std.specs.List.{range_with_len}
-use Rattle.std.proofs.lemmas.Bool.{cases_Bool, cases_eq, or_cases, and_parts, eq-eqb, lt-ltb, ne_eqb}
+use Rattle.std.proofs.lemmas.Bool.{cases_Bool, cases_eq, cases_lt, or_cases, and_parts, eq-eqb, lt-ltb, ne_eqb}
 use Rattle.std.proofs.lemmas.List.{append-nil}
 use Rattle.std.proofs.lemmas.List.Elements.{filter-append}
 use Rattle.fare_trip.specs.Itinerary.{Itinerary}
@@ -19,14 +19,14 @@ use Rattle.fare_rules.proofs.NumberLemmas.{numbers_more}
 use Rattle.fare_units.proofs.NextLemmas.{front_unit}
 use Rattle.fare_legs.specs.Costs.{is_same_city}
 use Rattle.fare_homing.specs.Homing.{may_go_on}
-use Rattle.fare_floors.specs.Stack.{goes_on, has_more, own_to, stand_of}
+use Rattle.fare_floors.specs.Stack.{goes_on, has_more, own_from, own_to, stand_of}
 use Rattle.fare_floors.proofs.CostLemmas.{unit_from_one}
 use Rattle.fare_floors.proofs.GoesOnLemmas.{going_on, last_member}
 use Rattle.fare_floors.proofs.JoiningLemmas.{joint, other_way}
 use Rattle.fare_floors.proofs.OnwardLemmas.{closed_whole, either_left, either_right, ends_rise, last_append, must_close_from}
 use Rattle.fare_floors.proofs.ShutLemmas.{filter_like, long_is_chained}
 use Rattle.fare_floors.proofs.StackLemmas.{begins_at}
-use Rattle.fare_floors.proofs.StackRowLemmas.{own_here}
+use Rattle.fare_floors.proofs.StackRowLemmas.{own_done, own_here, own_over}
 use Rattle.fare_floors.proofs.SumLemmas.{kept_member, range_in_two}
 use Rattle.fare_floors.proofs.UnitLemmas.{all, holds_none, member_kept, range_has, unit_in}
 
@@ -60,6 +60,18 @@ module _ (parts : List Part) where
       let none : is_own parts unit (k + 1) ≡ false = ne_eqb (unit_of parts (k + 1)) unit other in
       let past : filter (is_own parts unit) ((k + 1) ∷ []) ≡ [] = rw none refl in
       ap (λ xs. nat_lt 1 (length xs)) (to_next k unit ∙ ap (λ xs. own_to parts k unit ++ xs) past ∙ append-nil (own_to parts k unit))
+
+  -- nor does it change what the unit has behind
+  pub from_over : (k unit : ℕ) → (unit_of parts (k + 1) ≡ unit → ⊥) → own_from parts (k + 1) unit ≡ own_from parts k unit
+  from_over k unit other =
+      elim (cases_lt (k + 1) (length parts + 1)) [
+        | inl less ↦ sym (own_over parts unit (k + 1) (length parts + 1) less other)
+        | inr past ↦ own_done parts unit (k + 1 + 1) (length parts + 1) (omega arith) ∙ sym (own_done parts unit (k + 1) (length parts + 1) past)
+      ]
+
+  -- one of its own stands before those behind it
+  pub from_here : (k : ℕ) → k + 1 ≤ length parts → own_from parts k (unit_of parts (k + 1)) ≡ (k + 1) ∷ own_from parts (k + 1) (unit_of parts (k + 1))
+  from_here k high = own_here parts (unit_of parts (k + 1)) (k + 1) (length parts + 1) (omega arith) refl
 
   -- the places of a part's own unit up to it
   own_next : (k : ℕ) → own_to parts (k + 1) (unit_of parts (k + 1)) ≡ own_to parts k (unit_of parts (k + 1)) ++ (k + 1) ∷ []

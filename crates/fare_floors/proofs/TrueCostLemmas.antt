@@ -1,7 +1,8 @@
 -- What the parts of a lawful construction cost in its units, by the entries of their spans.
-use Rattle.std.proofs.Common.{◌≡◌, ℕ, ◌+◌, ◌-◌, ◌<◌, ◌≤◌, Bool, true, false, ◌&&◌, ◌||◌, not, eqb, List, [], ◌∷◌, length, refl, ap, sym, subst, ◌∙◌, inl, inr, arith}
-use Rattle.std.specs.Prelude.{Option, Some, None, is_some, sum_by, bytes_eq, Contains}
-use Rattle.std.proofs.lemmas.Bool.{cases_Bool, eq-eqb, eqb-true, ne_eqb}
+use Rattle.std.proofs.Common.{◌≡◌, ℕ, zero, suc, ◌+◌, ◌-◌, ◌<◌, ◌≤◌, Bool, true, false, ◌&&◌, ◌||◌, not, eqb, List, [], ◌∷◌, length, refl, ap, sym, subst, ◌∙◌, inl, inr, arith}
+use Rattle.std.specs.Prelude.{Option, Some, None, filter, is_some, sum_by, bytes_eq, Contains}
+use Rattle.std.specs.List.{range_with_len}
+use Rattle.std.proofs.lemmas.Bool.{cases_Bool, cases_eq, eq-eqb, ne_eqb}
 use Rattle.std.proofs.lemmas.List.Sums.{sum_by-cons}
 use Rattle.std.proofs.lemmas.Slice.Eq.{bytes_eq-Decides}
 use Rattle.fare_codes.specs.declared.city.City.{City}
@@ -27,13 +28,13 @@ use Rattle.fare_rules.proofs.MemberLemmas.{Member}
 use Rattle.fare_component.specs.declared.table.entry.Entry.{Entry}
 use Rattle.fare_component.specs.Table.{entry_of, entries_of, has_amount, single_price}
 use Rattle.fare_component.proofs.LawLemmas.{amount_is_entry}
-use Rattle.fare_floors.specs.Costs.{is_second, or_nothing, part_least}
+use Rattle.fare_floors.specs.Costs.{added_at, or_nothing, part_least, surplus}
 use Rattle.fare_legs.specs.Costs.{first_cost, between_cost, back_cost, heads_to}
 use Rattle.fare_floors.proofs.CostLemmas.{not_half, half, at_least_up, one_way_least, half_part, member_place}
-use Rattle.fare_floors.proofs.GoesOnLemmas.{own_two}
+use Rattle.fare_floors.proofs.GoesOnLemmas.{last_member}
 use Rattle.fare_floors.proofs.UnitLemmas.{all, own_has, alone_in, holds_none, single_there, single_not}
 use Rattle.fare_floors.specs.Costs.{true_cost}
-use Rattle.fare_floors.proofs.SumLemmas.{sum_up_members, kept_member}
+use Rattle.fare_floors.proofs.SumLemmas.{sum_plus, sum_up_members, kept_member}
 
 true_false : true ≡ false → ⊥
 true_false e = cc
@@ -55,25 +56,43 @@ priced_either out back false amount o b = rw (o refl) refl
 priced_either None back true amount o b = rw (b refl) refl
 priced_either (Some x) back true amount o b = refl
 
--- before the last of some places none is the second of two
-no_second : (xs : List ℕ) (k : ℕ) → k < last_of xs → is_second xs k ≡ false
-no_second [] k less = refl
-no_second (a ∷ []) k less = refl
-no_second (a ∷ b ∷ []) k less = ne_eqb b k (λ same. omega arith)
-no_second (a ∷ b ∷ c ∷ more) k less = refl
+-- where the last place is not, nothing is added
+none_added : (p : ℕ → Bool) (last more first n : ℕ) → last < first → sum_by (added_at last more) (filter p (range_with_len first n)) ≡ 0
+none_added p last more first zero h = refl
+none_added p last more first (suc n) h =
+    let rest : List ℕ = filter p (range_with_len (first + 1) n) in
+    let behind : sum_by (added_at last more) (filter p (range_with_len (first + 1) n)) ≡ 0 = none_added p last more (first + 1) n (omega arith) in
+    let apart : eqb last first ≡ false = ne_eqb last first (λ same. omega arith) in
+    let here : added_at last more first ≡ 0 = rw apart refl in
+    let sum : sum_by (added_at last more) (first ∷ rest) ≡ added_at last more first + sum_by (added_at last more) rest = sum_by-cons (added_at last more) first rest in
+    let both : sum_by (added_at last more) (first ∷ rest) ≡ 0 = omega arith in
+    elim (cases_Bool (p first)) [ inl t ↦ rw t both | inr f ↦ rw f behind ]
+
+-- and where it is, once
+added_once : (p : ℕ → Bool) (last more first n : ℕ) → first ≤ last → last < first + n → p last ≡ true → sum_by (added_at last more) (filter p (range_with_len first n)) ≡ more
+added_once p last more first zero low high kept = absurd (omega arith)
+added_once p last more first (suc n) low high kept =
+    let rest : List ℕ = filter p (range_with_len (first + 1) n) in
+    let sum : sum_by (added_at last more) (first ∷ rest) ≡ added_at last more first + sum_by (added_at last more) rest = sum_by-cons (added_at last more) first rest in
+    elim (cases_eq last first) [
+      | inl same ↦
+          let one : eqb last first ≡ true = eq-eqb last first same in
+          let here : added_at last more first ≡ more = rw one refl in
+          let behind : sum_by (added_at last more) (filter p (range_with_len (first + 1) n)) ≡ 0 = none_added p last more (first + 1) n (omega arith) in
+          let both : sum_by (added_at last more) (first ∷ rest) ≡ more = omega arith in
+          let P : ℕ → Type 0 = λ k. p k ≡ true in
+          let mine : p first ≡ true = subst P same kept in
+          rw mine both
+      | inr other ↦
+          let apart : eqb last first ≡ false = ne_eqb last first other in
+          let here : added_at last more first ≡ 0 = rw apart refl in
+          let behind : sum_by (added_at last more) (filter p (range_with_len (first + 1) n)) ≡ more = added_once p last more (first + 1) n (omega arith) (omega arith) kept in
+          let both : sum_by (added_at last more) (first ∷ rest) ≡ more = omega arith in
+          elim (cases_Bool (p first)) [ inl t ↦ rw t both | inr f ↦ rw f behind ]
+    ]
 
 two_sum : (f : ℕ → ℕ) (a b : ℕ) → sum_by f (a ∷ b ∷ []) ≡ f a + (f b + 0)
 two_sum f a b = sum_by-cons f a (b ∷ []) ∙ ap (λ n. f a + n) (sum_by-cons f b [])
-
--- two places add up to what the first and the second do
-second_sum : (f : ℕ → ℕ) (xs : List ℕ) (k : ℕ) → is_second xs k ≡ true → sum_by f xs ≡ f (first_of xs) + f k
-second_sum f [] k t = absurd (true_false (sym t))
-second_sum f (a ∷ []) k t = absurd (true_false (sym t))
-second_sum f (a ∷ b ∷ []) k t =
-    let same : f b ≡ f k = ap f (eqb-true b k t) in
-    let sum : sum_by f (a ∷ b ∷ []) ≡ f a + (f b + 0) = two_sum f a b in
-    omega arith
-second_sum f (a ∷ b ∷ c ∷ more) k t = absurd (true_false (sym t))
 
 module _ (tariff : Tariff) (trip : Itinerary) (parts : List Part) (price : ℕ) (lawful : IsLawful tariff trip parts price) where
   -- the entry of a part
@@ -101,12 +120,9 @@ module _ (tariff : Tariff) (trip : Itinerary) (parts : List Part) (price : ℕ) 
   one_way_true : (k : ℕ) → is_ow tariff parts k ≡ true → true_cost tariff trip parts k ≡ unit_price tariff trip parts (unit_of parts k)
   one_way_true k way = rw way refl
 
-  half_true : (k : ℕ) → is_ow tariff parts k ≡ false → is_second (own parts (unit_of parts k)) k ≡ false → true_cost tariff trip parts k ≡ part_cost tariff trip parts (own parts (unit_of parts k)) k
-  half_true k way other = rw (way, other) refl
-
-  second_true : (k : ℕ) → is_ow tariff parts k ≡ false → is_second (own parts (unit_of parts k)) k ≡ true
-      → true_cost tariff trip parts k ≡ unit_price tariff trip parts (unit_of parts k) - part_cost tariff trip parts (own parts (unit_of parts k)) (first_of (own parts (unit_of parts k)))
-  second_true k way second = rw (way, second) refl
+  half_true : (k : ℕ) → is_ow tariff parts k ≡ false
+      → true_cost tariff trip parts k ≡ part_cost tariff trip parts (own parts (unit_of parts k)) k + added_at (last_of (own parts (unit_of parts k))) (surplus tariff trip parts (unit_of parts k)) k
+  half_true k way = rw way refl
 
   -- a unit costs no less than the sum of its amounts
   sum_in_price : (unit : ℕ) → sum_by (part_cost tariff trip parts (own parts unit)) (own parts unit) ≤ unit_price tariff trip parts unit
@@ -116,15 +132,8 @@ module _ (tariff : Tariff) (trip : Itinerary) (parts : List Part) (price : ℕ) 
   -- so a half round trip is worth no less than its amount
   pub half_low : (k : ℕ) → is_ow tariff parts k ≡ false → part_cost tariff trip parts (own parts (unit_of parts k)) k ≤ true_cost tariff trip parts k
   half_low k way =
-      elim (cases_Bool (is_second (own parts (unit_of parts k)) k)) [
-        | inl t ↦
-            let cost : true_cost tariff trip parts k ≡ unit_price tariff trip parts (unit_of parts k) - part_cost tariff trip parts (own parts (unit_of parts k)) (first_of (own parts (unit_of parts k))) = second_true k way t in
-            let sum : sum_by (part_cost tariff trip parts (own parts (unit_of parts k))) (own parts (unit_of parts k)) ≡ part_cost tariff trip parts (own parts (unit_of parts k)) (first_of (own parts (unit_of parts k))) + part_cost tariff trip parts (own parts (unit_of parts k)) k =
-            second_sum (part_cost tariff trip parts (own parts (unit_of parts k))) (own parts (unit_of parts k)) k t in
-            let up : sum_by (part_cost tariff trip parts (own parts (unit_of parts k))) (own parts (unit_of parts k)) ≤ unit_price tariff trip parts (unit_of parts k) = sum_in_price (unit_of parts k) in
-            omega arith
-        | inr f ↦ let cost : true_cost tariff trip parts k ≡ part_cost tariff trip parts (own parts (unit_of parts k)) k = half_true k way f in omega arith
-      ]
+      let cost : true_cost tariff trip parts k ≡ part_cost tariff trip parts (own parts (unit_of parts k)) k + added_at (last_of (own parts (unit_of parts k))) (surplus tariff trip parts (unit_of parts k)) k = half_true k way in
+      omega arith
 
   -- a one way fare costs its price alone
   pub alone_cost : (k : ℕ) → 1 ≤ k → k ≤ length parts → is_ow tariff parts k ≡ true → single_price tariff trip (start_of trip parts k) (end_of parts k) (part_at parts k).fare ≡ Some (true_cost tariff trip parts k)
@@ -149,7 +158,11 @@ module _ (tariff : Tariff) (trip : Itinerary) (parts : List Part) (price : ℕ) 
 
   -- and before the last of its unit no more
   pub half_is : (k : ℕ) → is_ow tariff parts k ≡ false → k < last_of (own parts (unit_of parts k)) → true_cost tariff trip parts k ≡ part_cost tariff trip parts (own parts (unit_of parts k)) k
-  half_is k way less = half_true k way (no_second (own parts (unit_of parts k)) k less)
+  half_is k way less =
+      let cost : true_cost tariff trip parts k ≡ part_cost tariff trip parts (own parts (unit_of parts k)) k + added_at (last_of (own parts (unit_of parts k))) (surplus tariff trip parts (unit_of parts k)) k = half_true k way in
+      let apart : eqb (last_of (own parts (unit_of parts k))) k ≡ false = ne_eqb (last_of (own parts (unit_of parts k))) k (λ same. omega arith) in
+      let none : added_at (last_of (own parts (unit_of parts k))) (surplus tariff trip parts (unit_of parts k)) k ≡ 0 = rw apart refl in
+      omega arith
 
   -- the first part of a unit is priced out where others follow
   first_is_out : (k : ℕ) → first_of (own parts (unit_of parts k)) ≡ k → k < last_of (own parts (unit_of parts k)) → is_back tariff trip parts k ≡ false
@@ -231,60 +244,51 @@ module _ (tariff : Tariff) (trip : Itinerary) (parts : List Part) (price : ℕ) 
       ]
 
   -- a part of a unit of half round trips is one
-  half_of : (unit k : ℕ) → holds_ow tariff parts (own parts unit) ≡ false → Member k (own parts unit) → is_ow tariff parts k ≡ false
+  pub half_of : (unit k : ℕ) → holds_ow tariff parts (own parts unit) ≡ false → Member k (own parts unit) → is_ow tariff parts k ≡ false
   unfolding own
   half_of unit k none m =
       let place = member_place tariff trip parts price lawful unit k m in
       let high : k ≤ length parts = place.1 in
       any_kept_none (is_own parts unit) (is_ow tariff parts) 1 (length parts + 1) none k place.0 (omega arith) (kept_member (is_own parts unit) 1 (length parts + 1 - 1) k m).2
 
-  -- where it is not the second of two it costs there what it does in the unit
-  half_mine : (unit k : ℕ) → holds_ow tariff parts (own parts unit) ≡ false → Member k (own parts unit) → is_second (own parts unit) k ≡ false → true_cost tariff trip parts k ≡ part_cost tariff trip parts (own parts unit) k
-  half_mine unit k none m other =
+  -- it costs there its amount in the unit, and the last one besides what the unit costs above the sum
+  half_mine : (unit k : ℕ) → holds_ow tariff parts (own parts unit) ≡ false → Member k (own parts unit)
+      → true_cost tariff trip parts k ≡ part_cost tariff trip parts (own parts unit) k + added_at (last_of (own parts unit)) (surplus tariff trip parts unit) k
+  half_mine unit k none m =
       let place = member_place tariff trip parts price lawful unit k m in
-      let S : ℕ → Type 0 = λ u. is_second (own parts u) k ≡ false in
-      half_true k (half_of unit k none m) (subst S (sym place.2) other) ∙ ap (λ u. part_cost tariff trip parts (own parts u) k) place.2
+      half_true k (half_of unit k none m) ∙ ap (λ u. part_cost tariff trip parts (own parts u) k + added_at (last_of (own parts u)) (surplus tariff trip parts u) k) place.2
+
+  last_added : (unit : ℕ) → 1 ≤ length (own parts unit) → sum_by (added_at (last_of (own parts unit)) (surplus tariff trip parts unit)) (own parts unit) ≡ surplus tariff trip parts unit
+  unfolding own
+  last_added unit some =
+      let h = kept_member (is_own parts unit) 1 (length parts + 1 - 1) (last_of (own parts unit)) (last_member (own parts unit) some) in
+      added_once (is_own parts unit) (last_of (own parts unit)) (surplus tariff trip parts unit) 1 (length parts + 1 - 1) h.0 h.1 h.2
+
+  -- so all of them cost what the unit does
+  pub half_all : (unit : ℕ) → holds_ow tariff parts (own parts unit) ≡ false → 1 ≤ length (own parts unit) → sum_by (true_cost tariff trip parts) (own parts unit) ≡ unit_price tariff trip parts unit
+  half_all unit none some =
+      let Cost : ℕ → ℕ = part_cost tariff trip parts (own parts unit) in
+      let More : ℕ → ℕ = added_at (last_of (own parts unit)) (surplus tariff trip parts unit) in
+      let high : sum_by (true_cost tariff trip parts) (own parts unit) ≤ sum_by (λ k. Cost k + More k) (own parts unit) =
+      sum_up_members (true_cost tariff trip parts) (λ k. Cost k + More k) (own parts unit) (λ k m. let e : true_cost tariff trip parts k ≡ Cost k + More k = half_mine unit k none m in omega arith) in
+      let low : sum_by (λ k. Cost k + More k) (own parts unit) ≤ sum_by (true_cost tariff trip parts) (own parts unit) =
+      sum_up_members (λ k. Cost k + More k) (true_cost tariff trip parts) (own parts unit) (λ k m. let e : true_cost tariff trip parts k ≡ Cost k + More k = half_mine unit k none m in omega arith) in
+      let both : sum_by (λ k. Cost k + More k) (own parts unit) ≡ sum_by Cost (own parts unit) + sum_by More (own parts unit) = sum_plus Cost More (own parts unit) in
+      let more : sum_by More (own parts unit) ≡ unit_price tariff trip parts unit - sum_by (part_cost tariff trip parts (own parts unit)) (own parts unit) = last_added unit some in
+      let up : sum_by (part_cost tariff trip parts (own parts unit)) (own parts unit) ≤ unit_price tariff trip parts unit = sum_in_price unit in
+      omega arith
 
   half_up : (unit : ℕ) → holds_ow tariff parts (own parts unit) ≡ false → sum_by (true_cost tariff trip parts) (own parts unit) ≤ unit_price tariff trip parts unit
   half_up unit none = by_places (own parts unit) refl
     where
-      up_to : (k : ℕ) → true_cost tariff trip parts k ≡ part_cost tariff trip parts (own parts unit) k → true_cost tariff trip parts k ≤ part_cost tariff trip parts (own parts unit) k
-      up_to k e = omega arith
-
-      no_two : ((k : ℕ) → is_second (own parts unit) k ≡ false) → sum_by (true_cost tariff trip parts) (own parts unit) ≤ unit_price tariff trip parts unit
-      no_two other =
-          let sum : sum_by (true_cost tariff trip parts) (own parts unit) ≤ sum_by (part_cost tariff trip parts (own parts unit)) (own parts unit) =
-          sum_up_members (true_cost tariff trip parts) (part_cost tariff trip parts (own parts unit)) (own parts unit) (λ k m. up_to k (half_mine unit k none m (other k))) in
-          let up : sum_by (part_cost tariff trip parts (own parts unit)) (own parts unit) ≤ unit_price tariff trip parts unit = sum_in_price unit in
-          omega arith
-
-      two : (a b : ℕ) → own parts unit ≡ a ∷ b ∷ [] → sum_by (true_cost tariff trip parts) (own parts unit) ≤ unit_price tariff trip parts unit
-      two a b e =
-          let first : Member a (own parts unit) = subst (Member a) (sym e) (inl refl) in
-          let second : Member b (own parts unit) = subst (Member b) (sym e) (inr (inl refl)) in
-          let place = member_place tariff trip parts price lawful unit b second in
-          let n : length (own parts unit) ≡ 2 = ap length e in
-          let rise : first_of (own parts unit) < last_of (own parts unit) = own_two parts unit (omega arith) in
-          let begins : first_of (own parts unit) ≡ a = ap first_of e in
-          let ends : last_of (own parts unit) ≡ b = ap last_of e in
-          let apart : eqb b a ≡ false = ne_eqb b a (λ same. omega arith) in
-          let other : is_second (own parts unit) a ≡ false = ap (λ xs. is_second xs a) e ∙ apart in
-          let here : is_second (own parts unit) b ≡ true = ap (λ xs. is_second xs b) e ∙ eq-eqb b b refl in
-          let S : ℕ → Type 0 = λ u. is_second (own parts u) b ≡ true in
-          let W : ℕ → Type 0 = λ u. true_cost tariff trip parts b ≡ unit_price tariff trip parts u - part_cost tariff trip parts (own parts u) (first_of (own parts u)) in
-          let one : true_cost tariff trip parts a ≡ part_cost tariff trip parts (own parts unit) a = half_mine unit a none first other in
-          let worth : true_cost tariff trip parts b ≡ unit_price tariff trip parts unit - part_cost tariff trip parts (own parts unit) (first_of (own parts unit)) = subst W place.2 (second_true b (half_of unit b none second) (subst S (sym place.2) here)) in
-          let same : part_cost tariff trip parts (own parts unit) (first_of (own parts unit)) ≡ part_cost tariff trip parts (own parts unit) a = ap (part_cost tariff trip parts (own parts unit)) begins in
-          let sum : sum_by (true_cost tariff trip parts) (own parts unit) ≡ true_cost tariff trip parts a + (true_cost tariff trip parts b + 0) = ap (sum_by (true_cost tariff trip parts)) e ∙ two_sum (true_cost tariff trip parts) a b in
-          let amounts : sum_by (part_cost tariff trip parts (own parts unit)) (own parts unit) ≡ part_cost tariff trip parts (own parts unit) a + (part_cost tariff trip parts (own parts unit) b + 0) = ap (sum_by (part_cost tariff trip parts (own parts unit))) e ∙ two_sum (part_cost tariff trip parts (own parts unit)) a b in
-          let up : sum_by (part_cost tariff trip parts (own parts unit)) (own parts unit) ≤ unit_price tariff trip parts unit = sum_in_price unit in
-          omega arith
-
       by_places : (xs : List ℕ) → own parts unit ≡ xs → sum_by (true_cost tariff trip parts) (own parts unit) ≤ unit_price tariff trip parts unit
-      by_places [] e = no_two (λ k. ap (λ ys. is_second ys k) e)
-      by_places (a ∷ []) e = no_two (λ k. ap (λ ys. is_second ys k) e)
-      by_places (a ∷ b ∷ []) e = two a b e
-      by_places (a ∷ b ∷ c ∷ more) e = no_two (λ k. ap (λ ys. is_second ys k) e)
+      by_places [] e =
+          let nothing : sum_by (true_cost tariff trip parts) (own parts unit) ≡ 0 = ap (sum_by (true_cost tariff trip parts)) e in
+          omega arith
+      by_places (a ∷ more) e =
+          let n : length (own parts unit) ≡ suc (length more) = ap length e in
+          let whole : sum_by (true_cost tariff trip parts) (own parts unit) ≡ unit_price tariff trip parts unit = half_all unit none (omega arith) in
+          omega arith
 
   alone_up : (unit : ℕ) → 1 ≤ unit → unit ≤ greatest_unit parts (places parts) → holds_ow tariff parts (own parts unit) ≡ true → sum_by (true_cost tariff trip parts) (own parts unit) ≡ unit_price tariff trip parts unit
   alone_up unit low high way =
@@ -299,10 +303,16 @@ module _ (tariff : Tariff) (trip : Itinerary) (parts : List Part) (price : ℕ) 
   pub second_worth : (a b : ℕ) → own parts (unit_of parts b) ≡ a ∷ b ∷ [] → is_ow tariff parts b ≡ false
       → (part_cost tariff trip parts (a ∷ b ∷ []) b ≤ true_cost tariff trip parts b) × (true_cost tariff trip parts b ≡ unit_price tariff trip parts (unit_of parts b) - part_cost tariff trip parts (a ∷ b ∷ []) a)
   second_worth a b two way =
-      let here : is_second (own parts (unit_of parts b)) b ≡ true = ap (λ xs. is_second xs b) two ∙ eq-eqb b b refl in
-      let L : List ℕ → Type 0 = λ xs. part_cost tariff trip parts xs b ≤ true_cost tariff trip parts b in
-      let W : List ℕ → Type 0 = λ xs. true_cost tariff trip parts b ≡ unit_price tariff trip parts (unit_of parts b) - part_cost tariff trip parts xs (first_of xs) in
-      (subst L two (half_low b way), subst W two (second_true b way here))
+      let cost : true_cost tariff trip parts b ≡ part_cost tariff trip parts (own parts (unit_of parts b)) b + added_at (last_of (own parts (unit_of parts b))) (surplus tariff trip parts (unit_of parts b)) b = half_true b way in
+      let last : last_of (own parts (unit_of parts b)) ≡ b = ap last_of two in
+      let here : eqb (last_of (own parts (unit_of parts b))) b ≡ true = eq-eqb (last_of (own parts (unit_of parts b))) b last in
+      let more : added_at (last_of (own parts (unit_of parts b))) (surplus tariff trip parts (unit_of parts b)) b ≡ surplus tariff trip parts (unit_of parts b) = rw here refl in
+      let Cost : List ℕ → ℕ → ℕ = λ xs k. part_cost tariff trip parts xs k in
+      let sum : sum_by (part_cost tariff trip parts (own parts (unit_of parts b))) (own parts (unit_of parts b)) ≡ part_cost tariff trip parts (a ∷ b ∷ []) a + (part_cost tariff trip parts (a ∷ b ∷ []) b + 0) =
+      ap (λ xs. sum_by (part_cost tariff trip parts xs) xs) two ∙ two_sum (part_cost tariff trip parts (a ∷ b ∷ [])) a b in
+      let mine : part_cost tariff trip parts (own parts (unit_of parts b)) b ≡ part_cost tariff trip parts (a ∷ b ∷ []) b = ap (λ xs. part_cost tariff trip parts xs b) two in
+      let up : sum_by (part_cost tariff trip parts (own parts (unit_of parts b))) (own parts (unit_of parts b)) ≤ unit_price tariff trip parts (unit_of parts b) = sum_in_price (unit_of parts b) in
+      (omega arith, omega arith)
 
   -- a unit costs no less than its parts do
   pub true_up : (unit : ℕ) → 1 ≤ unit → unit ≤ greatest_unit parts (places parts) → sum_by (true_cost tariff trip parts) (own parts unit) ≤ unit_price tariff trip parts unit

@@ -1,10 +1,10 @@
 -- What parts cost at least, part by part and unit by unit.
-use Rattle.std.specs.Prelude.{◌≡◌, ℕ, ◌-◌, ◌<◌, ◌≤◌, ◌==◌, Bool, false, List, [], ◌∷◌, ◌++◌, Option, Some, None}
+use Rattle.std.specs.Prelude.{◌≡◌, ℕ, ◌+◌, ◌-◌, ◌<◌, ◌≤◌, ◌==◌, List, [], ◌∷◌, ◌++◌, Option, Some, None}
 use Rattle.std.specs.Prelude.{sum_by, slice_index, if◌then◌else◌}
 use Rattle.fare_trip.specs.Itinerary.{Itinerary}
 use Rattle.fare_tariff.specs.Tariff.{Tariff}
 use Rattle.fare_rules.specs.declared.part.Part.{Part}
-use Rattle.fare_rules.specs.Construction.{start_of, end_of, first_of, part_at, own, unit_of, units}
+use Rattle.fare_rules.specs.Construction.{start_of, end_of, last_of, part_at, own, unit_of, units}
 use Rattle.fare_rules.specs.Shape.{is_ow}
 use Rattle.fare_component.specs.declared.table.entry.Entry.{Entry}
 use Rattle.fare_component.specs.Table.{entry_of}
@@ -31,21 +31,21 @@ abbrev pub part_least : Tariff → Itinerary → List Part → ℕ → ℕ
 part_least tariff trip parts k =
     or_nothing (fare_least tariff trip (start_of trip parts k) (end_of parts k) (part_at parts k).fare)
 
--- a place is the second of exactly two
-abbrev pub is_second : List ℕ → ℕ → Bool
-is_second [] k = false
-is_second (a ∷ []) k = false
-is_second (a ∷ b ∷ []) k = b == k
-is_second (a ∷ b ∷ c ∷ rest) k = false
+-- what a unit costs above the sum of its amounts
+abbrev pub surplus : Tariff → Itinerary → List Part → ℕ → ℕ
+surplus tariff trip parts unit =
+    unit_price tariff trip parts unit - sum_by (part_cost tariff trip parts (own parts unit)) (own parts unit)
 
--- what a half round trip is worth in its unit: its amount; and the second of two parts all that the unit costs above
--- the first
+-- an amount is added at the last of some places alone
+abbrev pub added_at : ℕ → ℕ → ℕ → ℕ
+added_at last more k = if last == k then more else 0
+
+-- what a half round trip is worth in its unit: its amount; and the last part besides what the unit costs above the sum
+-- of its amounts
 abbrev pub half_worth : Tariff → Itinerary → List Part → ℕ → ℕ
 half_worth tariff trip parts k =
-    if is_second (own parts (unit_of parts k)) k
-    then unit_price tariff trip parts (unit_of parts k)
-    - part_cost tariff trip parts (own parts (unit_of parts k)) (first_of (own parts (unit_of parts k)))
-    else part_cost tariff trip parts (own parts (unit_of parts k)) k
+    part_cost tariff trip parts (own parts (unit_of parts k)) k
+    + added_at (last_of (own parts (unit_of parts k))) (surplus tariff trip parts (unit_of parts k)) k
 
 -- what a part costs: a one way fare the price of its unit, and a half round trip what it is worth in its unit
 abbrev pub true_cost : Tariff → Itinerary → List Part → ℕ → ℕ

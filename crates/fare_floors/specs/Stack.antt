@@ -1,6 +1,6 @@
 -- Stack: units that go on behind some first parts come home one inside the other, the one that began last first.
 use Rattle.std.specs.Prelude.{◌≡◌, ℕ, zero, suc, ◌+◌, ◌≤◌, Bool, true, false, List, ◌++◌, length, Option, Some}
-use Rattle.std.specs.Prelude.{[], nat_le, nat_lt, ◌&&◌, if◌then◌else◌, filter, slice_index_or}
+use Rattle.std.specs.Prelude.{[], nat_le, nat_lt, ◌&&◌, if◌then◌else◌, filter, slice_index_or, sum_by}
 use Rattle.fare_trip.specs.Itinerary.{Itinerary, count}
 use Rattle.fare_tariff.specs.Tariff.{Tariff}
 use Rattle.fare_rules.specs.declared.part.Part.{Part}
@@ -37,10 +37,16 @@ stand_of parts k unit = end_of parts (last_of (own_to parts k unit))
 abbrev pub has_more : List Part → ℕ → ℕ → Bool
 has_more parts k unit = nat_lt 1 (length (own_to parts k unit))
 
--- the last part of a unit begins at a point or behind it, and costs no more than a number
-pub record LastsBy (tariff : Tariff) (trip : Itinerary) (parts : List Part) (k i cost : ℕ) : Type 0 where
-  pub begins : i ≤ start_of trip parts k
-  pub costs : true_cost tariff trip parts k ≤ cost
+-- the places of a unit behind a place
+abbrev pub own_from : List Part → ℕ → ℕ → List ℕ
+own_from parts k unit = filter (is_own parts unit) (numbers (k + 1) (length parts + 1))
+
+-- the last part of a unit begins at a point or behind it, and it, and all its parts behind a place, cost no more than a
+-- number
+pub record LastsBy (tariff : Tariff) (trip : Itinerary) (parts : List Part) (k unit i cost : ℕ) : Type 0 where
+  pub begins : i ≤ start_of trip parts (last_of (own parts unit))
+  pub costs : true_cost tariff trip parts (last_of (own parts unit)) ≤ cost
+  pub all : sum_by (true_cost tariff trip parts) (own_from parts k unit) ≤ cost
 
 -- a cost is over the units, up to a number, that go on behind a place: from a point on, each comes home where it does
 -- from where it stands, the greatest number first, and behind that there is what is behind where no unit is open
@@ -53,7 +59,7 @@ IsOver tariff trip begun closing jaw left parts k (suc u) i cost =
     (jaw (stand_of parts k (suc u))) (start_of trip parts (first_of (own parts (suc u)))) i
     (end_of parts (last_of (own parts (suc u)))))
     × IsOver tariff trip begun closing jaw left parts k u (end_of parts (last_of (own parts (suc u)))) y
-    × LastsBy tariff trip parts (last_of (own parts (suc u))) i x)
+    × LastsBy tariff trip parts k (suc u) i x)
     × (goes_on parts k (suc u) ≡ false → IsOver tariff trip begun closing jaw left parts k u i cost)
 
 -- numbers are under what is behind each point from the end of some first parts on, over the units up to a number, in

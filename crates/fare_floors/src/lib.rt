@@ -11,6 +11,7 @@
 //! - `floors`: what first parts cost at least, with all that may follow;
 //! - `lasting`: what the last part of a unit that goes on costs at least;
 //! - `barring`: what is behind first parts where no unit is open, without the fares that they bar;
+//! - `bars`: what a unit of three parts or more costs at most in constructions up to a price;
 //! - `stacking`: what is behind each point at least over the units of first parts, since what begins must end;
 //! - `dear`: whether the last of first parts makes the circle minimum of its unit greater than a ceiling;
 //! - `stack`: what is known of first parts by their units: what each costs at least, what is behind, and a floor;
@@ -22,6 +23,7 @@
 
 mod ahead;
 mod barring;
+mod bars;
 mod costs;
 mod dear;
 mod ending;
@@ -37,6 +39,7 @@ mod stage;
 mod stays;
 
 pub use ahead::{Ahead, ahead_of, floor_ahead, floor_with};
+pub use bars::{add_bar, bar_limit, remake};
 pub use floors::floor_of;
 pub use partial::Partial;
 pub use stack::{Stack, stack_after, stack_of};

@@ -52,7 +52,7 @@ fn stack_with(table: &Table, homing: &Homing, partial: &Partial, floors: [u64; M
     let spent = spent_on(&floors, greatest);
     let over = over_units(table, homing, partial);
     let behind = number_at(&over[greatest], partial.end());
-    let beyond = is_over(table, homing.ceiling, partial);
+    let beyond = is_over(table, homing.unit_ceiling, partial);
     let floor = lowered_to(homing.ceiling, floor_unless(beyond, spent, behind));
     Stack {
         floors,

@@ -16,13 +16,13 @@ use Rattle.fare_homing.proofs.HomingRowLemmas.{closings_same, jaws_same, wholes_
 -- the numbers of a trip are known from a point on
 pub record AreHomingsFrom (tariff : Tariff) (trip : Itinerary) (p : ℕ) (homing : Homing) : Type 0 where
   pub wholes : (i : ℕ) → p ≤ i → i < count trip → AreWholes tariff trip [] (begun_from homing) (jaw_from homing) i (cell homing.whole i)
-  pub begins : (c i : ℕ) → p ≤ c → c ≤ i → i < count trip → AreClosings tariff trip homing.ceiling (IsSecond tariff trip c i) (λ b. closing_from homing b b) (cell homing.whole i) (begun_from homing c) c i (begun_from homing c i)
-  pub closes : (c i : ℕ) → p ≤ c → c ≤ i → i < count trip → AreClosings tariff trip homing.ceiling (IsLast tariff trip c i) (λ b. closing_from homing b b) (cell homing.whole i) (closing_from homing c) c i (closing_from homing c i)
+  pub begins : (c i : ℕ) → p ≤ c → c ≤ i → i < count trip → AreClosings tariff trip homing.unit_ceiling (IsSecond tariff trip c i) (λ b. closing_from homing b b) (cell homing.whole i) (begun_from homing c) c i (begun_from homing c i)
+  pub closes : (c i : ℕ) → p ≤ c → c ≤ i → i < count trip → AreClosings tariff trip homing.unit_ceiling (IsLast tariff trip c i) (λ b. closing_from homing b b) (cell homing.whole i) (closing_from homing c) c i (closing_from homing c i)
   pub ends : (c i : ℕ) → p ≤ c → c ≤ i → i < count trip → AreJaws tariff trip (cell homing.whole i) (jaw_from homing c) c i (jaw_from homing c i)
   pub onward : (i : ℕ) → p ≤ i → i < count trip → IsOnward trip (cell homing.whole i) (rest_at homing.rest) i (rest_at homing.rest i)
   pub nothing : rest_at homing.rest (count trip) ≡ Some 0
 
-pub all_homings : (tariff : Tariff) (trip : Itinerary) (homing : Homing) → AreHomingsFrom tariff trip 0 homing → AreHomings tariff trip homing.ceiling (begun_from homing) (closing_from homing) (jaw_from homing) (cell homing.whole) (rest_at homing.rest)
+pub all_homings : (tariff : Tariff) (trip : Itinerary) (homing : Homing) → AreHomingsFrom tariff trip 0 homing → AreHomings tariff trip homing.unit_ceiling (begun_from homing) (closing_from homing) (jaw_from homing) (cell homing.whole) (rest_at homing.rest)
 all_homings tariff trip homing known = record {
   wholes = λ i high. known.wholes i (omega arith) high;
   begins = λ c i low high. known.begins c i (omega arith) low high;
@@ -48,11 +48,11 @@ module _ (tariff : Tariff) (trip : Itinerary) (homing : Homing) (p : ℕ) (befor
     (wholes_here : AreWholes tariff trip [] (begun_from homing) (jaw_from homing) p (rest_at row)) (onward_here : IsOnward trip (rest_at row) (rest_at homing.rest) p number) where
   -- the whole units and the rest of the point are put
   abbrev pub half : Homing
-  half = record { standing = homing.standing; whole = set homing.whole p row; rest = set homing.rest p number; countries = homing.countries; lonely = homing.lonely; of_two = homing.of_two; ceiling = homing.ceiling; onwards = homing.onwards }
+  half = record { standing = homing.standing; whole = set homing.whole p row; rest = set homing.rest p number; countries = homing.countries; lonely = homing.lonely; of_two = homing.of_two; ceiling = homing.ceiling; bar = homing.bar; unit_ceiling = homing.unit_ceiling; onwards = homing.onwards }
 
   -- and what is behind each point for a unit that stands there
   abbrev pub all : Homing
-  all = record { standing = set homing.standing p new; whole = set homing.whole p row; rest = set homing.rest p number; countries = homing.countries; lonely = homing.lonely; of_two = homing.of_two; ceiling = homing.ceiling; onwards = homing.onwards }
+  all = record { standing = set homing.standing p new; whole = set homing.whole p row; rest = set homing.rest p number; countries = homing.countries; lonely = homing.lonely; of_two = homing.of_two; ceiling = homing.ceiling; bar = homing.bar; unit_ceiling = homing.unit_ceiling; onwards = homing.onwards }
 
   this_whole : (j : ℕ) → cell (set homing.whole p row) p j ≡ rest_at row j
   this_whole j = ap (λ (xs : List (Option ℕ)). slice_index_or xs j None) (get_or-set_same homing.whole p row [] long_whole)
@@ -81,8 +81,8 @@ module _ (tariff : Tariff) (trip : Itinerary) (homing : Homing) (p : ℕ) (befor
   this_jaw : (i j : ℕ) → jaw_from all p i j ≡ cell new.jaw i j
   this_jaw i j = ap (λ (s : Standing). cell s.jaw i j) (get_or-set_same homing.standing p new no_standing long_standing)
 
-  module _ (begins_here : (i : ℕ) → p ≤ i → i < count trip → AreClosings tariff trip homing.ceiling (IsSecond tariff trip p i) (λ b. closing_from half b b) (cell half.whole i) (cell new.begun) p i (cell new.begun i))
-      (closes_here : (i : ℕ) → p ≤ i → i < count trip → AreClosings tariff trip homing.ceiling (IsLast tariff trip p i) (λ b. closing_from half b b) (cell half.whole i) (cell new.closing) p i (cell new.closing i))
+  module _ (begins_here : (i : ℕ) → p ≤ i → i < count trip → AreClosings tariff trip homing.unit_ceiling (IsSecond tariff trip p i) (λ b. closing_from half b b) (cell half.whole i) (cell new.begun) p i (cell new.begun i))
+      (closes_here : (i : ℕ) → p ≤ i → i < count trip → AreClosings tariff trip homing.unit_ceiling (IsLast tariff trip p i) (λ b. closing_from half b b) (cell half.whole i) (cell new.closing) p i (cell new.closing i))
       (ends_here : (i : ℕ) → p ≤ i → i < count trip → AreJaws tariff trip (cell half.whole i) (cell new.jaw) p i (cell new.jaw i)) where
     pub put_homings : AreHomingsFrom tariff trip p all
     put_homings = record {
@@ -96,18 +96,18 @@ module _ (tariff : Tariff) (trip : Itinerary) (homing : Homing) (p : ℕ) (befor
       ];
       begins = λ c i low mid high. elim (cases_eq c p) [
         | inl same ↦
-            let P : ℕ → Type 0 = λ k. AreClosings tariff trip homing.ceiling (IsSecond tariff trip k i) (λ b. closing_from all b b) (cell all.whole i) (begun_from all k) k i (begun_from all k i) in
-            subst P (sym same) (closings_same tariff trip homing.ceiling (IsSecond tariff trip p i) (λ b. closing_from half b b) (λ b. closing_from all b b) (cell half.whole i) (cell all.whole i) (cell new.begun) (begun_from all p) p i (cell new.begun i) (begun_from all p i)
+            let P : ℕ → Type 0 = λ k. AreClosings tariff trip homing.unit_ceiling (IsSecond tariff trip k i) (λ b. closing_from all b b) (cell all.whole i) (begun_from all k) k i (begun_from all k i) in
+            subst P (sym same) (closings_same tariff trip homing.unit_ceiling (IsSecond tariff trip p i) (λ b. closing_from half b b) (λ b. closing_from all b b) (cell half.whole i) (cell all.whole i) (cell new.begun) (begun_from all p) p i (cell new.begun i) (begun_from all p i)
             (λ b j past. other_closing b b j (λ e. omega arith)) (λ j. refl) (λ b j past. this_begun b j) (λ j. this_begun i j) (begins_here i (omega arith) high))
-        | inr other ↦ closings_same tariff trip homing.ceiling (IsSecond tariff trip c i) (λ b. closing_from homing b b) (λ b. closing_from all b b) (cell homing.whole i) (cell all.whole i) (begun_from homing c) (begun_from all c) c i (begun_from homing c i) (begun_from all c i)
+        | inr other ↦ closings_same tariff trip homing.unit_ceiling (IsSecond tariff trip c i) (λ b. closing_from homing b b) (λ b. closing_from all b b) (cell homing.whole i) (cell all.whole i) (begun_from homing c) (begun_from all c) c i (begun_from homing c i) (begun_from all c i)
             (λ b j past. other_closing b b j (λ e. omega arith)) (λ j. other_whole i j (λ e. omega arith)) (λ b j past. other_begun c b j other) (λ j. other_begun c i j other) (known.begins c i (omega arith) mid high)
       ];
       closes = λ c i low mid high. elim (cases_eq c p) [
         | inl same ↦
-            let P : ℕ → Type 0 = λ k. AreClosings tariff trip homing.ceiling (IsLast tariff trip k i) (λ b. closing_from all b b) (cell all.whole i) (closing_from all k) k i (closing_from all k i) in
-            subst P (sym same) (closings_same tariff trip homing.ceiling (IsLast tariff trip p i) (λ b. closing_from half b b) (λ b. closing_from all b b) (cell half.whole i) (cell all.whole i) (cell new.closing) (closing_from all p) p i (cell new.closing i) (closing_from all p i)
+            let P : ℕ → Type 0 = λ k. AreClosings tariff trip homing.unit_ceiling (IsLast tariff trip k i) (λ b. closing_from all b b) (cell all.whole i) (closing_from all k) k i (closing_from all k i) in
+            subst P (sym same) (closings_same tariff trip homing.unit_ceiling (IsLast tariff trip p i) (λ b. closing_from half b b) (λ b. closing_from all b b) (cell half.whole i) (cell all.whole i) (cell new.closing) (closing_from all p) p i (cell new.closing i) (closing_from all p i)
             (λ b j past. other_closing b b j (λ e. omega arith)) (λ j. refl) (λ b j past. this_closing b j) (λ j. this_closing i j) (closes_here i (omega arith) high))
-        | inr other ↦ closings_same tariff trip homing.ceiling (IsLast tariff trip c i) (λ b. closing_from homing b b) (λ b. closing_from all b b) (cell homing.whole i) (cell all.whole i) (closing_from homing c) (closing_from all c) c i (closing_from homing c i) (closing_from all c i)
+        | inr other ↦ closings_same tariff trip homing.unit_ceiling (IsLast tariff trip c i) (λ b. closing_from homing b b) (λ b. closing_from all b b) (cell homing.whole i) (cell all.whole i) (closing_from homing c) (closing_from all c) c i (closing_from homing c i) (closing_from all c i)
             (λ b j past. other_closing b b j (λ e. omega arith)) (λ j. other_whole i j (λ e. omega arith)) (λ b j past. other_closing c b j other) (λ j. other_closing c i j other) (known.closes c i (omega arith) mid high)
       ];
       ends = λ c i low mid high. elim (cases_eq c p) [

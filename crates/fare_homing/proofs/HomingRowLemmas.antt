@@ -1,29 +1,24 @@
 -- The numbers of homing from a trip's end back, one point on.
-use Rattle.std.proofs.Common.{◌≡◌, ℕ, zero, suc, ◌+◌, ◌<◌, ◌≤◌, Bool, true, false, List, [], ◌∷◌, length, replicate, refl, sym, subst, ◌∙◌, inl, inr, arith}
-use Rattle.std.specs.Prelude.{Option, Some, None, is_some, slice_index_or, if◌then◌else◌}
-use Rattle.std.proofs.lemmas.Bool.{cases_Bool, cases_lt}
-use Rattle.std.proofs.lemmas.Option.{none-some}
-use Rattle.fare_trip.specs.Itinerary.{Itinerary, count, point}
+use Rattle.std.proofs.Common.{◌≡◌, ℕ, ◌+◌, ◌<◌, ◌≤◌, Bool, true, false, List, sym, subst, inl, inr, arith}
+use Rattle.std.specs.Prelude.{Option, None, if◌then◌else◌}
+use Rattle.std.proofs.lemmas.Bool.{cases_Bool}
+use Rattle.fare_trip.specs.Itinerary.{Itinerary, count}
 use Rattle.fare_tariff.specs.Tariff.{Tariff}
 use Rattle.fare_codes.specs.declared.country.Country.{Country}
 use Rattle.fare_rules.specs.Construction.{begin_after}
-use Rattle.fare_rules.specs.Shape.{is_same_country, lie_together}
 use Rattle.fare_rules.proofs.CoverLemmas.{begins_later}
 use Rattle.fare_component.specs.declared.table.entry.Entry.{Entry}
 use Rattle.fare_component.specs.Table.{entries_of}
 use Rattle.fare_component.proofs.LawLemmas.{entry_is_of_fare}
-use Rattle.fare_bounds.specs.Covers.{lesser, rest_at}
 use Rattle.fare_legs.specs.declared.ceiling.Ceiling.{Ceiling}
 use Rattle.fare_legs.specs.Barred.{unless_barred}
 use Rattle.fare_legs.specs.Ceiling.{below_ceiling}
 use Rattle.fare_legs.specs.Costs.{IsUpTo, back_cost, between_cost, first_cost, heads_to, is_same_city}
 use Rattle.fare_homing.specs.Homing.{homing_at}
 use Rattle.fare_homing.specs.HomingRows.{AreClosings, AreJaws, AreNext, AreWholes, IsBetween, IsPart, IsUnderBoth}
-use Rattle.fare_legs.specs.Floor.{added}
 use Rattle.fare_legs.specs.Least.{IsUnderEach}
-use Rattle.fare_legs.specs.Countries.{country_at, heads_in, AreCountries}
+use Rattle.fare_legs.specs.Countries.{heads_in, AreCountries}
 use Rattle.fare_legs.proofs.CountryLemmas.{heads_same}
-use Rattle.fare_legs.proofs.ReachLemmas.{added_up, up_first, up_more, up_second}
 
 true_false : true ≡ false → ⊥
 true_false e = cc

@@ -6,3 +6,4 @@ pub mod RestLemmas
 pub mod BarringLemmas
 pub mod LinkLemmas
 pub mod BetweenLemmas
+pub mod UnitLemmas

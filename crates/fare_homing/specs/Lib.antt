@@ -6,3 +6,4 @@ pub mod Homing
 pub mod HomingRows
 pub mod Onward
 pub mod Rows
+pub mod Units

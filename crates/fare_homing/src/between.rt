@@ -114,7 +114,7 @@ fn cost_within(table: &Table, homing: &Homing, between: Between, entry: &Entry) 
     requires rises { between.start < between.end }
     requires end { between.end ≤ count table.now.trip }
     requires home { between.home ≤ count table.now.trip }
-    ensures { result ≡ cost_within table.now.edition table.now.trip homing.now.of_two homing.now.ceiling between
+    ensures { result ≡ cost_within table.now.edition table.now.trip homing.now.of_two homing.now.unit_ceiling between
         entry.now }
 {
     let _sectors = table.trip().count();
@@ -122,7 +122,7 @@ fn cost_within(table: &Table, homing: &Homing, between: Between, entry: &Entry) 
         return None;
     }
     let cost = between_cost(entry, between.heads);
-    let Some(ceiling) = homing.ceiling else {
+    let Some(ceiling) = homing.unit_ceiling else {
         return cost;
     };
     let (start, end) = (between.start, between.end);
@@ -137,7 +137,7 @@ fn least_within(table: &Table, homing: &Homing, between: Between) -> Floor
     requires rises { between.start < between.end }
     requires end { between.end ≤ count table.now.trip }
     requires home { between.home ≤ count table.now.trip }
-    ensures { IsUnderEach (cost_within table.now.edition table.now.trip homing.now.of_two homing.now.ceiling between)
+    ensures { IsUnderEach (cost_within table.now.edition table.now.trip homing.now.of_two homing.now.unit_ceiling between)
         (entries_of table.now.edition table.now.trip between.start between.end) result }
 {
     let sectors = table.trip().count();
@@ -169,12 +169,12 @@ fn step_to(table: &Table, homing: &Homing, start: &Start, home: usize, b: usize)
     requires countries { AreCountries table.now.edition table.now.trip start.now.countries.now }
     requires legs { AreLegsOf table.now.edition table.now.trip [] start.now.point start.now.legs.now }
     requires of_two { AreOfTwo table.now.edition table.now.trip homing.now.of_two }
-    ensures { (x : ℕ) → IsBetween table.now.edition table.now.trip homing.now.ceiling start.now.point home b x
+    ensures { (x : ℕ) → IsBetween table.now.edition table.now.trip homing.now.unit_ceiling start.now.point home b x
         → IsUpTo x result }
 {
     let _sectors = table.trip().count();
     let heads = heads_in(start.countries, start.point, b, home);
-    match homing.ceiling {
+    match homing.unit_ceiling {
         None if homing.of_two[0] == 0 => leg_to(start, b, heads),
         _ => {
             let between = Between {
@@ -197,7 +197,7 @@ fn reach_between(table: &Table, homing: &Homing, start: &Start, home: usize) -> 
     requires legs { AreLegsOf table.now.edition table.now.trip [] start.now.point start.now.legs.now }
     requires of_two { AreOfTwo table.now.edition table.now.trip homing.now.of_two }
     ensures { (b x y : ℕ) → start.now.point < b → b < home → is_same_city table.now.trip home b ≡ false
-        → IsBetween table.now.edition table.now.trip homing.now.ceiling start.now.point home b x
+        → IsBetween table.now.edition table.now.trip homing.now.unit_ceiling start.now.point home b x
         → IsUpTo y (closing_from homing.now b b home) → IsUpTo (x + y) result }
 {
     let trip = table.trip();
@@ -231,7 +231,7 @@ pub(crate) fn with_between(
     ensures kept { (j most : ℕ) → IsUpTo most (rest_at row.now j) → IsUpTo most (rest_at result j) }
     ensures between { (b j x y : ℕ) → i < j → start.now.point < b → b < j → j ≤ count table.now.trip
         → is_same_city table.now.trip j b ≡ false
-        → IsBetween table.now.edition table.now.trip homing.now.ceiling start.now.point j b x
+        → IsBetween table.now.edition table.now.trip homing.now.unit_ceiling start.now.point j b x
         → IsUpTo y (closing_from homing.now b b j) → IsUpTo (x + y) (rest_at result j) }
 {
     let count = table.trip().count();

@@ -1,9 +1,12 @@
 //! Homing: what the parts behind a point of a trip cost at least until a unit comes home, at each later point.
 
 ghost use Rattle.std.specs.Prelude.{◌≡◌, ◌<◌, ◌≤◌, IfSome, Some, slice_index_or};
-ghost use Rattle.fare_trip.specs.Itinerary.{count, point};
+ghost use Rattle.fare_trip.specs.Itinerary.{Itinerary, count, point};
+ghost use Rattle.fare_tariff.specs.Tariff.{Tariff};
 ghost use Rattle.fare_bounds.specs.Covers.{rest_at};
+ghost use Rattle.fare_legs.specs.Ceiling.{IsCeiling};
 ghost use Rattle.fare_legs.specs.Costs.{are_near};
+ghost use Rattle.fare_homing.specs.Units.{IsBar, IsUnitCeiling};
 ghost use Rattle.fare_homing.specs.Rows.{cell, begun_from, closing_from, jaw_from, no_standing, AreHomingsOf};
 
 use crate::between::{lie_together, start_at};
@@ -31,6 +34,15 @@ pub struct Standing {
     pub jaw: [[Floor; MOST_POINTS]; MOST_POINTS],
 }
 
+/// What each unit of three parts or more costs at most in each lawful construction up to a price.
+#[derive(Clone, Copy)]
+pub struct Bar {
+    /// The price of the construction, in NUC hundredths.
+    pub limit: u64,
+    /// What such a unit costs at most.
+    pub unit: Ceiling,
+}
+
 /// What is behind each point of a trip at least.
 #[derive(Drop)]
 pub struct Homing {
@@ -50,6 +62,10 @@ pub struct Homing {
     pub of_two: [u32; MOST_RULES],
     /// The ceiling under which the numbers hold: of what costs more they say nothing.
     pub ceiling: Option<Ceiling>,
+    /// What is known of the units of constructions up to a price.
+    pub bar: Option<Bar>,
+    /// The ceiling of each unit of three parts or more in what is under the ceiling of all.
+    pub unit_ceiling: Option<Ceiling>,
     /// All that is behind the point, where no unit is open and some fares are barred.
     pub onwards: Onwards,
 }
@@ -163,13 +179,44 @@ fn unknown() -> Homing {
         lonely: [0; MOST_LONELY],
         of_two: [0; MOST_RULES],
         ceiling: None,
+        bar: None,
+        unit_ceiling: None,
         onwards: without_barred(&rest),
+    }
+}
+
+/// The ceiling of each unit in what is under a ceiling of all: that of a bar where this holds there and says more.
+fn unit_ceiling_by(known: Ceiling, bar: Bar) -> Ceiling
+    ensures { (tariff : Tariff) (trip : Itinerary) → IsCeiling tariff trip (Some known) → IsBar tariff trip bar
+        → IsUnitCeiling tariff trip (Some known) (Some result) }
+{
+    if bar.limit < known.price {
+        return known;
+    }
+    if known.price <= bar.unit.price {
+        return known;
+    }
+    bar.unit
+}
+
+/// The same where there are a ceiling and a bar.
+fn unit_ceiling_of(ceiling: Option<Ceiling>, bar: Option<Bar>) -> Option<Ceiling>
+    ensures { (tariff : Tariff) (trip : Itinerary) → IsCeiling tariff trip ceiling → IfSome bar (IsBar tariff trip)
+        → IsUnitCeiling tariff trip ceiling result }
+{
+    let Some(known) = ceiling else {
+        return None;
+    };
+    match bar {
+        None => Some(known),
+        Some(bar) => Some(unit_ceiling_by(known, bar)),
     }
 }
 
 /// Makes the homing of the trip of a table in the place of another, under a ceiling where a price is given.
 #[inline(never)]
-fn make(homing: &mut Homing, table: &Table, price: Option<u64>)
+fn make(homing: &mut Homing, table: &Table, price: Option<u64>, bar: Option<Bar>)
+    requires { IfSome bar (IsBar table.now.edition table.now.trip) }
     ensures homings { AreHomingsOf table.now.edition table.now.trip homing.new }
     ensures ceiling { IfSome homing.new.ceiling (λ ceiling. price ≡ Some ceiling.price) }
 {
@@ -182,6 +229,8 @@ fn make(homing: &mut Homing, table: &Table, price: Option<u64>)
     homing.lonely = lonely_fares(table);
     homing.of_two = fares_of_two(table);
     homing.ceiling = ceiling_of(table, price);
+    homing.bar = bar;
+    homing.unit_ceiling = unit_ceiling_of(homing.ceiling, bar);
     homing.rest = rest_at_end(count);
     for c in (0..count).rev() {
         let start = start_at(table, &legs, &homing.countries, barred, c);
@@ -200,7 +249,7 @@ pub fn homing_of(table: &Table, price: Option<u64>) -> Homing
     ensures ceiling { IfSome result.ceiling (λ ceiling. price ≡ Some ceiling.price) }
 {
     let mut homing = unknown();
-    make(&mut homing, table, price);
+    make(&mut homing, table, price, None);
     homing
 }
 
@@ -209,5 +258,14 @@ pub fn remake(homing: &mut Homing, table: &Table, price: u64)
     ensures homings { AreHomingsOf table.now.edition table.now.trip homing.new }
     ensures ceiling { IfSome homing.new.ceiling (λ ceiling. ceiling.price ≡ price) }
 {
-    make(homing, table, Some(price));
+    make(homing, table, Some(price), None);
+}
+
+/// The same by what is known of the units of constructions up to a price.
+pub fn remake_barred(homing: &mut Homing, table: &Table, price: u64, bar: Option<Bar>)
+    requires { IfSome bar (IsBar table.now.edition table.now.trip) }
+    ensures homings { AreHomingsOf table.now.edition table.now.trip homing.new }
+    ensures ceiling { IfSome homing.new.ceiling (λ ceiling. ceiling.price ≡ price) }
+{
+    make(homing, table, Some(price), bar);
 }

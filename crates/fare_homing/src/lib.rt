@@ -9,6 +9,7 @@
 //! - `onward`: what is behind each point where no unit is open, by the fares that are barred there;
 //! - `homing`: the numbers of a trip;
 //! - `rests`: what is behind each point where no unit is open, without the fares of some rules;
+//! - `turns`: what the circle minima of a trip may be;
 //! - `steps`: whether no more is barred behind a part than its rule bars;
 //! - `barring`: the numbers of a trip with what is behind each point by what is barred.
 //!
@@ -24,6 +25,7 @@ mod rests;
 mod rule_sets;
 mod standing;
 mod steps;
+mod turns;
 mod whole;
 
 pub use barring::add_barred;
@@ -32,6 +34,8 @@ pub use fare_legs::{
     day_behind, greater, is_rule_of, is_too_dear, lesser, number_at, paid_with, rule_at,
 };
 pub use homing::{
-    Homing, Standing, begun_from, cell, closing_from, homing_of, jaw_from, lie_near, remake,
+    Bar, Homing, Standing, begun_from, cell, closing_from, homing_of, jaw_from, lie_near, remake,
+    remake_barred,
 };
 pub use onward::{Onward, Onwards, next_set};
+pub use turns::greatest_turn;

@@ -75,7 +75,7 @@ fn next_at(
     requires countries { AreCountries table.now.edition table.now.trip start.now.countries.now }
     requires legs { AreLegsOf table.now.edition table.now.trip [] start.now.point start.now.legs.now }
     requires of_two { AreOfTwo table.now.edition table.now.trip homing.now.of_two }
-    ensures { AreNext table.now.edition table.now.trip homing.now.ceiling (λ j x. IsUpTo x (rest_at last.now j))
+    ensures { AreNext table.now.edition table.now.trip homing.now.unit_ceiling (λ j x. IsUpTo x (rest_at last.now j))
         (λ b. closing_from homing.now b b) stand start.now.behind (rest_at result) }
 {
     let trip = table.trip();
@@ -165,11 +165,11 @@ pub(crate) fn standing_at(
     requires legs { AreLegsBehind table.now.edition table.now.trip [] legs.now }
     requires of_two { AreOfTwo table.now.edition table.now.trip homing.now.of_two }
     ensures begins { (i : ℕ) → stand ≤ i → i < count table.now.trip
-        → AreClosings table.now.edition table.now.trip homing.now.ceiling
+        → AreClosings table.now.edition table.now.trip homing.now.unit_ceiling
         (IsSecond table.now.edition table.now.trip stand i) (λ b. closing_from homing.now b b)
         (cell homing.now.whole i) (cell result.begun) stand i (cell result.begun i) }
     ensures closes { (i : ℕ) → stand ≤ i → i < count table.now.trip
-        → AreClosings table.now.edition table.now.trip homing.now.ceiling
+        → AreClosings table.now.edition table.now.trip homing.now.unit_ceiling
         (IsLast table.now.edition table.now.trip stand i) (λ b. closing_from homing.now b b)
         (cell homing.now.whole i) (cell result.closing) stand i (cell result.closing i) }
     ensures ends { (i : ℕ) → stand ≤ i → i < count table.now.trip → AreJaws table.now.edition table.now.trip

@@ -40,7 +40,7 @@ returns c =
     let trip = c.args.table.now.trip in
     let up : (parts : List Part) (price : ℕ) → IsCompletion tariff trip front parts price → IsWithin c.args.homing.now.ceiling price → IsUpTo price found = λ parts price done cheap.
     elim (cases_Bool c.is_over-beyond.result) [
-      | inl t ↦ absurd (over_is_beyond tariff trip c.args.homing.now.ceiling front c.requires.homing.ceiling (sym c.is_over-beyond.ensures ∙ t) parts price done cheap)
+      | inl t ↦ absurd (over_is_beyond tariff trip c.args.homing.now.unit_ceiling front c.requires.homing.unit_ceiling.alike (sym c.is_over-beyond.ensures ∙ t) parts price done (c.requires.homing.unit_ceiling.units parts price done.lawful cheap))
       | inr f ↦
           let is : found ≡ real = c.floor_unless.ensures ∙ rw f refl in
           subst (IsUpTo price) (sym is) (found_up c.args.table.now c.args.homing.now c.requires.homing front (c.requires.made.advances.ends (length front)) (slice_index_or over greatest []) (c.over_units-over.ensures greatest (omega arith)) real sum parts price done cheap)

@@ -9,13 +9,13 @@ use Rattle.fare_legs.proofs.LeastLemmas.{cost_more, cost_none}
 use Rattle.fare_homing.proofs.between.least_within.Goals as goal
 
 pub loop-entry-init : goal.loop-entry-init
-loop-entry-init c = cost_none (cost_within c.args.table.now.edition c.args.table.now.trip c.args.homing.now.of_two c.args.homing.now.ceiling c.args.between) None
+loop-entry-init c = cost_none (cost_within c.args.table.now.edition c.args.table.now.trip c.args.homing.now.of_two c.args.homing.now.unit_ceiling c.args.between) None
 
 pub loop-entry-preserved : goal.loop-entry-preserved
 loop-entry-preserved c =
     let entries = c.entries-entry-items.result.now in
     let entry = c.entry-item.result in
-    let Cost : Entry → Option ℕ = cost_within c.args.table.now.edition c.args.table.now.trip c.args.homing.now.of_two c.args.homing.now.ceiling c.args.between in
+    let Cost : Entry → Option ℕ = cost_within c.args.table.now.edition c.args.table.now.trip c.args.homing.now.of_two c.args.homing.now.unit_ceiling c.args.between in
     let least = c.lesser-least.result in
     let P : List Entry → Type 0 = λ xs. IsUnderEach Cost xs least in
     let Q : Entry → Type 0 = λ d. IsUnderEach Cost (take c.loop-entry.entry-index entries ++ d ∷ []) least in
@@ -26,6 +26,6 @@ loop-entry-preserved c =
 
 pub returns : goal.returns
 returns c =
-    let Cost : Entry → Option ℕ = cost_within c.args.table.now.edition c.args.table.now.trip c.args.homing.now.of_two c.args.homing.now.ceiling c.args.between in
+    let Cost : Entry → Option ℕ = cost_within c.args.table.now.edition c.args.table.now.trip c.args.homing.now.of_two c.args.homing.now.unit_ceiling c.args.between in
     let P : List Entry → Type 0 = λ xs. IsUnderEach Cost xs c.loop-entry.least in
     subst P c.entries-entry-items.ensures.entries (subst P (take_all c.loop-entry.entry-index c.entries-entry-items.result.now c.loop-entry-test.false) c.loop-entry.invariant)

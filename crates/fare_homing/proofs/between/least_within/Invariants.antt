@@ -5,4 +5,4 @@ use Rattle.fare_legs.specs.Least.{IsUnderEach}
 use Rattle.fare_homing.proofs.between.least_within.Given as goal
 
 abbrev pub invariant-loop-entry : goal.invariant-loop-entry
-invariant-loop-entry l = IsUnderEach (cost_within l.table.edition l.table.trip l.homing.of_two l.homing.ceiling l.between) (take l.entry-index l.entry-items) l.least
+invariant-loop-entry l = IsUnderEach (cost_within l.table.edition l.table.trip l.homing.of_two l.homing.unit_ceiling l.between) (take l.entry-index l.entry-items) l.least

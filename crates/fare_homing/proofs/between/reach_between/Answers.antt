@@ -15,7 +15,7 @@ loop-b-preserved c b x y low less apart part more =
     let home = c.args.home in
     elim (cases_eq b c.loop-b.b) [
       | inl same ↦
-          let P : ℕ → Type 0 = λ k. IsBetween tariff trip homing.ceiling start.point home k x in
+          let P : ℕ → Type 0 = λ k. IsBetween tariff trip homing.unit_ceiling start.point home k x in
           let Q : ℕ → Type 0 = λ k. IsUpTo y (closing_from homing k k home) in
           lesser_sum c.loop-b.least c.step_to.result (closing_from homing c.loop-b.b c.loop-b.b home) c.lesser-least.result
           (rw (c.lesser-least.ensures, c.added.ensures, c.closing_from-behind.ensures) refl) x y (c.step_to.ensures x (subst P same part)) (subst Q same more)

@@ -1,4 +1,4 @@
-use Rattle.std.proofs.Common.{◌≡◌, Bool, Option, Some, None, subst, sym, ◌∙◌, arith}
+use Rattle.std.proofs.Common.{Bool, Option, subst, sym, arith}
 use Rattle.std.specs.Prelude.{if◌then◌else◌}
 use Rattle.fare_bounds.specs.Covers.{rest_at}
 use Rattle.fare_legs.specs.declared.ceiling.Ceiling.{Ceiling}
@@ -20,4 +20,4 @@ returns-in-None c x part =
 
 pub returns-in_default : goal.returns-in_default
 returns-in_default c x part =
-    c.least_within.ensures x (cost_is_within c.args.table.now.edition c.args.table.now.trip c.args.start.now.countries.now c.args.homing.now.of_two c.args.homing.now.ceiling c.args.start.now.point c.args.b c.args.home x c.heads_in-heads.result c.requires.countries (omega (arith, c.requires.point, c.requires.end)) c.requires.end c.requires.home c.heads_in-heads.ensures c.requires.of_two part)
+    c.least_within.ensures x (cost_is_within c.args.table.now.edition c.args.table.now.trip c.args.start.now.countries.now c.args.homing.now.of_two c.args.homing.now.unit_ceiling c.args.start.now.point c.args.b c.args.home x c.heads_in-heads.result c.requires.countries (omega (arith, c.requires.point, c.requires.end)) c.requires.end c.requires.home c.heads_in-heads.ensures c.requires.of_two part)

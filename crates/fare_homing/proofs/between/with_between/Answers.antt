@@ -41,7 +41,7 @@ loop-j-preserved c =
         | inl same ↦
             let P : ℕ → Type 0 = λ k. IsUpTo (x + y) (rest_at (set least here number) k) in
             let A : ℕ → Type 0 = λ k. is_same_city trip k b ≡ false in
-            let X : ℕ → Type 0 = λ k. IsBetween tariff trip c.args.homing.now.ceiling start.point k b x in
+            let X : ℕ → Type 0 = λ k. IsBetween tariff trip c.args.homing.now.unit_ceiling start.point k b x in
             let Y : ℕ → Type 0 = λ k. IsUpTo y (closing_from c.args.homing.now b b k) in
             let up_here : IsUpTo (x + y) c.reach_between.result = c.reach_between.ensures b x y low (omega arith) (subst A same apart) (subst X same part) (subst Y same more) in
             subst P (sym same) (subst (IsUpTo (x + y)) (sym (get_or-set_same least here number None long)) (subst (IsUpTo (x + y)) (sym (the_lesser)) (up_second (rest_at least here) c.reach_between.result (x + y) up_here)))

@@ -11,5 +11,5 @@ invariant-loop-j l = record {
   long : length l.least ≡ 17;
   kept : (j most : ℕ) → IsUpTo most (rest_at l.row j) → IsUpTo most (rest_at l.least j);
   between : (b j x y : ℕ) → l.i < j → l.start.point < b → b < j → j < l.j → is_same_city l.table.trip j b ≡ false
-      → IsBetween l.table.edition l.table.trip l.homing.ceiling l.start.point j b x → IsUpTo y (closing_from l.homing b b j) → IsUpTo (x + y) (rest_at l.least j);
+      → IsBetween l.table.edition l.table.trip l.homing.unit_ceiling l.start.point j b x → IsUpTo y (closing_from l.homing b b j) → IsUpTo (x + y) (rest_at l.least j);
 }

@@ -1,14 +1,10 @@
-use Rattle.std.proofs.Common.{rules, ◌≡◌, ◌+◌, ◌-◌, ℕ, List, [], sym, subst, ◌∙◌, ap, arith, length-set}
-use Rattle.std.specs.Prelude.{IfSome, Some}
+use Rattle.std.proofs.Common.{rules, ◌≡◌, ◌+◌, ◌-◌, ℕ, List, [], subst, ◌∙◌, ap, arith, length-set}
+use Rattle.std.specs.Prelude.{Some}
 use Rattle.fare_trip.specs.Itinerary.{count}
 use Rattle.fare_bounds.specs.Covers.{rest_at}
-use Rattle.fare_legs.specs.Ceiling.{IsCeiling}
 use Rattle.fare_homing.specs.HomingRows.{AreWholes}
 use Rattle.fare_legs.specs.Legs.{AreLegsBehind}
-use Rattle.fare_legs.specs.Lonely.{AreLonely}
-use Rattle.fare_legs.specs.Countries.{AreCountries}
 use Rattle.fare_homing.specs.Rows.{begun_from, cell, jaw_from}
-use Rattle.fare_legs.specs.Threes.{AreOfTwo}
 use Rattle.fare_homing.proofs.HomingLemmas.{AreHomingsFrom, all_homings, no_homings, put_homings}
 use Rattle.fare_homing.proofs.homing.make.Goals as goal
 
@@ -25,6 +21,8 @@ loop-c-init c =
       lonely = c.lonely_fares-homing.ensures;
       of_two = c.fares_of_two-homing.ensures;
       ceiling = c.ceiling_of-homing.ensures.ceiling;
+      bar = c.requires;
+      unit_ceiling = c.unit_ceiling_of-homing.ensures c.args.table.now.edition c.args.table.now.trip c.ceiling_of-homing.ensures.ceiling c.requires;
       price = c.ceiling_of-homing.ensures.value;
     }
 
@@ -51,6 +49,8 @@ loop-c-preserved c =
       lonely = known.lonely;
       of_two = known.of_two;
       ceiling = known.ceiling;
+      bar = known.bar;
+      unit_ceiling = known.unit_ceiling;
       price = known.price;
     }
 
@@ -66,6 +66,8 @@ returns-clause-homings c =
       lonely = c.loop-c.invariant.lonely;
       of_two = c.loop-c.invariant.of_two;
       ceiling = c.loop-c.invariant.ceiling;
+      bar = c.loop-c.invariant.bar;
+      unit_ceiling = c.loop-c.invariant.unit_ceiling;
     }
 
 pub returns-clause-ceiling : goal.returns-clause-ceiling

@@ -5,6 +5,7 @@ use Rattle.fare_legs.specs.Ceiling.{IsCeiling}
 use Rattle.fare_legs.specs.Lonely.{AreLonely}
 use Rattle.fare_legs.specs.Countries.{AreCountries}
 use Rattle.fare_legs.specs.Threes.{AreOfTwo}
+use Rattle.fare_homing.specs.Units.{IsBar, IsUnitCeiling}
 use Rattle.fare_homing.proofs.HomingLemmas.{AreHomingsFrom}
 use Rattle.fare_homing.proofs.homing.make.Given as goal
 
@@ -18,5 +19,7 @@ invariant-loop-c l = record {
   lonely : AreLonely l.table.edition l.homing.lonely;
   of_two : AreOfTwo l.table.edition l.table.trip l.homing.of_two;
   ceiling : IsCeiling l.table.edition l.table.trip l.homing.ceiling;
+  bar : IfSome l.homing.bar (IsBar l.table.edition l.table.trip);
+  unit_ceiling : IsUnitCeiling l.table.edition l.table.trip l.homing.ceiling l.homing.unit_ceiling;
   price : IfSome l.homing.ceiling (λ known. l.fn.price ≡ Some known.price);
 }

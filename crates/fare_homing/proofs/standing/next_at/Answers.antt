@@ -1,4 +1,4 @@
-use Rattle.std.proofs.Common.{◌≡◌, ℕ, ◌<◌, true, false, sym, subst, ◌∙◌, ap, arith}
+use Rattle.std.proofs.Common.{◌≡◌, ℕ, ◌<◌, false, sym, subst, ◌∙◌, ap, arith}
 use Rattle.std.proofs.lemmas.Bool.{both_ways}
 use Rattle.fare_rules.specs.Construction.{begin_after}
 use Rattle.fare_component.proofs.LawLemmas.{entry_is_of_fare}
@@ -18,9 +18,9 @@ returns-then-is c =
     record {
       last = λ j x up. c.with_between.ensures.kept j x up;
       between = λ b j x y city part less apart within up.
-          let rises = part_after tariff trip (below_ceiling tariff trip c.args.homing.now.ceiling (begin_after trip i) j b (between_cost (heads_to tariff trip (begin_after trip i) b j))) i b x part.part in
+          let rises = part_after tariff trip (below_ceiling tariff trip c.args.homing.now.unit_ceiling (begin_after trip i) j b (between_cost (heads_to tariff trip (begin_after trip i) b j))) i b x part.part in
           let is = entry_is_of_fare tariff trip (begin_after trip i) b part.part.entry part.part.there in
-          let A : ℕ → Type 0 = λ a. IsBetween tariff trip c.args.homing.now.ceiling a j b x in
+          let A : ℕ → Type 0 = λ a. IsBetween tariff trip c.args.homing.now.unit_ceiling a j b x in
           let L : ℕ → Type 0 = λ a. a < b in
           c.with_between.ensures.between b j x y (omega (arith, rises.0)) (subst L begins is.rises) less within apart (subst A begins part) up;
     }

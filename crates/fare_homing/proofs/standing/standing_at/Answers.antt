@@ -43,17 +43,17 @@ loop-i-preserved c =
     let this_row : (rows : List (List (Option ℕ))) (row : List (Option ℕ)) (j : ℕ) → place < length rows → cell (set rows place row) place j ≡ rest_at row j =
     λ rows row j long. ap (λ (xs : List (Option ℕ)). slice_index_or xs j None) (get_or-set_same rows place row [] long) in
     let behind : c.start_at-start.result.behind ≡ place = c.start_at-start.ensures.behind in
-    let Rows : (ℕ → ℕ → Type 0) → (ℕ → ℕ → Option ℕ) → ℕ → (ℕ → Option ℕ) → Type 0 = λ worth stays i row. AreClosings tariff trip homing.ceiling worth After (cell homing.whole i) stays stand i row in
+    let Rows : (ℕ → ℕ → Type 0) → (ℕ → ℕ → Option ℕ) → ℕ → (ℕ → Option ℕ) → Type 0 = λ worth stays i row. AreClosings tariff trip homing.unit_ceiling worth After (cell homing.whole i) stays stand i row in
     let Second : ℕ → ℕ → Type 0 = λ j x. IsUpTo x (rest_at c.seconds_at-second.result j) in
     let Last : ℕ → ℕ → Type 0 = λ j x. IsUpTo x (rest_at c.lasts_at-last.result j) in
     let second : (j x : ℕ) → IsSecond tariff trip stand place j x → Second j x = λ j x is. c.seconds_at-second.ensures j x (subst (λ i. IsSecond tariff trip stand i j x) (sym behind) is) in
     let last_one : (j x : ℕ) → IsLast tariff trip stand place j x → Last j x = λ j x is. c.lasts_at-last.ensures j x (subst (λ i. IsLast tariff trip stand i j x) (sym behind) is) in
-    let one : AreNext tariff trip homing.ceiling Second After stand place (rest_at c.next_at-one.result) = subst (λ i. AreNext tariff trip homing.ceiling Second After stand i (rest_at c.next_at-one.result)) behind c.next_at-one.ensures in
-    let more : AreNext tariff trip homing.ceiling Last After stand place (rest_at c.next_at-more.result) = subst (λ i. AreNext tariff trip homing.ceiling Last After stand i (rest_at c.next_at-more.result)) behind c.next_at-more.ensures in
+    let one : AreNext tariff trip homing.unit_ceiling Second After stand place (rest_at c.next_at-one.result) = subst (λ i. AreNext tariff trip homing.unit_ceiling Second After stand i (rest_at c.next_at-one.result)) behind c.next_at-one.ensures in
+    let more : AreNext tariff trip homing.unit_ceiling Last After stand place (rest_at c.next_at-more.result) = subst (λ i. AreNext tariff trip homing.unit_ceiling Last After stand i (rest_at c.next_at-more.result)) behind c.next_at-more.ensures in
     let begun_here : Rows (IsSecond tariff trip stand place) (cell begun) place (rest_at new_begun) =
-    closings_of tariff trip homing.ceiling Second (IsSecond tariff trip stand place) After (cell homing.whole place) (cell begun) stand place (rest_at c.next_at-one.result) (rest_at new_begun) second one c.lowered_by-begun.ensures.kept c.lowered_by-begun.ensures.under in
+    closings_of tariff trip homing.unit_ceiling Second (IsSecond tariff trip stand place) After (cell homing.whole place) (cell begun) stand place (rest_at c.next_at-one.result) (rest_at new_begun) second one c.lowered_by-begun.ensures.kept c.lowered_by-begun.ensures.under in
     let closing_here : Rows (IsLast tariff trip stand place) (cell closing) place (rest_at new) =
-    closings_of tariff trip homing.ceiling Last (IsLast tariff trip stand place) After (cell homing.whole place) (cell closing) stand place (rest_at c.next_at-more.result) (rest_at new) last_one more c.lowered_by-closing.ensures.kept c.lowered_by-closing.ensures.under in
+    closings_of tariff trip homing.unit_ceiling Last (IsLast tariff trip stand place) After (cell homing.whole place) (cell closing) stand place (rest_at c.next_at-more.result) (rest_at new) last_one more c.lowered_by-closing.ensures.kept c.lowered_by-closing.ensures.under in
     record {
       long_begun = length-set begun place new_begun ∙ known.long_begun;
       long_closing = length-set closing place new ∙ known.long_closing;
@@ -61,17 +61,17 @@ loop-i-preserved c =
       begins = λ i low high. elim (cases_eq i place) [
         | inl same ↦
             let P : ℕ → Type 0 = λ k. Rows (IsSecond tariff trip stand k) (cell (set begun place new_begun)) k (cell (set begun place new_begun) k) in
-            subst P (sym same) (closings_same tariff trip homing.ceiling (IsSecond tariff trip stand place) After After (cell homing.whole place) (cell homing.whole place) (cell begun) (cell (set begun place new_begun)) stand place (rest_at new_begun) (cell (set begun place new_begun) place)
+            subst P (sym same) (closings_same tariff trip homing.unit_ceiling (IsSecond tariff trip stand place) After After (cell homing.whole place) (cell homing.whole place) (cell begun) (cell (set begun place new_begun)) stand place (rest_at new_begun) (cell (set begun place new_begun) place)
             (λ b j past. refl) (λ j. refl) (λ b j past. other_row begun new_begun b j (λ e. omega arith)) (λ j. this_row begun new_begun j (omega (arith, known.long_begun))) begun_here)
-        | inr other ↦ closings_same tariff trip homing.ceiling (IsSecond tariff trip stand i) After After (cell homing.whole i) (cell homing.whole i) (cell begun) (cell (set begun place new_begun)) stand i (cell begun i) (cell (set begun place new_begun) i)
+        | inr other ↦ closings_same tariff trip homing.unit_ceiling (IsSecond tariff trip stand i) After After (cell homing.whole i) (cell homing.whole i) (cell begun) (cell (set begun place new_begun)) stand i (cell begun i) (cell (set begun place new_begun) i)
             (λ b j past. refl) (λ j. refl) (λ b j past. other_row begun new_begun b j (λ e. omega arith)) (λ j. other_row begun new_begun i j other) (known.begins i (omega arith) high)
       ];
       closes = λ i low high. elim (cases_eq i place) [
         | inl same ↦
             let P : ℕ → Type 0 = λ k. Rows (IsLast tariff trip stand k) (cell (set closing place new)) k (cell (set closing place new) k) in
-            subst P (sym same) (closings_same tariff trip homing.ceiling (IsLast tariff trip stand place) After After (cell homing.whole place) (cell homing.whole place) (cell closing) (cell (set closing place new)) stand place (rest_at new) (cell (set closing place new) place)
+            subst P (sym same) (closings_same tariff trip homing.unit_ceiling (IsLast tariff trip stand place) After After (cell homing.whole place) (cell homing.whole place) (cell closing) (cell (set closing place new)) stand place (rest_at new) (cell (set closing place new) place)
             (λ b j past. refl) (λ j. refl) (λ b j past. other_row closing new b j (λ e. omega arith)) (λ j. this_row closing new j (omega (arith, known.long_closing))) closing_here)
-        | inr other ↦ closings_same tariff trip homing.ceiling (IsLast tariff trip stand i) After After (cell homing.whole i) (cell homing.whole i) (cell closing) (cell (set closing place new)) stand i (cell closing i) (cell (set closing place new) i)
+        | inr other ↦ closings_same tariff trip homing.unit_ceiling (IsLast tariff trip stand i) After After (cell homing.whole i) (cell homing.whole i) (cell closing) (cell (set closing place new)) stand i (cell closing i) (cell (set closing place new) i)
             (λ b j past. refl) (λ j. refl) (λ b j past. other_row closing new b j (λ e. omega arith)) (λ j. other_row closing new i j other) (known.closes i (omega arith) high)
       ];
       ends = λ i low high. elim (cases_eq i place) [

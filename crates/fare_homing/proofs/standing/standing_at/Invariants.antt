@@ -10,7 +10,7 @@ invariant-loop-i l = record {
   long_begun : length l.standing.begun ≡ 17;
   long_closing : length l.standing.closing ≡ 17;
   long_jaw : length l.standing.jaw ≡ 17;
-  begins : (i : ℕ) → l.i ≤ i → i < count l.table.trip → AreClosings l.table.edition l.table.trip l.homing.ceiling (IsSecond l.table.edition l.table.trip l.stand i) (λ b. closing_from l.homing b b) (cell l.homing.whole i) (cell l.standing.begun) l.stand i (cell l.standing.begun i);
-  closes : (i : ℕ) → l.i ≤ i → i < count l.table.trip → AreClosings l.table.edition l.table.trip l.homing.ceiling (IsLast l.table.edition l.table.trip l.stand i) (λ b. closing_from l.homing b b) (cell l.homing.whole i) (cell l.standing.closing) l.stand i (cell l.standing.closing i);
+  begins : (i : ℕ) → l.i ≤ i → i < count l.table.trip → AreClosings l.table.edition l.table.trip l.homing.unit_ceiling (IsSecond l.table.edition l.table.trip l.stand i) (λ b. closing_from l.homing b b) (cell l.homing.whole i) (cell l.standing.begun) l.stand i (cell l.standing.begun i);
+  closes : (i : ℕ) → l.i ≤ i → i < count l.table.trip → AreClosings l.table.edition l.table.trip l.homing.unit_ceiling (IsLast l.table.edition l.table.trip l.stand i) (λ b. closing_from l.homing b b) (cell l.homing.whole i) (cell l.standing.closing) l.stand i (cell l.standing.closing i);
   ends : (i : ℕ) → l.i ≤ i → i < count l.table.trip → AreJaws l.table.edition l.table.trip (cell l.homing.whole i) (cell l.standing.jaw) l.stand i (cell l.standing.jaw i);
 }

@@ -2,7 +2,7 @@
 
 use crate::tests::sources::LongSource;
 
-pub static SOURCES: [LongSource; 3] = [
+pub static SOURCES: [LongSource; 4] = [
     LongSource {
         name: "half round trips whose circle minima rule",
         tariff: "HEAD,1,1,2025-01-01\nCUR,AA,XAA,1.000000,2,1,U\nCUR,AB,XAB,1.000000,2,1,U\nCITY,CAA,AA,2\n\
@@ -121,5 +121,65 @@ pub static SOURCES: [LongSource; 3] = [
                     {\"to\":\"CAP\",\"carrier\":\"Q1\",\"day\":\"2025-04-15\",\"cabin\":\"Y\",\"stop\":true},\
                     {\"to\":\"CAA\",\"carrier\":\"Q1\",\"day\":\"2025-04-16\",\"cabin\":\"Y\",\"stop\":true}]}",
         price: Some(192_000),
+    },
+    LongSource {
+        name: "two circles beside whose like fares a cheap one has a dear reference",
+        tariff: "HEAD,1,1,2025-01-01\nCUR,AA,XAA,1.000000,2,1,U\nCUR,AB,XAB,1.000000,2,1,U\n\
+                 CUR,AC,XAC,1.000000,2,1,U\nCUR,AD,XAD,1.000000,2,1,U\nCUR,AE,XAE,1.000000,2,1,U\n\
+                 CUR,AF,XAF,1.000000,2,1,U\nCUR,AG,XAG,1.000000,2,1,U\nCUR,AH,XAH,1.000000,2,1,U\n\
+                 CUR,AI,XAI,1.000000,2,1,U\nCUR,AJ,XAJ,1.000000,2,1,U\nCUR,AK,XAK,1.000000,2,1,U\n\
+                 CUR,AL,XAL,1.000000,2,1,U\nCUR,AM,XAM,1.000000,2,1,U\nCUR,AN,XAN,1.000000,2,1,U\n\
+                 CUR,AO,XAO,1.000000,2,1,U\nCITY,CAA,AA,2\nCITY,CAB,AB,2\nCITY,CAC,AC,2\n\
+                 CITY,CAD,AD,2\nCITY,CAE,AE,2\nCITY,CAF,AF,2\nCITY,CAG,AG,2\nCITY,CAH,AH,2\n\
+                 CITY,CAI,AI,2\nCITY,CAJ,AJ,2\nCITY,CAK,AK,2\nCITY,CAL,AL,2\nCITY,CAM,AM,2\n\
+                 CITY,CAN,AN,2\nCITY,CAO,AO,2\nRULE,R0,16,16,0,0,999,Y,*,*\n\
+                 RULE,R1,16,16,0,0,999,Y,*,*\nRULE,R2,16,16,0,0,999,Y,*,*\n\
+                 FARE,CAA,CAB,EH,YY,Y,HR,R0,100.00\nFARE,CAA,CAB,EH,YY,Y,HR,R1,100.01\n\
+                 FARE,CAA,CAB,EH,YY,Y,HR,R2,60.00\nFARE,CAB,CAC,EH,YY,Y,HR,R0,100.00\n\
+                 FARE,CAB,CAC,EH,YY,Y,HR,R1,100.01\nFARE,CAB,CAC,EH,YY,Y,HR,R2,60.00\n\
+                 FARE,CAC,CAD,EH,YY,Y,HR,R0,100.00\nFARE,CAC,CAD,EH,YY,Y,HR,R1,100.01\n\
+                 FARE,CAC,CAD,EH,YY,Y,HR,R2,60.00\nFARE,CAD,CAE,EH,YY,Y,HR,R0,100.00\n\
+                 FARE,CAD,CAE,EH,YY,Y,HR,R1,100.01\nFARE,CAD,CAE,EH,YY,Y,HR,R2,60.00\n\
+                 FARE,CAE,CAF,EH,YY,Y,HR,R0,100.00\nFARE,CAE,CAF,EH,YY,Y,HR,R1,100.01\n\
+                 FARE,CAE,CAF,EH,YY,Y,HR,R2,60.00\nFARE,CAF,CAG,EH,YY,Y,HR,R0,100.00\n\
+                 FARE,CAF,CAG,EH,YY,Y,HR,R1,100.01\nFARE,CAF,CAG,EH,YY,Y,HR,R2,60.00\n\
+                 FARE,CAG,CAH,EH,YY,Y,HR,R0,100.00\nFARE,CAG,CAH,EH,YY,Y,HR,R1,100.01\n\
+                 FARE,CAG,CAH,EH,YY,Y,HR,R2,60.00\nFARE,CAA,CAH,EH,YY,Y,HR,R0,100.00\n\
+                 FARE,CAA,CAH,EH,YY,Y,HR,R1,100.01\nFARE,CAA,CAH,EH,YY,Y,HR,R2,60.00\n\
+                 FARE,CAA,CAC,EH,YY,Y,HR,R2,480.00\nFARE,CAA,CAD,EH,YY,Y,HR,R2,480.00\n\
+                 FARE,CAA,CAE,EH,YY,Y,HR,R2,480.00\nFARE,CAA,CAF,EH,YY,Y,HR,R2,480.00\n\
+                 FARE,CAA,CAG,EH,YY,Y,HR,R2,480.00\nFARE,CAA,CAI,EH,YY,Y,HR,R0,100.00\n\
+                 FARE,CAA,CAI,EH,YY,Y,HR,R1,100.01\nFARE,CAA,CAI,EH,YY,Y,HR,R2,60.00\n\
+                 FARE,CAI,CAJ,EH,YY,Y,HR,R0,100.00\nFARE,CAI,CAJ,EH,YY,Y,HR,R1,100.01\n\
+                 FARE,CAI,CAJ,EH,YY,Y,HR,R2,60.00\nFARE,CAJ,CAK,EH,YY,Y,HR,R0,100.00\n\
+                 FARE,CAJ,CAK,EH,YY,Y,HR,R1,100.01\nFARE,CAJ,CAK,EH,YY,Y,HR,R2,60.00\n\
+                 FARE,CAK,CAL,EH,YY,Y,HR,R0,100.00\nFARE,CAK,CAL,EH,YY,Y,HR,R1,100.01\n\
+                 FARE,CAK,CAL,EH,YY,Y,HR,R2,60.00\nFARE,CAL,CAM,EH,YY,Y,HR,R0,100.00\n\
+                 FARE,CAL,CAM,EH,YY,Y,HR,R1,100.01\nFARE,CAL,CAM,EH,YY,Y,HR,R2,60.00\n\
+                 FARE,CAM,CAN,EH,YY,Y,HR,R0,100.00\nFARE,CAM,CAN,EH,YY,Y,HR,R1,100.01\n\
+                 FARE,CAM,CAN,EH,YY,Y,HR,R2,60.00\nFARE,CAN,CAO,EH,YY,Y,HR,R0,100.00\n\
+                 FARE,CAN,CAO,EH,YY,Y,HR,R1,100.01\nFARE,CAN,CAO,EH,YY,Y,HR,R2,60.00\n\
+                 FARE,CAA,CAO,EH,YY,Y,HR,R0,100.00\nFARE,CAA,CAO,EH,YY,Y,HR,R1,100.01\n\
+                 FARE,CAA,CAO,EH,YY,Y,HR,R2,60.00\nFARE,CAA,CAJ,EH,YY,Y,HR,R2,480.00\n\
+                 FARE,CAA,CAK,EH,YY,Y,HR,R2,480.00\nFARE,CAA,CAL,EH,YY,Y,HR,R2,480.00\n\
+                 FARE,CAA,CAM,EH,YY,Y,HR,R2,480.00\nFARE,CAA,CAN,EH,YY,Y,HR,R2,480.00\nEND\n",
+        itinerary: "{\"sale\":\"2025-03-01\",\"from\":\"CAA\",\"sectors\":[\
+                    {\"to\":\"CAB\",\"carrier\":\"Q1\",\"day\":\"2025-04-01\",\"cabin\":\"Y\",\"stop\":true},\
+                    {\"to\":\"CAC\",\"carrier\":\"Q1\",\"day\":\"2025-04-02\",\"cabin\":\"Y\",\"stop\":true},\
+                    {\"to\":\"CAD\",\"carrier\":\"Q1\",\"day\":\"2025-04-03\",\"cabin\":\"Y\",\"stop\":true},\
+                    {\"to\":\"CAE\",\"carrier\":\"Q1\",\"day\":\"2025-04-04\",\"cabin\":\"Y\",\"stop\":true},\
+                    {\"to\":\"CAF\",\"carrier\":\"Q1\",\"day\":\"2025-04-05\",\"cabin\":\"Y\",\"stop\":true},\
+                    {\"to\":\"CAG\",\"carrier\":\"Q1\",\"day\":\"2025-04-06\",\"cabin\":\"Y\",\"stop\":true},\
+                    {\"to\":\"CAH\",\"carrier\":\"Q1\",\"day\":\"2025-04-07\",\"cabin\":\"Y\",\"stop\":true},\
+                    {\"to\":\"CAA\",\"carrier\":\"Q1\",\"day\":\"2025-04-08\",\"cabin\":\"Y\",\"stop\":true},\
+                    {\"to\":\"CAI\",\"carrier\":\"Q1\",\"day\":\"2025-04-09\",\"cabin\":\"Y\",\"stop\":true},\
+                    {\"to\":\"CAJ\",\"carrier\":\"Q1\",\"day\":\"2025-04-10\",\"cabin\":\"Y\",\"stop\":true},\
+                    {\"to\":\"CAK\",\"carrier\":\"Q1\",\"day\":\"2025-04-11\",\"cabin\":\"Y\",\"stop\":true},\
+                    {\"to\":\"CAL\",\"carrier\":\"Q1\",\"day\":\"2025-04-12\",\"cabin\":\"Y\",\"stop\":true},\
+                    {\"to\":\"CAM\",\"carrier\":\"Q1\",\"day\":\"2025-04-13\",\"cabin\":\"Y\",\"stop\":true},\
+                    {\"to\":\"CAN\",\"carrier\":\"Q1\",\"day\":\"2025-04-14\",\"cabin\":\"Y\",\"stop\":true},\
+                    {\"to\":\"CAO\",\"carrier\":\"Q1\",\"day\":\"2025-04-15\",\"cabin\":\"Y\",\"stop\":true},\
+                    {\"to\":\"CAA\",\"carrier\":\"Q1\",\"day\":\"2025-04-16\",\"cabin\":\"Y\",\"stop\":true}]}",
+        price: Some(136_000),
     },
 ];
