@@ -58,14 +58,6 @@ module _ (tariff : Tariff) (trip : Itinerary) (piece : Piece) where
         (λ parts is. any_either first.0 second.0 parts is) (λ parts is. any_left first.0 second.0 parts is) (λ parts is. any_right first.0 second.0 parts is),
   )
 
-  -- what dives that begin with nothing come to is told, and begins in the piece
-  pub dived_told : (a b low : ℕ) (found : Found) → low ≤ b → IsDived tariff trip piece a None b found → IsTold tariff trip low found
-  dived_told a b low found fallen dive = told_falls tariff trip b low found fallen (dive.2.told tt)
-
-  pub dived_begins : (a b : ℕ) (found : Found) → IsDived tariff trip piece a None b found → (parts : List Part) → IsHeld found parts → BeginsIn tariff trip piece parts
-  dived_begins a b found dive parts h =
-      elim (dive.2.walk.from parts h) [ inl none ↦ absurd none | inr is ↦ dive.1 parts is ]
-
   -- what goes on from a list that begins in a piece begins there too
   pub begins_longer : (front longer : List Part) → BeginsIn tariff trip piece front → Completes front longer → BeginsIn tariff trip piece longer
   begins_longer front longer b c = record {

@@ -77,22 +77,9 @@ module _ (tariff : Tariff) (trip : Itinerary) where
   begun_falls piece before after found falls b = record { told = told_falls tariff trip before after found falls b.told; begins = b.begins }
 
 module _ (share : Share) where
-  -- what costs more than the least price known is passed
-  pub dear_in : (least floor : ℕ) (best : Found) → least < floor → AllPassedFrom floor (IsPassedIn share least best)
-  dear_in least floor best dear parts price up = inr (inl (omega arith))
-
-  pub fallen_in : (before after : ℕ) (best : Found) → after ≤ before → IsStill (IsPassedIn share before best) (IsHeld best) (IsPassedIn share after best) (IsHeld best)
-  fallen_in before after best falls = record {
-    kept = λ parts price p. elim p [ inl e ↦ inl e | inr q ↦ inr (passed_falls before after best parts price falls q) ];
-    from = λ parts h. h;
-  }
-
-  -- and so is what goes on from parts that are beaten, or belong to another share
+  -- what goes on from parts that are beaten is passed
   pub beaten_in : (least floor : ℕ) (best : Found) (front : List Part) → is_beaten best front floor ≡ true → AllBehindPassed front floor (IsPassedIn share least best)
   beaten_in least floor best front h rest price up = inr (beaten_is_passed best front floor least h rest price up)
-
-  pub other_in : (least floor : ℕ) (best : Found) (front : List Part) → is_elsewhere share front ≡ true → AllBehindPassed front floor (IsPassedIn share least best)
-  other_in least floor best front h rest price up = inl (elsewhere_longer share front rest h)
 
   module _ (tariff : Tariff) (trip : Itinerary) where
     -- what a walk passes it passes in a share

@@ -14,8 +14,8 @@
 //! - `walking`: the walk over the constructions that begin with some parts, whatever it looks for;
 //! - `opening`: what a search begins with: dives for a price, and a ceiling below it;
 //! - `deepening`: a bound that dives once more where a search takes long;
-//! - `searching`: the search of a piece, and of a share of each of some pieces;
 //! - `plan`: what the searches of all shares stand on, and what they begin with;
+//! - `searching`: the search of a piece, and of a share of each of some pieces;
 //! - `quoter`: the quoter that searches all of them.
 //!
 //! Each of these stands on those above it.

@@ -5,6 +5,7 @@ ghost use Rattle.std.specs.Prelude.{◌≡◌, ◌≤◌, ◌<◌, None};
 ghost use Rattle.fare_bounds.specs.Covers.{rest_at};
 ghost use Rattle.fare_branch.specs.Dive.{IsDived};
 ghost use Rattle.fare_branch.specs.Opening.{is_far};
+ghost use Rattle.fare_branch.specs.Shares.{IsBegun};
 ghost use Rattle.fare_branch.specs.Walked.{IsUnderAll};
 ghost use Rattle.fare_homing.specs.Rows.{AreHomingsOf};
 
@@ -146,4 +147,24 @@ pub(crate) fn bring_closer(table: &Table, homing: &mut Homing, least: u64)
         Some(floor) if floor < least => add_barred(table, homing),
         _ => {}
     }
+}
+
+/// What dives come to in a piece. What is behind each point is then known for a search that begins with it.
+pub(crate) fn opened<B: Bound>(
+    table: &Table,
+    homing: &mut Homing,
+    piece: Piece,
+    bound: &mut B,
+) -> Found
+    requires homing { AreHomingsOf table.now.edition table.now.trip homing.old }
+    requires under { IsUnderAll table.now.edition table.now.trip (B.fixed bound.old) }
+    ensures homing { AreHomingsOf table.now.edition table.now.trip homing.new }
+    ensures fixed { B.fixed bound.new ≡ B.fixed bound.old }
+    ensures begun { IsBegun table.now.edition table.now.trip piece (B.least bound.new) result }
+{
+    let first = dives(table, homing, piece, bound);
+    let known = bound.seen();
+    raise(table, homing, known);
+    bring_closer(table, homing, known);
+    first
 }

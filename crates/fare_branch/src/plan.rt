@@ -5,9 +5,9 @@ ghost use Rattle.fare_branch.specs.LeastPrice.{least_price};
 ghost use Rattle.fare_homing.specs.Rows.{AreHomingsOf};
 
 use crate::bound::Bound;
+use crate::opening::opened;
 use crate::own_bound::OwnBound;
 use crate::pieces::{Piece, choices};
-use crate::searching::opened;
 use fare_component::Table;
 use fare_homing::Homing;
 

@@ -13,7 +13,7 @@ ghost use Rattle.fare_branch.specs.Walked.{IsUnderAll};
 
 use crate::best_so_far::{BestSoFar, Found};
 use crate::bound::Bound;
-use crate::opening::{bring_closer, dives, raise};
+use crate::opening::opened;
 use crate::pieces::{Counts, Piece, choice, choices, counts_of};
 use crate::plan::Plan;
 use crate::seeker::Seeker;
@@ -86,26 +86,6 @@ pub fn search_share<B: Bound>(plan: &Plan, number: u32, bound: &mut B) -> Finds
         finds.push(found);
     }
     finds
-}
-
-/// What dives come to in a piece. What is behind each point is then known for a search that begins with it.
-pub(crate) fn opened<B: Bound>(
-    table: &Table,
-    homing: &mut Homing,
-    piece: Piece,
-    bound: &mut B,
-) -> Found
-    requires homing { AreHomingsOf table.now.edition table.now.trip homing.old }
-    requires under { IsUnderAll table.now.edition table.now.trip (B.fixed bound.old) }
-    ensures homing { AreHomingsOf table.now.edition table.now.trip homing.new }
-    ensures fixed { B.fixed bound.new ≡ B.fixed bound.old }
-    ensures begun { IsBegun table.now.edition table.now.trip piece (B.least bound.new) result }
-{
-    let first = dives(table, homing, piece, bound);
-    let known = bound.seen();
-    raise(table, homing, known);
-    bring_closer(table, homing, known);
-    first
 }
 
 /// The best of a share of the constructions that begin in a piece, by a seeker that begins with what was dived for.
