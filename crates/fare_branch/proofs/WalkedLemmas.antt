@@ -1,5 +1,5 @@
 -- Walks for the best construction: what they leave out and take, and how they are put together.
-use Rattle.std.proofs.Common.{◌≡◌, ℕ, ◌<◌, ◌≤◌, ◌⊎◌, min, Bool, true, false, ◌&&◌, ◌||◌, not, List, [], ◌∷◌, ◌++◌, Option, Some, None, Result, Ok, Err, length, refl, ap, sym, subst, ◌∙◌, inl, inr, arith}
+use Rattle.std.proofs.Common.{◌≡◌, ℕ, ◌<◌, ◌≤◌, ◌⊎◌, min, Bool, true, false, ◌&&◌, ◌||◌, not, List, [], ◌∷◌, ◌++◌, Option, Some, None, Result, Ok, length, refl, ap, sym, subst, ◌∙◌, inl, inr, arith}
 use Rattle.std.specs.Prelude.{nat_le, nat_lt, ◌==◌}
 use Rattle.std.proofs.lemmas.Bool.{cases_Bool, cases_order, and_parts, or_cases, leb-true, ltb-true, eqb-true, eq-eqb}
 use Rattle.fare_trip.specs.Itinerary.{Itinerary}
@@ -7,13 +7,12 @@ use Rattle.fare_tariff.specs.Tariff.{Tariff}
 use Rattle.fare_rules.specs.declared.part.Part.{Part}
 use Rattle.fare_rules.specs.declared.broken.Broken.{Broken}
 use Rattle.fare_rules.specs.Best.{IsLawful}
-use Rattle.fare_rules.specs.Lawful.{lawful_price}
 use Rattle.fare_rules.specs.Order.{and_then, compare_parts, is_before, is_less, tie}
 use Rattle.fare_rules.proofs.OrderLemmas.{ListBefore, Before, before_tells, before_says}
 use Rattle.fare_units.specs.Walk.{TakesBetter, IsBound, IsList}
 use Rattle.fare_units.proofs.WalkLemmas.{before_before, not_before_itself}
 use Rattle.fare_branch.proofs.SoughtLemmas.{walk_after, walk_nothing, walk_then}
-use Rattle.fare_branch.specs.Sought.{AllBehindPassed, AllPassedFrom, IsStill, IsWalk}
+use Rattle.fare_branch.specs.Sought.{AllBehindPassed, AllPassedFrom, IsStill}
 use Rattle.fare_branch.specs.Walked.{IsBestWalk, IsPassed, IsTold, IsHeld, is_beaten, is_no_sooner}
 
 abbrev Found : Type 0
