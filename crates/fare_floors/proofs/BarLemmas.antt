@@ -1,16 +1,15 @@
 -- A unit that costs more than a ceiling, with the least that all others cost, is above the limit of a bar.
-use Rattle.std.proofs.Common.{◌≡◌, ℕ, zero, suc, ◌+◌, ◌-◌, ◌<◌, ◌≤◌, Bool, true, false, List, [], ◌∷◌, ◌++◌, length, refl, ap, sym, subst, ◌∙◌, inl, inr, arith}
-use Rattle.std.specs.Prelude.{Option, Some, None, IfSome, sum_by}
+use Rattle.std.proofs.Common.{◌≡◌, ℕ, zero, suc, ◌+◌, ◌-◌, ◌<◌, ◌≤◌, true, false, List, [], ◌∷◌, length, refl, ap, sym, subst, ◌∙◌, inl, inr, arith}
+use Rattle.std.specs.Prelude.{Some, None, IfSome, sum_by}
 use Rattle.std.specs.List.{range_with_len}
-use Rattle.std.proofs.lemmas.Bool.{cases_Bool, cases_lt}
+use Rattle.std.proofs.lemmas.Bool.{cases_lt}
 use Rattle.std.proofs.lemmas.List.Sums.{sum_by-cons}
 use Rattle.std.proofs.lemmas.Option.{same_Some}
-use Rattle.fare_trip.specs.Itinerary.{Itinerary, count}
-use Rattle.fare_tariff.specs.Tariff.{Tariff}
+use Rattle.fare_trip.specs.Itinerary.{count}
 use Rattle.fare_rules.specs.declared.part.Part.{Part}
 use Rattle.fare_rules.specs.Best.{IsLawful}
 use Rattle.fare_rules.specs.Construction.{begin_after, end_of, first_of, greatest_unit, last_of, own, places, start_of, unit_of}
-use Rattle.fare_rules.specs.Shape.{comes_home, holds_ow, is_ow}
+use Rattle.fare_rules.specs.Shape.{holds_ow, is_ow}
 use Rattle.fare_rules.specs.UnitPrice.{unit_price}
 use Rattle.fare_rules.proofs.MemberLemmas.{Member}
 use Rattle.fare_bounds.specs.Covers.{rest_at}
@@ -18,12 +17,11 @@ use Rattle.fare_component.specs.Table.{Pricing}
 use Rattle.fare_legs.specs.declared.ceiling.Ceiling.{Ceiling}
 use Rattle.fare_legs.specs.Ceiling.{HasOneIndicator}
 use Rattle.fare_legs.specs.Costs.{IsUpTo, is_same_city}
-use Rattle.fare_homing.specs.declared.homing.Bar.{Bar}
 use Rattle.fare_homing.specs.declared.homing.Homing.{Homing}
 use Rattle.fare_homing.specs.Rows.{begun_from, cell, closing_from, jaw_from, AreHomingsOf}
 use Rattle.fare_homing.specs.Units.{AreUnitsWithin, IsBar}
 use Rattle.fare_floors.specs.Costs.{true_cost, units_floor}
-use Rattle.fare_floors.specs.Stack.{goes_on, own_from, IsOver}
+use Rattle.fare_floors.specs.Stack.{own_from, IsOver}
 use Rattle.fare_floors.proofs.CostLemmas.{member_place}
 use Rattle.fare_floors.proofs.GoesOnLemmas.{first_member, last_member, own_first, own_two}
 use Rattle.fare_floors.proofs.OverLemmas.{all_over, begins_next, first_whole, half_shape, none_new, part_over, part_rises}

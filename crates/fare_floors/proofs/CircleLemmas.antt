@@ -1,10 +1,9 @@
 -- A part between the first and the last of a unit is not too dear for a ceiling that its construction is under: twice
 -- its reference from where the unit began is no more than the circle minimum, and that no more than the price.
 use Rattle.std.proofs.Common.{◌≡◌, ℕ, ◌+◌, ◌-◌, ◌*◌, ◌<◌, ◌≤◌, Bool, true, false, ◌&&◌, ◌||◌, eqb, ltb, List, [], ◌∷◌, length, refl, ap, sym, subst, ◌∙◌, inl, inr, arith}
-use Rattle.std.specs.Prelude.{Option, Some, None, option_and_then, option_map, sum_by, max}
+use Rattle.std.specs.Prelude.{Option, Some, None, option_and_then, option_map, max}
 use Rattle.std.specs.List.{list_any, list_all, range_with_len}
 use Rattle.std.proofs.lemmas.Bool.{cases_Bool, lt-ltb, le-leb, ltb-true, ne_eqb}
-use Rattle.std.proofs.lemmas.List.Sums.{sum_by-cons}
 use Rattle.std.proofs.lemmas.Option.{same_Some}
 use Rattle.fare_codes.specs.Amounts.{greater}
 use Rattle.fare_codes.specs.declared.city.City.{City}
@@ -19,22 +18,20 @@ use Rattle.fare_rules.specs.declared.part.Part.{Part}
 use Rattle.fare_rules.specs.declared.unit_sheet.UnitKind.TheVariants.{CT}
 use Rattle.fare_rules.specs.Best.{IsLawful}
 use Rattle.fare_rules.specs.Circle.{circle_reference, holds_sector, is_own_sector, own_sectors, part_points, part_stopovers, greatest_turning, twice, unit_circle_minimum}
-use Rattle.fare_rules.specs.Construction.{end_of, greatest_unit, last_of, origin, own, part_at, places, start_of, unit_of, units}
+use Rattle.fare_rules.specs.Construction.{end_of, last_of, origin, own, part_at, start_of, unit_of}
 use Rattle.fare_rules.specs.Indicator.{crosses_atlantic, crosses_pacific, indicator_by, indicator_of, is_within_one}
 use Rattle.fare_rules.specs.Numbers.{greatest_of, numbers}
 use Rattle.fare_rules.specs.Reference.{reference}
 use Rattle.fare_rules.specs.Shape.{closes, holds_ow, is_jaw, is_open_jaw}
 use Rattle.fare_rules.specs.Span.{first_day}
-use Rattle.fare_rules.specs.UnitPrice.{are_two_equal, at_least, is_round_trip, part_cost, price, unit_kind, unit_minimum, unit_price, unit_sheet, unit_sum}
-use Rattle.fare_rules.proofs.LawfulLemmas.{price_of_lawful}
+use Rattle.fare_rules.specs.UnitPrice.{are_two_equal, at_least, is_round_trip, part_cost, unit_kind, unit_minimum, unit_price, unit_sheet, unit_sum}
 use Rattle.fare_rules.proofs.MemberLemmas.{Member, member_filter, member_numbers, member_right}
 use Rattle.fare_component.specs.declared.table.entry.Entry.{Entry}
 use Rattle.fare_legs.specs.declared.ceiling.Ceiling.{Ceiling}
 use Rattle.fare_legs.specs.Ceiling.{HasOneIndicator, IsCeiling, IsWithin, below_ceiling, is_above, is_too_dear, reference_home}
 use Rattle.fare_floors.proofs.ShutLemmas.{any_at}
 use Rattle.fare_floors.proofs.SumLemmas.{kept_member}
-use Rattle.fare_floors.proofs.CostLemmas.{unit_from_one}
-use Rattle.fare_floors.proofs.UnitLemmas.{all, own_has, unit_in}
+use Rattle.fare_floors.proofs.UnitLemmas.{all, own_has}
 
 -- of two amounts the greater is no less than the first, and no less than the second
 greater_first : (a b : Option ℕ) (r : ℕ) → a ≡ Some r → (m : ℕ) × (greater a b ≡ Some m) × (r ≤ m)

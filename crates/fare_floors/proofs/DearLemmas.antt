@@ -1,5 +1,5 @@
 -- A part between that is too dear for a ceiling is in no construction whose units are under it.
-use Rattle.std.proofs.Common.{◌≡◌, ℕ, suc, ◌+◌, ◌<◌, ◌≤◌, Bool, true, false, ◌&&◌, List, [], ◌∷◌, ◌++◌, length, length-append, ap, sym, subst, ◌∙◌, refl, inl, inr, arith}
+use Rattle.std.proofs.Common.{◌≡◌, ℕ, suc, ◌+◌, ◌<◌, ◌≤◌, Bool, true, false, ◌&&◌, List, [], ◌∷◌, ◌++◌, length, length-append, ap, sym, subst, ◌∙◌, refl, inl, arith}
 use Rattle.std.specs.Prelude.{Option, Some, None, nat_lt}
 use Rattle.std.proofs.lemmas.Bool.{ltb-true}
 use Rattle.fare_trip.specs.Itinerary.{Itinerary, point}
@@ -10,7 +10,6 @@ use Rattle.fare_rules.specs.Completion.{IsCompletion}
 use Rattle.fare_rules.specs.Construction.{end_of, first_of, greatest_unit, last_of, own, origin, part_at, places, start_of, unit_of}
 use Rattle.fare_rules.specs.Shape.{holds_ow}
 use Rattle.fare_rules.specs.UnitPrice.{unit_price}
-use Rattle.fare_rules.proofs.MemberLemmas.{Member}
 use Rattle.fare_units.proofs.NextLemmas.{front_part, front_start, front_unit}
 use Rattle.fare_legs.specs.declared.ceiling.Ceiling.{Ceiling}
 use Rattle.fare_legs.specs.Ceiling.{HasOneIndicator, IsCeiling, is_too_dear}

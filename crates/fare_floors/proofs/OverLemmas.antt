@@ -26,7 +26,7 @@ use Rattle.fare_legs.specs.declared.ceiling.Ceiling.{Ceiling}
 use Rattle.fare_legs.specs.Ceiling.{IsCeiling, below_ceiling}
 use Rattle.fare_legs.specs.Costs.{IsUpTo, is_same_city, back_cost, between_cost, heads_to}
 use Rattle.fare_homing.specs.Homing.{closing_by, homing_at, may_end_at, may_go_on}
-use Rattle.fare_homing.specs.HomingRows.{IsLast, IsPart}
+use Rattle.fare_homing.specs.HomingRows.{IsLast}
 use Rattle.fare_homing.specs.Units.{AreUnitsWithin}
 use Rattle.fare_legs.specs.Owed.{IsOwed}
 use Rattle.fare_legs.specs.Barred.{is_barred}

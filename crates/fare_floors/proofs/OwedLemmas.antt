@@ -1,8 +1,8 @@
 -- The second of two parts with which a unit closes is worth no less than what the unit owes behind the first.
-use Rattle.std.proofs.Common.{◌≡◌, ℕ, zero, suc, ◌+◌, ◌-◌, ◌*◌, ◌<◌, ◌≤◌, Bool, true, false, ◌&&◌, ◌||◌, not, leb, ltb, List, [], ◌∷◌, ◌++◌, length, refl, ap, sym, subst, ◌∙◌, inl, inr, arith, min}
-use Rattle.std.specs.Prelude.{◌⊎◌, Option, Some, None, filter, option_and_then, option_map, bytes_eq, nat_lt}
-use Rattle.std.specs.List.{list_any, range_with_len}
-use Rattle.std.proofs.lemmas.Bool.{and_parts, cases_Bool, cases_lt, eqb-true, le-leb, lt-ltb, ltb-true}
+use Rattle.std.proofs.Common.{◌≡◌, ℕ, zero, suc, ◌+◌, ◌-◌, ◌*◌, ◌<◌, ◌≤◌, Bool, true, false, ◌&&◌, ◌||◌, not, leb, ltb, List, [], ◌∷◌, ◌++◌, length, refl, ap, sym, subst, ◌∙◌, inl, inr, arith}
+use Rattle.std.specs.Prelude.{◌⊎◌, Option, Some, None, filter, option_and_then, option_map, nat_lt}
+use Rattle.std.specs.List.{range_with_len}
+use Rattle.std.proofs.lemmas.Bool.{and_parts, cases_Bool, eqb-true, le-leb, lt-ltb, ltb-true}
 use Rattle.std.proofs.lemmas.List.Elements.{filter-append}
 use Rattle.fare_codes.specs.declared.nuc.Nuc.{Nuc}
 use Rattle.fare_codes.specs.declared.indicator.Indicator.{Indicator}
@@ -14,7 +14,7 @@ use Rattle.fare_rules.specs.declared.unit_sheet.UnitKind.TheVariants.{CT}
 use Rattle.fare_rules.specs.Best.{IsLawful}
 use Rattle.fare_rules.specs.Circle.{circle_reference, holds_sector, is_own_sector, own_sectors}
 use Rattle.fare_rules.specs.Construction.{end_city, end_of, fare_of, first_of, is_own, last_of, own, part_at, start_city, start_of, unit_of}
-use Rattle.fare_rules.specs.Indicator.{indicator, indicator_of}
+use Rattle.fare_rules.specs.Indicator.{indicator_of}
 use Rattle.fare_rules.specs.Numbers.{numbers}
 use Rattle.fare_rules.specs.Reference.{reference}
 use Rattle.fare_rules.specs.Shape.{closes, holds_ow, is_open_jaw, is_ow}
@@ -22,7 +22,7 @@ use Rattle.fare_rules.specs.Span.{first_day, sectors}
 use Rattle.fare_rules.specs.UnitPrice.{are_two_equal, is_round_trip, part_cost, unit_kind, unit_price}
 use Rattle.fare_rules.proofs.MemberLemmas.{Member}
 use Rattle.fare_legs.specs.Costs.{is_same_city}
-use Rattle.fare_legs.specs.Owed.{IsOwed, owed_above, owed_by, reference_over}
+use Rattle.fare_legs.specs.Owed.{IsOwed, owed_above, reference_over}
 use Rattle.fare_floors.specs.Costs.{true_cost}
 use Rattle.fare_floors.specs.Stack.{has_more, own_to}
 use Rattle.fare_floors.proofs.CircleLemmas.{turning_in_unit}

@@ -18,7 +18,7 @@ use Rattle.fare_rules.specs.Construction.{start_of, end_of, part_at, places, own
 use Rattle.fare_rules.specs.ComponentAmount.{component_amount}
 use Rattle.fare_rules.specs.Shape.{is_ow, holds_ow, is_hr, is_same_country, lie_together}
 use Rattle.fare_rules.specs.Direction.{is_back, is_back_in}
-use Rattle.fare_rules.specs.UnitPrice.{unit_price, unit_sheet, unit_sum, unit_minimum, unit_kind, part_amount, part_cost, at_least}
+use Rattle.fare_rules.specs.UnitPrice.{unit_price, unit_sheet, unit_sum, unit_minimum, unit_kind, part_amount, part_cost}
 use Rattle.fare_rules.specs.Best.{IsLawful}
 use Rattle.fare_rules.proofs.NumberLemmas.{any_kept_none}
 use Rattle.fare_rules.proofs.LawfulLemmas.{kept}

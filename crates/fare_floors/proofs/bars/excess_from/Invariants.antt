@@ -1,6 +1,5 @@
 -- the excess is no more than that of the units that come home before this point
 use Rattle.std.proofs.Common.{◌≡◌, ℕ, ◌-◌, ◌<◌, ◌≤◌, Some, true}
-use Rattle.fare_trip.specs.Itinerary.{count}
 use Rattle.fare_rules.specs.Construction.{begin_after}
 use Rattle.fare_homing.specs.Rows.{cell}
 use Rattle.fare_legs.specs.Costs.{is_same_city}
