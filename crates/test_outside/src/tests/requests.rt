@@ -88,6 +88,7 @@ fn taken(alloc: Global, bytes: &[u8]) -> Result<Taken, Fail> {
     Ok(read_request(alloc, &mut door))
 }
 
+/// The answer to a request that no handler sees; nothing where there is none.
 fn fixed_text(alloc: Global, bytes: &[u8]) -> Result<Vec<u8>, Fail> {
     match taken(alloc, bytes)? {
         Taken::Fixed(reply) => Ok(Vec::from_slice(alloc, reply.body.as_slice())?),
@@ -95,57 +96,69 @@ fn fixed_text(alloc: Global, bytes: &[u8]) -> Result<Vec<u8>, Fail> {
     }
 }
 
+fn whole_request(alloc: Global, bytes: &[u8]) -> Result<Request, Fail> {
+    match taken(alloc, bytes)? {
+        Taken::Whole(request) => Ok(request),
+        Taken::Fixed(_) | Taken::NoMemory | Taken::Cut => Err("a whole request")?,
+    }
+}
+
 #[test]
 fn a_request_is_read_in_pieces(rt: HostRuntime) -> Result<(), Fail> {
-    let request = b"POST /quote?now HTTP/1.1\r\nHost: a\r\ncontent-length: 05\r\n\r\nabcdefg";
-    match taken(rt.alloc(), request)? {
-        Taken::Whole(request) => {
-            assert_eq!(rt; request.method.as_str(), "POST");
-            assert_eq!(rt; request.path.as_str(), "/quote");
-            assert_eq!(rt; request.body.as_slice(), b"abcde".as_slice());
-        }
-        Taken::Fixed(_) | Taken::NoMemory | Taken::Cut => assert!(rt; false),
+    let bytes = b"POST /quote?now HTTP/1.1\r\nHost: a\r\ncontent-length: 05\r\n\r\nabcdefg";
+    let request = whole_request(rt.alloc(), bytes)?;
+    assert!(rt; request.method.as_str() == "POST");
+    assert!(rt; request.path.as_str() == "/quote");
+    assert!(rt; request.body.as_slice() == b"abcde".as_slice());
+    Ok(())
+}
+
+/// Requests that no handler sees, and what the first failing step answers.
+static FIXED: [(&[u8], &[u8]); 4] = [
+    (b"GET /\x01 HTTP/1.1\r\n\r\n", b"BAD HEAD\n"),
+    (
+        b"GET / HTTP/1.1\r\nTRANSFER-encoding: x\r\nContent-Length: y\r\n\r\n",
+        b"CODED BODY\n",
+    ),
+    (
+        b"GET / HTTP/1.1\r\nContent-Length: 1\r\nContent-Length: 1\r\n\r\na",
+        b"BAD LENGTH\n",
+    ),
+    (
+        b"GET / HTTP/1.1\r\nContent-Length: 16777217\r\n\r\n",
+        b"LIMIT\n",
+    ),
+];
+
+#[test]
+fn the_first_failing_step_answers(rt: HostRuntime) -> Result<(), Fail> {
+    for (request, answer) in &FIXED {
+        let found = fixed_text(rt.alloc(), request)?;
+        assert!(rt; found.as_slice() == *answer);
     }
     Ok(())
 }
 
-#[test]
-fn the_first_failing_step_answers(rt: HostRuntime) -> Result<(), Fail> {
-    let alloc = rt.alloc();
-    let bad = fixed_text(alloc, b"GET /\x01 HTTP/1.1\r\n\r\n")?;
-    assert_eq!(rt; bad.as_slice(), b"BAD HEAD\n".as_slice());
-    let coded = fixed_text(
-        alloc,
-        b"GET / HTTP/1.1\r\nTRANSFER-encoding: x\r\nContent-Length: y\r\n\r\n",
-    )?;
-    assert_eq!(rt; coded.as_slice(), b"CODED BODY\n".as_slice());
-    let twice = fixed_text(
-        alloc,
-        b"GET / HTTP/1.1\r\nContent-Length: 1\r\nContent-Length: 1\r\n\r\na",
-    )?;
-    assert_eq!(rt; twice.as_slice(), b"BAD LENGTH\n".as_slice());
-    let long = fixed_text(alloc, b"GET / HTTP/1.1\r\nContent-Length: 16777217\r\n\r\n")?;
-    assert_eq!(rt; long.as_slice(), b"LIMIT\n".as_slice());
-    Ok(())
-}
-
-#[test]
-fn a_reply_is_sent(rt: HostRuntime) -> Result<(), Fail> {
-    let alloc = rt.alloc();
-    let mut door = door_with(alloc, b"")?;
+fn refusal(alloc: Global) -> Result<Reply, Fail> {
     let mut body = Bytes::new(alloc);
     body.extend(b"[405]\n")?;
-    let reply = Reply {
+    Ok(Reply {
         status: Status::MethodNotAllowed,
         form: Form::Json,
         allow: Allow::Post,
         body,
-    };
-    assert_eq!(rt; send(&mut door, Some(&reply)), Exchange::Served);
-    let answer =
+    })
+}
+
+#[test]
+fn a_reply_is_sent(rt: HostRuntime) -> Result<(), Fail> {
+    let mut door = door_with(rt.alloc(), b"")?;
+    let reply = refusal(rt.alloc())?;
+    assert!(rt; send(&mut door, Some(&reply)) == Exchange::Served);
+    let answer: &[u8] =
         b"HTTP/1.1 405 Method Not Allowed\r\nContent-Type: application/json\r\nContent-Length: 6\r\n\
 Allow: POST\r\nConnection: close\r\n\r\n[405]\n";
-    assert_eq!(rt; door.sent.as_slice(), answer.as_slice());
+    assert!(rt; door.sent.as_slice() == answer);
     Ok(())
 }
 
@@ -178,31 +191,39 @@ impl Handler for Echo {
     }
 }
 
-#[test]
-fn only_a_whole_request_reaches_the_handler(rt: HostRuntime) -> Result<(), Fail> {
-    let alloc = rt.alloc();
-    let mut handler = Echo { asked: 0 };
-    let mut door = door_with(alloc, b"PUT / HTTP/1.0\nContent-Length: 2\n\nabc")?;
-    assert_eq!(rt;
-        exchange(&rt, alloc, &mut door, &mut handler),
-        Exchange::Served
-    );
-    let answer = b"HTTP/1.1 200 OK\r\nContent-Type: text/plain\r\nContent-Length: 2\r\n\
-Connection: close\r\n\r\nab";
-    assert_eq!(rt; door.sent.as_slice(), answer.as_slice());
-    assert_eq!(rt; handler.asked, 1);
+/// How the exchange over a connection with these bytes ends, and what is sent.
+fn exchanged<R: AllocGlobal + Threads + Sync>(
+    rt: &R,
+    bytes: &[u8],
+    handler: &mut Echo,
+) -> Result<(Exchange, Vec<u8>), Fail> {
+    let mut door = door_with(rt.alloc(), bytes)?;
+    let ending = exchange(rt, rt.alloc(), &mut door, handler);
+    Ok((ending, door.sent))
+}
 
-    let mut door = door_with(alloc, b"PUT / HTTP/1.0\nContent-Length: 3\n\nab")?;
-    assert_eq!(rt;
-        exchange(&rt, alloc, &mut door, &mut handler),
-        Exchange::Cut
-    );
-    assert_eq!(rt; door.sent.len(), 0);
-    let mut door = door_with(alloc, b"PUT / HTTP/1.0\nContent-Length: x\n\n")?;
-    assert_eq!(rt;
-        exchange(&rt, alloc, &mut door, &mut handler),
-        Exchange::Served
-    );
-    assert_eq!(rt; handler.asked, 1);
+#[test]
+fn a_whole_request_reaches_the_handler(rt: HostRuntime) -> Result<(), Fail> {
+    let mut handler = Echo { asked: 0 };
+    let whole = b"PUT / HTTP/1.0\nContent-Length: 2\n\nabc";
+    let (ending, sent) = exchanged(&rt, whole, &mut handler)?;
+    assert!(rt; ending == Exchange::Served);
+    let answer: &[u8] = b"HTTP/1.1 200 OK\r\nContent-Type: text/plain\r\nContent-Length: 2\r\n\
+Connection: close\r\n\r\nab";
+    assert!(rt; sent.as_slice() == answer);
+    assert!(rt; handler.asked == 1);
+    Ok(())
+}
+
+#[test]
+fn no_other_request_reaches_the_handler(rt: HostRuntime) -> Result<(), Fail> {
+    let mut handler = Echo { asked: 0 };
+    let early = b"PUT / HTTP/1.0\nContent-Length: 3\n\nab";
+    let (ending, sent) = exchanged(&rt, early, &mut handler)?;
+    assert!(rt; ending == Exchange::Cut && sent.is_empty());
+    let bad = b"PUT / HTTP/1.0\nContent-Length: x\n\n";
+    let (ending, _sent) = exchanged(&rt, bad, &mut handler)?;
+    assert!(rt; ending == Exchange::Served);
+    assert!(rt; handler.asked == 0);
     Ok(())
 }

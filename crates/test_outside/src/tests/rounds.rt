@@ -150,6 +150,7 @@ fn failing_door(alloc: Global, connections: &[&[u8]], fail: Vec<u32>) -> Result<
     Ok(MemDoor::new(alloc, waiting, 4096, fail)?)
 }
 
+/// Serves a round at a door that holds no connection.
 fn serve<R: Threads + Sync, H: RoundHandler>(
     rt: &R,
     alloc: Global,
@@ -163,6 +164,62 @@ fn serve<R: Threads + Sync, H: RoundHandler>(
     ensures { door.new.held ≡ [] }
 {
     serve_round(rt, alloc, door, clerk, most)
+}
+
+/// How a round ends, and the door behind it.
+#[derive(Drop)]
+struct Outcome {
+    end: DoorEnd,
+    counts: Counts,
+    door: MemDoor,
+}
+
+impl Outcome {
+    fn counts_are(&self, served: u32, cut: u32) -> bool {
+        self.counts.served == served && self.counts.cut == cut
+    }
+
+    /// Whether these answers were sent, each on the connection at its place.
+    fn sent(&self, answers: &[&[u8]]) -> bool {
+        for (i, answer) in answers.iter().enumerate() {
+            if !was_sent(&self.door, i, answer) {
+                return false;
+            }
+        }
+        true
+    }
+}
+
+/// Serves one round of these connections, by a clerk who holds this list.
+fn served<R: AllocGlobal + Threads + Sync>(
+    rt: &R,
+    list: &[u8],
+    connections: &[&[u8]],
+    most: u32,
+) -> Result<Outcome, Fail>
+    requires some { 1 ≤ most }
+    requires few { most ≤ 8 }
+{
+    let mut clerk = clerk_with(rt.alloc(), list)?;
+    let mut door = door_of(rt.alloc(), connections)?;
+    let (end, counts) = serve(rt, rt.alloc(), &mut door, &mut clerk, most);
+    Ok(Outcome { end, counts, door })
+}
+
+/// Serves two rounds of these connections, by a clerk whose list is empty.
+fn served_twice<R: AllocGlobal + Threads + Sync>(
+    rt: &R,
+    connections: &[&[u8]],
+    most: u32,
+) -> Result<((DoorEnd, Counts), Outcome), Fail>
+    requires some { 1 ≤ most }
+    requires few { most ≤ 8 }
+{
+    let mut clerk = clerk_with(rt.alloc(), b"")?;
+    let mut door = door_of(rt.alloc(), connections)?;
+    let first = serve(rt, rt.alloc(), &mut door, &mut clerk, most);
+    let (end, counts) = serve(rt, rt.alloc(), &mut door, &mut clerk, most);
+    Ok((first, Outcome { end, counts, door }))
 }
 
 fn was_sent(door: &MemDoor, i: usize, bytes: &[u8]) -> bool {

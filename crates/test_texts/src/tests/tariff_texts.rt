@@ -49,22 +49,24 @@ fn fault_of<R: AllocGlobal + Threads + Sync>(rt: &R, text: &[u8]) -> ArrayString
     }
 }
 
+/// Texts that are no tariff, with their first faults.
+static FAULTS: [(&[u8], &str); 6] = [
+    (b"", "TARIFF 1 NoHeader"),
+    (b"HEAD,1,1,2025-01-01\n", "TARIFF 2 NoEnd"),
+    (b"HEAD,3,1,2025-01-01\n", "TARIFF 1 BadRecord 2"),
+    (b"HEAD,1,1,2025-01-01\nHEAD\n", "TARIFF 2 UnknownRecord"),
+    (b"HEAD,1,1,2025-01-01\nEND\nEND\n", "TARIFF 3 AfterEnd"),
+    (
+        b"HEAD,1,1,2025-01-01\nTPM,LON,PAR,1\nTPM,PAR,LON,1\nEND\n",
+        "TARIFF 2 UnknownCity",
+    ),
+];
+
 #[test]
-fn faults_are_told(rt: HostRuntime) -> Result<(), Fail> {
-    assert!(rt; fault_of(&rt, b"").as_str() == "TARIFF 1 NoHeader");
-    assert!(rt; fault_of(&rt, b"HEAD,1,1,2025-01-01\n").as_str() == "TARIFF 2 NoEnd");
-    assert!(rt; fault_of(&rt, b"HEAD,3,1,2025-01-01\n").as_str() == "TARIFF 1 BadRecord 2");
-    assert!(rt; fault_of(&rt, b"HEAD,1,1,2025-01-01\nHEAD\n").as_str() == "TARIFF 2 UnknownRecord");
-    assert!(rt; fault_of(&rt, b"HEAD,1,1,2025-01-01\nEND\nEND\n").as_str() == "TARIFF 3 AfterEnd");
-    assert!(rt;
-        fault_of(
-            &rt,
-            b"HEAD,1,1,2025-01-01\nTPM,LON,PAR,1\nTPM,PAR,LON,1\nEND\n"
-        )
-        .as_str()
-            == "TARIFF 2 UnknownCity"
-    );
-    Ok(())
+fn faults_are_told(rt: HostRuntime) {
+    for (text, fault) in &FAULTS {
+        assert!(rt; fault_of(&rt, text).as_str() == *fault, "{fault}");
+    }
 }
 
 /// A text of more than 256 KiB without its END, which has a record of each city that there may be.

@@ -1,8 +1,6 @@
 //! Rounds as their clients see them: who is answered, in which order, and from which book.
 
-use super::{
-    EDITION_7, LIST, LISTED_7, NO_TEXT, PUBLISHED_7, clerk_with, door_of, serve, was_sent,
-};
+use super::{EDITION_7, LIST, LISTED_7, NO_TEXT, PUBLISHED_7, served, served_twice, was_sent};
 use fare_rounds::*;
 use std::test::Fail;
 
@@ -32,128 +30,98 @@ FARE,YYZ,LAX,WH,YY,F,HR,,01-01,12-31,450.00\nFARE,LAX,YYZ,WH,YY,F,HR,,01-01,12-3
 FARE,YYZ,NYC,AT,YY,F,HR,,01-01,12-31,679.35\nFARE,YYZ,LAX,EH,YY,Y,HR,,01-01,12-31,118.19\n\
 FARE,YYZ,LAX,PA,YY,F,HR,,01-01,12-31,414.43\nTPM,YYZ,LAX,496\nTPM,LAX,NYC,752\nEND\n";
 
+/// A publication, and the list.
+static PUBLISHED_AND_LISTED: [&[u8]; 2] = [EDITION_7, LIST];
+
+static PUBLISHED_AND_NONE: [&[u8]; 2] = [PUBLISHED_7, NO_TEXT];
+
 #[test]
 fn a_publication_comes_after_what_is_only_asked(rt: HostRuntime) -> Result<(), Fail> {
-    let alloc = rt.alloc();
-    let mut clerk = clerk_with(alloc, b"")?;
-    let mut door = door_of(alloc, &[EDITION_7, LIST])?;
-    let (end, counts) = serve(&rt, alloc, &mut door, &mut clerk, 2);
-    assert_eq!(rt; end, DoorEnd::Open);
-    assert_eq!(rt; counts, Counts { served: 2, cut: 0 });
-    assert!(rt; was_sent(&door, 0, PUBLISHED_7));
-    assert!(rt; was_sent(&door, 1, NO_TEXT));
-    let (end, counts) = serve(&rt, alloc, &mut door, &mut clerk, 2);
-    assert_eq!(rt; end, DoorEnd::NoMore);
-    assert_eq!(rt; counts, Counts { served: 0, cut: 0 });
+    let (first, second) = served_twice(&rt, &PUBLISHED_AND_LISTED, 2)?;
+    assert!(rt; first == (DoorEnd::Open, Counts { served: 2, cut: 0 }));
+    assert!(rt; second.end == DoorEnd::NoMore && second.counts_are(0, 0));
+    assert!(rt; second.sent(&PUBLISHED_AND_NONE));
     Ok(())
 }
 
 #[test]
 fn a_round_of_one_is_serving(rt: HostRuntime) -> Result<(), Fail> {
-    let alloc = rt.alloc();
-    let mut clerk = clerk_with(alloc, b"")?;
-    let mut door = door_of(alloc, &[EDITION_7, LIST])?;
-    let (_, counts) = serve(&rt, alloc, &mut door, &mut clerk, 1);
-    assert_eq!(rt; counts, Counts { served: 1, cut: 0 });
-    let (_, counts) = serve(&rt, alloc, &mut door, &mut clerk, 1);
-    assert_eq!(rt; counts, Counts { served: 1, cut: 0 });
-    assert!(rt; was_sent(&door, 1, LISTED_7));
+    let (first, second) = served_twice(&rt, &PUBLISHED_AND_LISTED, 1)?;
+    assert!(rt; first.1.served == 1 && first.1.cut == 0);
+    assert!(rt; second.counts_are(1, 0));
+    assert!(rt; was_sent(&second.door, 1, LISTED_7));
     Ok(())
 }
+
+/// One edition that is published twice, and what is answered.
+static TWICE: [&[u8]; 2] = [EDITION_7, EDITION_7];
+
+static NEW_AND_KNOWN: [&[u8]; 2] = [
+    PUBLISHED_7,
+    b"HTTP/1.1 200 OK\r\nContent-Type: text/plain\r\n\
+Content-Length: 10\r\nConnection: close\r\n\r\nALREADY 7\n",
+];
 
 #[test]
 fn publications_take_turns(rt: HostRuntime) -> Result<(), Fail> {
-    let alloc = rt.alloc();
-    let mut clerk = clerk_with(alloc, b"")?;
-    let mut door = door_of(alloc, &[EDITION_7, EDITION_7])?;
-    serve(&rt, alloc, &mut door, &mut clerk, 2);
-    assert!(rt; was_sent(&door, 0, PUBLISHED_7));
-    assert!(rt;
-        was_sent(
-            &door,
-            1,
-            b"HTTP/1.1 200 OK\r\nContent-Type: text/plain\r\n\
-Content-Length: 10\r\nConnection: close\r\n\r\nALREADY 7\n"
-        )
-    );
+    let round = served(&rt, b"", &TWICE, 2)?;
+    assert!(rt; round.sent(&NEW_AND_KNOWN));
     Ok(())
 }
+
+/// No route, a publication, and a method that the route hasn't, and what is answered.
+static THREE: [&[u8]; 3] = [
+    b"GET //editions HTTP/1.0\r\nhost:x\r\n\r\n",
+    EDITION_73,
+    b"M-SEARCH /editions HTTP/1.1\r\nhost:x\r\n\r\nGET / HTTP/1.1\r\n\r\n",
+];
+
+static ANSWERS_TO_THREE: [&[u8]; 3] = [
+    b"HTTP/1.1 404 Not Found\r\nContent-Type: text/plain\r\n\
+Content-Length: 9\r\nConnection: close\r\n\r\nNO ROUTE\n",
+    b"HTTP/1.1 201 Created\r\nContent-Type: text/plain\r\n\
+Content-Length: 13\r\nConnection: close\r\n\r\nPUBLISHED 73\n",
+    b"HTTP/1.1 405 Method Not Allowed\r\nContent-Type: text/plain\r\n\
+Content-Length: 7\r\nAllow: GET\r\nConnection: close\r\n\r\nMETHOD\n",
+];
 
 #[test]
 fn a_round_keeps_the_order_of_its_connections(rt: HostRuntime) -> Result<(), Fail> {
-    let alloc = rt.alloc();
-    let mut clerk = clerk_with(alloc, b"")?;
-    let connections: [&[u8]; 3] = [
-        b"GET //editions HTTP/1.0\r\nhost:x\r\n\r\n",
-        EDITION_73,
-        b"M-SEARCH /editions HTTP/1.1\r\nhost:x\r\n\r\nGET / HTTP/1.1\r\n\r\n",
-    ];
-    let mut door = door_of(alloc, &connections)?;
-    let (_, counts) = serve(&rt, alloc, &mut door, &mut clerk, 3);
-    assert_eq!(rt; counts, Counts { served: 3, cut: 0 });
-    assert!(rt;
-        was_sent(
-            &door,
-            0,
-            b"HTTP/1.1 404 Not Found\r\nContent-Type: text/plain\r\n\
-Content-Length: 9\r\nConnection: close\r\n\r\nNO ROUTE\n"
-        )
-    );
-    assert!(rt;
-        was_sent(
-            &door,
-            1,
-            b"HTTP/1.1 201 Created\r\nContent-Type: text/plain\r\n\
-Content-Length: 13\r\nConnection: close\r\n\r\nPUBLISHED 73\n"
-        )
-    );
-    assert!(rt;
-        was_sent(
-            &door,
-            2,
-            b"HTTP/1.1 405 Method Not Allowed\r\nContent-Type: text/plain\r\n\
-Content-Length: 7\r\nAllow: GET\r\nConnection: close\r\n\r\nMETHOD\n"
-        )
-    );
+    let round = served(&rt, b"", &THREE, 3)?;
+    assert!(rt; round.counts_are(3, 0));
+    assert!(rt; round.sent(&ANSWERS_TO_THREE));
     Ok(())
 }
 
+/// The list of a book of two editions, and what is answered.
+const TWO_EDITIONS: &[u8] = b"EDITION 18 2025-01-01 29\nEDITION 59 2025-01-01 68\n";
+
+const TWO_LISTED: &[u8] = b"HTTP/1.1 200 OK\r\nContent-Type: text/plain\r\nContent-Length: 50\r\n\
+Connection: close\r\n\r\nEDITION 18 2025-01-01 29\nEDITION 59 2025-01-01 68\n";
+
+const LIST_OF_1_0: &[u8] = b"GET /editions HTTP/1.0\r\nHost: localhost\r\n\r\n";
+
+/// A publication, the list twice, and the batch by a method that it hasn't, and what is answered.
+static FOUR: [&[u8]; 4] = [
+    EDITION_51,
+    LIST_OF_1_0,
+    LIST_OF_1_0,
+    b"OPTIONS /batch HTTP/1.1\r\nAccept: */*\r\nContent-Length:\t2\r\nX: \r\n\r\n[]tail",
+];
+
+static ANSWERS_TO_FOUR: [&[u8]; 4] = [
+    b"HTTP/1.1 201 Created\r\nContent-Type: text/plain\r\n\
+Content-Length: 13\r\nConnection: close\r\n\r\nPUBLISHED 51\n",
+    TWO_LISTED,
+    TWO_LISTED,
+    b"HTTP/1.1 405 Method Not Allowed\r\nContent-Type: text/plain\r\n\
+Content-Length: 7\r\nAllow: POST\r\nConnection: close\r\n\r\nMETHOD\n",
+];
+
 #[test]
 fn a_round_sees_the_book_at_its_start(rt: HostRuntime) -> Result<(), Fail> {
-    let alloc = rt.alloc();
-    let mut clerk = clerk_with(
-        alloc,
-        b"EDITION 18 2025-01-01 29\nEDITION 59 2025-01-01 68\n",
-    )?;
-    let list = b"GET /editions HTTP/1.0\r\nHost: localhost\r\n\r\n";
-    let connections: [&[u8]; 4] = [
-        EDITION_51,
-        list,
-        list,
-        b"OPTIONS /batch HTTP/1.1\r\nAccept: */*\r\nContent-Length:\t2\r\nX: \r\n\r\n[]tail",
-    ];
-    let mut door = door_of(alloc, &connections)?;
-    let (_, counts) = serve(&rt, alloc, &mut door, &mut clerk, 7);
-    assert_eq!(rt; counts, Counts { served: 4, cut: 0 });
-    assert!(rt;
-        was_sent(
-            &door,
-            0,
-            b"HTTP/1.1 201 Created\r\nContent-Type: text/plain\r\n\
-Content-Length: 13\r\nConnection: close\r\n\r\nPUBLISHED 51\n"
-        )
-    );
-    let listed = b"HTTP/1.1 200 OK\r\nContent-Type: text/plain\r\nContent-Length: 50\r\n\
-Connection: close\r\n\r\nEDITION 18 2025-01-01 29\nEDITION 59 2025-01-01 68\n";
-    assert!(rt; was_sent(&door, 1, listed));
-    assert!(rt; was_sent(&door, 2, listed));
-    assert!(rt;
-        was_sent(
-            &door,
-            3,
-            b"HTTP/1.1 405 Method Not Allowed\r\nContent-Type: text/plain\r\n\
-Content-Length: 7\r\nAllow: POST\r\nConnection: close\r\n\r\nMETHOD\n"
-        )
-    );
+    let round = served(&rt, TWO_EDITIONS, &FOUR, 7)?;
+    assert!(rt; round.counts_are(4, 0));
+    assert!(rt; round.sent(&ANSWERS_TO_FOUR));
     Ok(())
 }

@@ -2,7 +2,7 @@
 
 ghost use Rattle.std.specs.Prelude.{⊤};
 
-use super::{NO_TEXT, door_of, reply, serve, was_sent};
+use super::{NO_TEXT, Outcome, door_of, reply, serve};
 use fare_http::{Allow, Front, Handler, Reply, Status};
 use fare_ports::NoMemory;
 use fare_rounds::*;
@@ -77,22 +77,26 @@ impl RoundHandler for Meeting {
     ghost shows = { λ _ _ _ _ _ _ _. tt };
 }
 
-#[test]
-fn round_two(rt: HostRuntime) -> Result<(), Fail> {
-    let alloc = rt.alloc();
-    let mut door = door_of(
-        alloc,
-        &[
-            b"GET /editions/1 HTTP/1.1\r\n\r\n",
-            b"GET /editions/2 HTTP/1.1\r\n\r\n",
-        ],
-    )?;
+static BOTH: [&[u8]; 2] = [
+    b"GET /editions/1 HTTP/1.1\r\n\r\n",
+    b"GET /editions/2 HTTP/1.1\r\n\r\n",
+];
+
+static BOTH_ANSWERED: [&[u8]; 2] = [NO_TEXT, NO_TEXT];
+
+fn met<R: AllocGlobal + Threads + Sync>(rt: &R) -> Result<Outcome, Fail> {
+    let mut door = door_of(rt.alloc(), &BOTH)?;
     let mut meeting = Meeting {
         second_has_begun: AtomicU64::new(0),
     };
-    let (_, counts) = serve(&rt, alloc, &mut door, &mut meeting, 2);
-    assert_eq!(rt; counts, Counts { served: 2, cut: 0 });
-    assert!(rt; was_sent(&door, 0, NO_TEXT));
-    assert!(rt; was_sent(&door, 1, NO_TEXT));
+    let (end, counts) = serve(rt, rt.alloc(), &mut door, &mut meeting, 2);
+    Ok(Outcome { end, counts, door })
+}
+
+#[test]
+fn round_two(rt: HostRuntime) -> Result<(), Fail> {
+    let round = met(&rt)?;
+    assert!(rt; round.counts_are(2, 0));
+    assert!(rt; round.sent(&BOTH_ANSWERED));
     Ok(())
 }

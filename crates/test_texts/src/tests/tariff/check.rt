@@ -7,64 +7,83 @@ use fare_tariff::*;
 use std::alloc::Global;
 use std::process::Abort;
 use std::test::Fail;
+use std::thread::Threads;
+
+const SUMMER: Sample = Fare(*b"ROM", *b"YY", *b"04-01", *b"10-31");
+
+const WINTER: Sample = Fare(*b"ROM", *b"YY", *b"11-01", *b"03-31");
+
+const PAIR: Sample = Tpm(*b"LON", *b"ROM", 900);
+
+/// Records 7 and 8 of a list, and the number and the kind of its first fault.
+static FAULTS: [(Sample, Sample, u32, CheckKind); 13] = [
+    (PAIR, Town(*b"ROM", *b"IT"), 8, CheckKind::Duplicate(5)),
+    (PAIR, Tpm(*b"ROM", *b"LON", 901), 8, CheckKind::Duplicate(7)),
+    (SUMMER, SUMMER, 8, CheckKind::Duplicate(7)),
+    (PAIR, Tpm(*b"PAR", *b"ROM", 900), 8, CheckKind::UnknownCity),
+    (PAIR, Ema(Some(*b"PAR"), 10), 8, CheckKind::UnknownCity),
+    (SaverFare, PAIR, 7, CheckKind::UnknownRule),
+    (PAIR, Town(*b"PAR", *b"FR"), 8, CheckKind::UnknownCurrency),
+    (
+        PAIR,
+        Fare(*b"LON", *b"YY", *b"01-01", *b"12-31"),
+        8,
+        CheckKind::SamePoint,
+    ),
+    (PAIR, Mpm(*b"LON", *b"LON", 0), 8, CheckKind::SamePoint),
+    (PAIR, Mpm(*b"LON", *b"ROM", 0), 8, CheckKind::ZeroMileage),
+    (
+        Mpm(*b"LON", *b"ROM", 0),
+        Town(*b"ROM", *b"IT"),
+        7,
+        CheckKind::ZeroMileage,
+    ),
+    (
+        SUMMER,
+        Fare(*b"ROM", *b"YY", *b"10-31", *b"03-31"),
+        8,
+        CheckKind::Overlap(7),
+    ),
+    (
+        WINTER,
+        Fare(*b"ROM", *b"YY", *b"12-24", *b"01-06"),
+        8,
+        CheckKind::Overlap(7),
+    ),
+];
+
+/// Records 7 and 8 of lists without a fault.
+static WHOLE: [(Sample, Sample); 4] = [
+    (SaverFare, Saver),
+    (Ema(None, 10), Ema(Some(*b"MIL"), 10)),
+    (SUMMER, Fare(*b"ROM", *b"YY", *b"11-01", *b"03-31")),
+    (SUMMER, Fare(*b"ROM", *b"BA", *b"04-01", *b"10-31")),
+];
+
+/// The first fault of a list with these records behind its places.
+fn fault_of<R: Abort + AllocGlobal + Threads + Sync>(
+    rt: &R,
+    samples: &[Sample],
+) -> Result<Option<CheckFault>, Fail> {
+    Ok(check_of(rt, rt.alloc(), samples)?.err())
+}
 
 #[test]
 fn check_kinds(rt: HostRuntime) -> Result<(), Fail> {
-    let summer = Fare(*b"ROM", *b"YY", *b"04-01", *b"10-31");
-    let winter = Fare(*b"ROM", *b"YY", *b"11-01", *b"03-31");
-    let pair = Tpm(*b"LON", *b"ROM", 900);
-    for (one, other, number, kind) in [
-        (pair, Town(*b"ROM", *b"IT"), 8, CheckKind::Duplicate(5)),
-        (pair, Tpm(*b"ROM", *b"LON", 901), 8, CheckKind::Duplicate(7)),
-        (summer, summer, 8, CheckKind::Duplicate(7)),
-        (pair, Tpm(*b"PAR", *b"ROM", 900), 8, CheckKind::UnknownCity),
-        (pair, Ema(Some(*b"PAR"), 10), 8, CheckKind::UnknownCity),
-        (SaverFare, pair, 7, CheckKind::UnknownRule),
-        (pair, Town(*b"PAR", *b"FR"), 8, CheckKind::UnknownCurrency),
-        (
-            pair,
-            Fare(*b"LON", *b"YY", *b"01-01", *b"12-31"),
-            8,
-            CheckKind::SamePoint,
-        ),
-        (pair, Mpm(*b"LON", *b"LON", 0), 8, CheckKind::SamePoint),
-        (pair, Mpm(*b"LON", *b"ROM", 0), 8, CheckKind::ZeroMileage),
-        (
-            Mpm(*b"LON", *b"ROM", 0),
-            Town(*b"ROM", *b"IT"),
-            7,
-            CheckKind::ZeroMileage,
-        ),
-        (
-            summer,
-            Fare(*b"ROM", *b"YY", *b"10-31", *b"03-31"),
-            8,
-            CheckKind::Overlap(7),
-        ),
-        (
-            winter,
-            Fare(*b"ROM", *b"YY", *b"12-24", *b"01-06"),
-            8,
-            CheckKind::Overlap(7),
-        ),
-    ] {
-        let checked = check_of(&rt, rt.alloc(), &[one, other])?;
-        assert_eq!(rt; checked.err(), Some(CheckFault::At { number, kind }));
+    for (one, other, number, kind) in &FAULTS {
+        let fault = CheckFault::At {
+            number: *number,
+            kind: *kind,
+        };
+        assert!(rt; fault_of(&rt, &[*one, *other])? == Some(fault));
     }
     Ok(())
 }
 
 #[test]
 fn no_faults(rt: HostRuntime) -> Result<(), Fail> {
-    let summer = Fare(*b"ROM", *b"YY", *b"04-01", *b"10-31");
-    for (one, other) in [
-        (SaverFare, Saver),
-        (Ema(None, 10), Ema(Some(*b"MIL"), 10)),
-        (summer, Fare(*b"ROM", *b"YY", *b"11-01", *b"03-31")),
-        (summer, Fare(*b"ROM", *b"BA", *b"04-01", *b"10-31")),
-    ] {
-        let checked = check_of(&rt, rt.alloc(), &[one, other])?;
-        assert_eq!(rt; checked.err(), None);
+    for (one, other) in &WHOLE {
+        assert!(rt; fault_of(&rt, &[*one, *other])?.is_none());
     }
     Ok(())
 }
@@ -81,9 +100,11 @@ fn crowd() -> [Sample; 65] {
 
 #[test]
 fn too_many_fares(rt: HostRuntime) -> Result<(), Fail> {
-    let many = check_of(&rt, rt.alloc(), &crowd())?;
-    let kind = CheckKind::TooManyFares;
-    assert_eq!(rt; many.err(), Some(CheckFault::At { number: 71, kind }));
+    let fault = CheckFault::At {
+        number: 71,
+        kind: CheckKind::TooManyFares,
+    };
+    assert!(rt; fault_of(&rt, &crowd())? == Some(fault));
     Ok(())
 }
 
@@ -131,26 +152,33 @@ fn long_list(rt: &impl Abort, alloc: Global, first: u16, last: u16) -> Result<Ve
     Ok(records)
 }
 
+/// The number of the first fault of a long list, which is one of miles of 0.
+fn zero_miles_of_long<R: Abort + AllocGlobal + Threads + Sync>(
+    rt: &R,
+    first: u16,
+    last: u16,
+) -> Result<Option<u32>, Fail> {
+    let effective = Day::read(b"2025-01-01").ok_or("a day")?;
+    let records = long_list(rt, rt.alloc(), first, last)?;
+    if records.len() != LONG {
+        Err("a long list")?;
+    }
+    match Edition::check(rt, rt.alloc(), 7, effective, records) {
+        Ok(_) => Ok(None),
+        Err(
+            CheckFault::At {
+                number,
+                kind: CheckKind::ZeroMileage,
+            },
+        ) => Ok(Some(number)),
+        Err(_) => Err("a fault of another kind")?,
+    }
+}
+
 #[test]
 fn the_first_of_two_faults(rt: HostRuntime) -> Result<(), Fail> {
-    let effective = Day::read(b"2025-01-01").ok_or("a day")?;
-    let kind = CheckKind::ZeroMileage;
-    for (first, last, fault) in [
-        (0, 0, Some(CheckFault::At { number: 2, kind })),
-        (
-            1,
-            0,
-            Some(CheckFault::At {
-                number: 200_700,
-                kind,
-            }),
-        ),
-        (1, 1, None),
-    ] {
-        let records = long_list(&rt, rt.alloc(), first, last)?;
-        assert_eq!(rt; records.len(), LONG);
-        let checked = Edition::check(&rt, rt.alloc(), 7, effective, records);
-        assert_eq!(rt; checked.err(), fault);
-    }
+    assert!(rt; zero_miles_of_long(&rt, 0, 0)? == Some(2));
+    assert!(rt; zero_miles_of_long(&rt, 1, 0)? == Some(200_700));
+    assert!(rt; zero_miles_of_long(&rt, 1, 1)?.is_none());
     Ok(())
 }

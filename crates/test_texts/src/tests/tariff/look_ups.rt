@@ -27,9 +27,9 @@ fn edition<R: Abort + Threads + Sync>(rt: &R, alloc: Global) -> Result<Edition, 
 #[test]
 fn looks_up_places(rt: HostRuntime) -> Result<(), Fail> {
     let tariff = edition(&rt, rt.alloc())?;
-    assert_eq!(rt; tariff.number(), 7);
-    assert_eq!(rt; tariff.effective().number(), 20_089);
-    assert_eq!(rt; tariff.records().len(), 12);
+    assert!(rt; tariff.number() == 7);
+    assert!(rt; tariff.effective().number() == 20_089);
+    assert!(rt; tariff.records().len() == 12);
     assert!(rt; tariff.city(city(&rt, *b"ROM")).is_some());
     assert!(rt; tariff.city(city(&rt, *b"PAR")).is_none());
     assert!(rt; tariff.currency_of(country(&rt, *b"IT")).is_some());
@@ -37,59 +37,99 @@ fn looks_up_places(rt: HostRuntime) -> Result<(), Fail> {
     Ok(())
 }
 
+/// Days of a year, and the fares of one key that apply on them.
+static APPLIED: [([u8; 5], u32); 5] = [
+    (*b"04-01", 8),
+    (*b"10-31", 8),
+    (*b"11-01", 9),
+    (*b"12-31", 9),
+    (*b"03-31", 9),
+];
+
+fn fare_on(tariff: &Edition, of_key: &FareKey, day: MonthDay) -> Option<u32> {
+    tariff.fare(of_key, day)
+}
+
 #[test]
-fn looks_up_fares(rt: HostRuntime) -> Result<(), Fail> {
+fn looks_up_fares_by_key_and_day(rt: HostRuntime) -> Result<(), Fail> {
     let tariff = edition(&rt, rt.alloc())?;
     let of_key = key(&rt, *b"ROM", *b"YY", None);
-    for (on, number) in [
-        (b"04-01", 8),
-        (b"10-31", 8),
-        (b"11-01", 9),
-        (b"12-31", 9),
-        (b"03-31", 9),
-    ] {
-        assert_eq!(rt; tariff.fare(&of_key, month_day(&rt, *on)), Some(number));
-    }
-    for (number, filed) in [
-        (0, false),
-        (1, false),
-        (7, false),
-        (8, true),
-        (9, true),
-        (10, false),
-        (14, false),
-    ] {
-        assert_eq!(rt; tariff.fare_at(number).is_some(), filed, "at {number}");
-    }
-    for (k, number) in [(0, Some(8)), (1, Some(9)), (2, None)] {
-        assert_eq!(rt;
-            tariff.nth_fare(of_key.from, of_key.to, Indicator::EH, k),
-            number
-        );
-    }
-    for (number, next) in [(0, None), (7, None), (8, Some(9)), (9, None), (10, None)] {
-        assert_eq!(rt; tariff.next_fare(number), next, "behind {number}");
+    for (day, number) in &APPLIED {
+        assert!(rt; fare_on(&tariff, &of_key, month_day(&rt, *day)) == Some(*number));
     }
     Ok(())
+}
+
+/// Numbers, whether they are those of fares, and the next fare of the same places.
+static NUMBERS: [(u32, bool, Option<u32>); 7] = [
+    (0, false, None),
+    (1, false, None),
+    (7, false, None),
+    (8, true, Some(9)),
+    (9, true, None),
+    (10, false, None),
+    (14, false, None),
+];
+
+fn is_fare(tariff: &Edition, number: u32) -> bool {
+    tariff.fare_at(number).is_some()
+}
+
+fn behind(tariff: &Edition, number: u32) -> Option<u32> {
+    tariff.next_fare(number)
+}
+
+#[test]
+fn looks_up_fares_by_number(rt: HostRuntime) -> Result<(), Fail> {
+    let tariff = edition(&rt, rt.alloc())?;
+    for (number, filed, next) in &NUMBERS {
+        assert!(rt; is_fare(&tariff, *number) == *filed, "at {number}");
+        assert!(rt; behind(&tariff, *number) == *next, "behind {number}");
+    }
+    Ok(())
+}
+
+fn nth(tariff: &Edition, of_key: &FareKey, k: u32) -> Option<u32> {
+    tariff.nth_fare(of_key.from, of_key.to, Indicator::EH, k)
+}
+
+#[test]
+fn looks_up_fares_in_turn(rt: HostRuntime) -> Result<(), Fail> {
+    let tariff = edition(&rt, rt.alloc())?;
+    let of_key = key(&rt, *b"ROM", *b"YY", None);
+    assert!(rt; nth(&tariff, &of_key, 0) == Some(8));
+    assert!(rt; nth(&tariff, &of_key, 1) == Some(9));
+    assert!(rt; nth(&tariff, &of_key, 2).is_none());
+    Ok(())
+}
+
+/// The transfers and the days of advance of a rule.
+fn terms_of(tariff: &Edition, rule: Option<RuleId>) -> Option<(u32, u32)> {
+    let terms = tariff.terms(rule)?;
+    Some((terms.transfers, terms.advance))
 }
 
 #[test]
 fn reads_terms(rt: HostRuntime) -> Result<(), Fail> {
     let tariff = edition(&rt, rt.alloc())?;
-    let free = tariff.terms(None).ok_or("no terms")?;
-    assert_eq!(rt; free.transfers, 16);
-    let saver = tariff.terms(saver_id(&rt)).ok_or("no terms")?;
-    assert_eq!(rt; saver.advance, 14);
-    assert!(rt; tariff.terms(RuleId::read(b"OTHER")).is_none());
+    assert!(rt; terms_of(&tariff, None) == Some((16, 0)));
+    assert!(rt; terms_of(&tariff, saver_id(&rt)) == Some((2, 14)));
+    assert!(rt; terms_of(&tariff, RuleId::read(b"OTHER")).is_none());
     Ok(())
+}
+
+/// A list of the rule SAVER and the free rule.
+fn list_of_two(rt: &impl Abort, alloc: Global) -> Result<RuleList, Fail> {
+    let mut list = RuleList::new(alloc);
+    list.push(saver_id(rt))?;
+    list.push(None)?;
+    Ok(list)
 }
 
 #[test]
 fn names_of_a_list(rt: HostRuntime) -> Result<(), Fail> {
-    let mut list = RuleList::new(rt.alloc());
-    assert!(rt; list.names().is_empty());
-    list.push(saver_id(&rt))?;
-    list.push(None)?;
+    assert!(rt; RuleList::new(rt.alloc()).names().is_empty());
+    let list = list_of_two(&rt, rt.alloc())?;
     let names = list.names();
     assert!(rt; names.len() == 2 && names[0] == saver_id(&rt) && names[1].is_none());
     Ok(())
@@ -105,19 +145,31 @@ fn combines_rules(rt: HostRuntime) -> Result<(), Fail> {
     Ok(())
 }
 
+/// The permitted miles of two cities by an indicator.
+fn permitted(tariff: &Edition, from: City, to: City, ind: Indicator) -> Option<u32> {
+    tariff.mpm(from, to, ind)
+}
+
+/// The ticketed point miles of two cities.
+fn ticketed(tariff: &Edition, from: City, to: City) -> Option<u32> {
+    tariff.tpm(from, to)
+}
+
+/// The allowance of two cities over some.
+fn allowed(tariff: &Edition, from: City, to: City, over: &[City]) -> u32 {
+    tariff.allowance(from, to, Indicator::EH, over)
+}
+
 #[test]
 fn looks_up_miles(rt: HostRuntime) -> Result<(), Fail> {
     let tariff = edition(&rt, rt.alloc())?;
     let (london, rome, milan) = (city(&rt, *b"LON"), city(&rt, *b"ROM"), city(&rt, *b"MIL"));
-    assert_eq!(rt; tariff.mpm(rome, london, Indicator::EH), Some(1_100));
-    assert_eq!(rt; tariff.mpm(rome, london, Indicator::AT), None);
-    assert_eq!(rt; tariff.tpm(london, rome), Some(900));
-    assert_eq!(rt; tariff.tpm(london, milan), None);
-    assert_eq!(rt; tariff.allowance(london, rome, Indicator::EH, &[]), 10);
-    assert_eq!(rt;
-        tariff.allowance(rome, london, Indicator::EH, &[london, milan]),
-        50
-    );
+    assert!(rt; permitted(&tariff, rome, london, Indicator::EH) == Some(1_100));
+    assert!(rt; permitted(&tariff, rome, london, Indicator::AT).is_none());
+    assert!(rt; ticketed(&tariff, london, rome) == Some(900));
+    assert!(rt; ticketed(&tariff, london, milan).is_none());
+    assert!(rt; allowed(&tariff, london, rome, &[]) == 10);
+    assert!(rt; allowed(&tariff, rome, london, &[london, milan]) == 50);
     Ok(())
 }
 
