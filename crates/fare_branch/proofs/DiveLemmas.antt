@@ -1,5 +1,5 @@
 -- A dive before a walk, and what it goes through.
-use Rattle.std.proofs.Common.{◌≡◌, ℕ, ◌<◌, ◌≤◌, ◌⊎◌, List, [], ◌∷◌, ◌++◌, Option, Some, None, ap, sym, subst, ◌∙◌, inl, inr}
+use Rattle.std.proofs.Common.{◌≡◌, ℕ, ◌<◌, ◌≤◌, ◌⊎◌, List, [], ◌∷◌, ◌++◌, Option, Some, ap, sym, subst, ◌∙◌, inl, inr}
 use Rattle.std.specs.Prelude.{slice_get}
 use Rattle.fare_trip.specs.Itinerary.{Itinerary}
 use Rattle.fare_tariff.specs.Tariff.{Tariff}
@@ -11,9 +11,9 @@ use Rattle.fare_branch.specs.declared.pieces.Piece.{Piece}
 use Rattle.fare_branch.specs.Dive.{GoesFrom, IsAnyOf, StartsIn, IsDived}
 use Rattle.fare_floors.specs.Floors.{IsMadeWith}
 use Rattle.fare_branch.specs.Search.{BeginsIn}
-use Rattle.fare_branch.specs.Walked.{IsBestWalk, IsHeld, IsPassed, IsTold}
+use Rattle.fare_branch.specs.Walked.{IsBestWalk, IsHeld, IsPassed}
 use Rattle.fare_branch.proofs.SoughtLemmas.{walk_within}
-use Rattle.fare_branch.proofs.WalkedLemmas.{best_walk_none, best_walk_then, told_falls}
+use Rattle.fare_branch.proofs.WalkedLemmas.{best_walk_none, best_walk_then}
 
 abbrev Found : Type 0
 Found = Option (List Part × ℕ)

@@ -13,7 +13,7 @@ use Rattle.fare_branch.specs.declared.pieces.Piece.{Piece}
 use Rattle.fare_branch.specs.declared.share.Share.{Share}
 use Rattle.fare_branch.specs.Search.{BeginsIn, IsSearched, kept_at}
 use Rattle.fare_branch.specs.Shares.{AreFoundIn, IsBegun, IsFoundIn, IsPassedIn, is_elsewhere, mark, share_of}
-use Rattle.fare_branch.specs.Sought.{AllBehindPassed, AllPassedFrom, IsStill, IsWalk}
+use Rattle.fare_branch.specs.Sought.{AllBehindPassed, IsWalk}
 use Rattle.fare_branch.specs.Walked.{IsHeld, IsPassed, IsTold, is_beaten}
 use Rattle.fare_branch.proofs.PieceLemmas.{cheaper, dearer}
 use Rattle.fare_branch.proofs.WalkedLemmas.{beaten_is_passed, passed_falls, told_falls}
