@@ -60,8 +60,8 @@ fn fill(table: &Table, k: usize, found: &mut BestList)
     rise(table, k, least, found)
 }
 
-/// Finds the first `k`: under what is known of the units of those that cost a little more than the least price, or where
-/// these are fewer, without that.
+/// Finds the first `k`: under what is known of the units of those that cost a little more than the least price, or
+/// where these are fewer, without that.
 fn rise(table: &Table, k: usize, least: u64, found: &mut BestList)
     requires some { 1 ≤ k }
     requires few { k ≤ MOST_BEST }

@@ -14,12 +14,12 @@ use fare_component::Table;
 use fare_homing::{Bar, Ceiling, Homing, cell, greatest_turn, number_at, remake_barred};
 use fare_legs::ceiling_of;
 
-/// By how much at least a unit that comes home in the city where it began costs more than the least that one does between
-/// its points, where it costs so much or more.
+/// By how much at least a unit that comes home in the city where it began costs more than the least that one does
+/// between its points, where it costs so much or more.
 fn least_excess(table: &Table, homing: &Homing, dear: u64) -> u64
     ensures { (i j w : ℕ) → i < count table.now.trip → j ≤ count table.now.trip
-        → is_same_city table.now.trip (begin_after table.now.trip i) j ≡ true → i < j → cell homing.now.whole i j ≡ Some w
-        → result ≤ dear - w }
+        → is_same_city table.now.trip (begin_after table.now.trip i) j ≡ true → i < j
+        → cell homing.now.whole i j ≡ Some w → result ≤ dear - w }
 {
     let count = table.trip().count();
     let mut excess = u64::MAX;
@@ -102,8 +102,8 @@ fn is_raised(homing: &Homing, price: u64) -> bool {
     }
 }
 
-/// Adds to a homing without a ceiling what is known of the units of constructions up to a price that is raised above what
-/// all costs at least.
+/// Adds to a homing without a ceiling what is known of the units of constructions up to a price that is raised above
+/// what all costs at least.
 pub fn add_bar(table: &Table, homing: &mut Homing, price: u64)
     requires homings { AreHomingsOf table.now.edition table.now.trip homing.old }
     ensures homings { AreHomingsOf table.now.edition table.now.trip homing.new }
@@ -113,8 +113,8 @@ pub fn add_bar(table: &Table, homing: &mut Homing, price: u64)
     }
 }
 
-/// The price up to which something is known of the units, where that is no less than a price and a quarter more than what
-/// all costs at least.
+/// The price up to which something is known of the units, where that is no less than a price and a quarter more than
+/// what all costs at least.
 pub fn bar_limit(homing: &Homing, price: u64) -> Option<u64> {
     let Some(bar) = homing.bar else {
         return None;

@@ -34,9 +34,9 @@ abbrev pub jaw_from : Homing → ℕ → ℕ → ℕ → Option ℕ
 jaw_from homing c i j = cell (slice_index_or homing.standing c no_standing).jaw i j
 
 -- the numbers of a trip are no more than what its parts cost where each unit of three parts or more is under a ceiling,
--- which is so in what is under the ceiling of all, and these ceilings and the bar are those of the trip; its countries are
--- those of its points, its lonely fares have rules that combine with no fare of their own, of none of its fares of two may
--- one that has its rule be one of three in a unit, and its numbers by what is barred are no more either
+-- which is so in what is under the ceiling of all, and these ceilings and the bar are those of the trip; its countries
+-- are those of its points, its lonely fares have rules that combine with no fare of their own, of none of its fares of
+-- two may one that has its rule be one of three in a unit, and its numbers by what is barred are no more either
 pub record AreHomingsOf (tariff : Tariff) (trip : Itinerary) (homing : Homing) : Type 0 where
   pub known : AreHomings tariff trip homing.unit_ceiling (begun_from homing) (closing_from homing) (jaw_from homing)
       (cell homing.whole) (rest_at homing.rest)

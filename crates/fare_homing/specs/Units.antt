@@ -23,8 +23,8 @@ pub record IsBar (tariff : Tariff) (trip : Itinerary) (bar : Bar) : Type 0 where
   pub units : (parts : List Part) (price : ℕ) → IsLawful tariff trip parts price → price ≤ bar.limit
       → AreUnitsWithin tariff trip parts (Some bar.unit)
 
--- a ceiling of units is one of a trip, and in each lawful construction under the ceiling of all each unit of three parts
--- or more is under it
+-- a ceiling of units is one of a trip, and in each lawful construction under the ceiling of all each unit of three
+-- parts or more is under it
 pub record IsUnitCeiling (tariff : Tariff) (trip : Itinerary) (ceiling unit : Option Ceiling) : Type 0 where
   pub alike : IsCeiling tariff trip unit
   pub units : (parts : List Part) (price : ℕ) → IsLawful tariff trip parts price → IsWithin ceiling price

@@ -137,7 +137,8 @@ fn least_within(table: &Table, homing: &Homing, between: Between) -> Floor
     requires rises { between.start < between.end }
     requires end { between.end ≤ count table.now.trip }
     requires home { between.home ≤ count table.now.trip }
-    ensures { IsUnderEach (cost_within table.now.edition table.now.trip homing.now.of_two homing.now.unit_ceiling between)
+    ensures { IsUnderEach
+        (cost_within table.now.edition table.now.trip homing.now.of_two homing.now.unit_ceiling between)
         (entries_of table.now.edition table.now.trip between.start between.end) result }
 {
     let sectors = table.trip().count();

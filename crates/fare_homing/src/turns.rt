@@ -24,8 +24,8 @@ fn has_begun(trip: &Trip, home: usize, a: usize) -> bool
     false
 }
 
-/// The greater of a number and twice the reference of a fare from the city of a point to where its part ends, where that
-/// is no more than a ceiling.
+/// The greater of a number and twice the reference of a fare from the city of a point to where its part ends, where
+/// that is no more than a ceiling.
 fn greater_turn(
     table: &Table,
     ceiling: Ceiling,
@@ -83,8 +83,8 @@ fn greatest_over(table: &Table, ceiling: Ceiling, a: usize, b: usize, greatest: 
     most
 }
 
-/// The greatest number up to a ceiling that is twice the reference of a part between the first and the last of a unit, from
-/// the city where the unit comes home; 0 where there is none.
+/// The greatest number up to a ceiling that is twice the reference of a part between the first and the last of a unit,
+/// from the city where the unit comes home; 0 where there is none.
 pub fn greatest_turn(table: &Table, ceiling: Ceiling) -> u64 {
     let count = table.trip().count();
     let mut greatest = 0;
