@@ -166,6 +166,10 @@ fn enter<K, S: Seeker<K>>(stage: &Stage, part: Part, seeker: &mut S, known: &mut
     let Some(longer) = stage.front.next(table, part) else {
         return;
     };
+    // What is asked later costs more.
+    if is_barred(table, &longer) {
+        return;
+    }
     let stack = stack_after(table, homing, &longer, &stage.ahead.floors);
     let Some(floor) = stack.floor else {
         return;
@@ -174,10 +178,6 @@ fn enter<K, S: Seeker<K>>(stage: &Stage, part: Part, seeker: &mut S, known: &mut
         return;
     }
     if seeker.is_behind(known, &longer, floor) {
-        return;
-    }
-    // To find out that nothing is lawful costs more than that nothing is wanted, and most by a walk over the table.
-    if is_barred(table, &longer) {
         return;
     }
     if is_crowded(table, homing, &longer) {

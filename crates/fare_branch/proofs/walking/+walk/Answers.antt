@@ -18,6 +18,11 @@ pub enter-returns-in_default-clause-walk : goal.enter-returns-in_default-clause-
 enter-returns-in_default-clause-walk g t c =
     part_none c.args.stage.now.table.now.edition c.args.stage.now.table.now.trip c.args.stage.now.front.now c.args.part (g.S.Seeker.passed c.args.seeker.now c.args.known.now) (g.S.Seeker.has c.args.seeker.now c.args.known.now) c.in_default.ensures
 
+pub enter-returns-then-is_barred-clause-walk : goal.enter-returns-then-is_barred-clause-walk
+enter-returns-then-is_barred-clause-walk g t c =
+    part_none c.args.stage.now.table.now.edition c.args.stage.now.table.now.trip c.args.stage.now.front.now c.args.part (g.S.Seeker.passed c.args.seeker.now c.args.known.now) (g.S.Seeker.has c.args.seeker.now c.args.known.now)
+    (subst (HasNoCompletion c.args.stage.now.table.now.edition c.args.stage.now.table.now.trip) c.in-Some.ensures.0 (c.is_barred.ensures c.if-is_barred.true))
+
 pub enter-returns-in_default-floor-clause-walk : goal.enter-returns-in_default-floor-clause-walk
 enter-returns-in_default-floor-clause-walk g t c =
     let P : Option ℕ → Type 0 = λ floor. IsFloorAnswer c.args.stage.now.table.now.edition c.args.stage.now.table.now.trip c.in-Some.longer floor in
@@ -42,12 +47,6 @@ enter-returns-then-is_crowded-clause-walk g t c =
     walk_after c.args.stage.now.table.now.edition c.args.stage.now.table.now.trip (GoesOn c.args.stage.now.front.now (IsPart c.args.part)) (g.S.Seeker.passed c.args.seeker.now c.args.known.now) (g.S.Seeker.passed c.args.seeker.now c.is_dear.new.known) (g.S.Seeker.passed c.args.seeker.now c.is_dear.new.known) (g.S.Seeker.has c.args.seeker.now c.args.known.now) (g.S.Seeker.has c.args.seeker.now c.is_dear.new.known) (g.S.Seeker.has c.args.seeker.now c.is_dear.new.known) c.is_dear.ensures.still
     (part_none c.args.stage.now.table.now.edition c.args.stage.now.table.now.trip c.args.stage.now.front.now c.args.part (g.S.Seeker.passed c.args.seeker.now c.is_dear.new.known) (g.S.Seeker.has c.args.seeker.now c.is_dear.new.known)
     (subst (HasNoCompletion c.args.stage.now.table.now.edition c.args.stage.now.table.now.trip) c.in-Some.ensures.0 (c.is_crowded.ensures c.if-is_crowded.true)))
-
-pub enter-returns-then-is_barred-clause-walk : goal.enter-returns-then-is_barred-clause-walk
-enter-returns-then-is_barred-clause-walk g t c =
-    walk_after c.args.stage.now.table.now.edition c.args.stage.now.table.now.trip (GoesOn c.args.stage.now.front.now (IsPart c.args.part)) (g.S.Seeker.passed c.args.seeker.now c.args.known.now) (g.S.Seeker.passed c.args.seeker.now c.is_dear.new.known) (g.S.Seeker.passed c.args.seeker.now c.is_dear.new.known) (g.S.Seeker.has c.args.seeker.now c.args.known.now) (g.S.Seeker.has c.args.seeker.now c.is_dear.new.known) (g.S.Seeker.has c.args.seeker.now c.is_dear.new.known) c.is_dear.ensures.still
-    (part_none c.args.stage.now.table.now.edition c.args.stage.now.table.now.trip c.args.stage.now.front.now c.args.part (g.S.Seeker.passed c.args.seeker.now c.is_dear.new.known) (g.S.Seeker.has c.args.seeker.now c.is_dear.new.known)
-    (subst (HasNoCompletion c.args.stage.now.table.now.edition c.args.stage.now.table.now.trip) c.in-Some.ensures.0 (c.is_barred.ensures c.if-is_barred.true)))
 
 pub enter-walk-requires : goal.enter-walk-requires
 enter-walk-requires g t c κs within =
