@@ -5,6 +5,7 @@ pub mod DayTextLemmas
 pub mod DecimalLemmas
 pub mod MonthDayLemmas
 pub mod NumberLemmas
+pub mod RuleIdLemmas
 pub mod SameLemmas
 pub mod SeasonLemmas
 pub mod TextLemmas

@@ -1,14 +1,14 @@
 -- Days of the year: the digits of their texts, and that each day of any year has one.
-use Rattle.std.proofs.Common.{◌≡◌, ◌≤◌, ◌<◌, ◌-◌, ℕ, Bool, true, List, length, take, drop, get_or, slice_index, ◌&&◌, ◌==◌, nat_le, arith, ℤ, pos, sym, subst}
+use Rattle.std.proofs.Common.{◌≡◌, ◌≤◌, ◌<◌, ◌+◌, ◌*◌, ◌-◌, ◌/◌, ◌%◌, ℕ, Bool, true, refl, List, [], ◌∷◌, length, take, drop, get_or, slice_index, ◌&&◌, ◌==◌, nat_le, arith, ℤ, pos, sym, subst}
 use Rattle.std.proofs.lemmas.Grind.{common_steps}
 use Rattle.std.proofs.lemmas.Bool.{eqb-true, eq-eqb}
 use Rattle.std.proofs.lemmas.Bool.Decides.{nat_tests}
 use Rattle.std.proofs.lemmas.List.{get_or-drop, length-drop}
 use borrow.Author.Count.{below_none, below_more}
 use Rattle.std.specs.List.{list_all}
-use Rattle.std.specs.Char.{is_ascii}
+use Rattle.std.specs.Char.{is_ascii, is_ascii_digit}
 use Rattle.jiff_core.specs.Calendar.{days_in_month}
-use Rattle.fare_codes.specs.Day.{is_day, is_civil, has_day_shape, has_month_day_shape, is_month_day, are_two_digits, two_digits, is_in_calendar, place_in_year, year_of}
+use Rattle.fare_codes.specs.Day.{is_day, is_civil, has_day_shape, has_month_day_shape, is_month_day, are_two_digits, two_digits, is_in_calendar, month_day_text, place_in_year, year_of}
 use Rattle.fare_codes.proofs.TextLemmas.{both, ascii_from_reads}
 use Rattle.fare_codes.proofs.DayTextLemmas.{digits_of_shape, hyphens_of_shape, digits_are_ascii}
 
@@ -41,6 +41,57 @@ month_day_is_ascii text h =
     let r2 : get_or text 2 0 < 128 = omega arith in
     let five = below_more Low 4 (below_more Low 3 (below_more Low 2 (below_more Low 1 (below_more Low 0 (below_none Low) r0.0) r0.1) r2) r3.0) r3.1 in
     ascii_from_reads text (λ k below. five k (omega arith))
+
+-- the month and the day are those of their text
+pub month_in_text : (m d : ℕ) → two_digits (month_day_text m d) 0 ≡ m
+month_in_text m d = omega arith
+
+pub day_in_text : (m d : ℕ) → two_digits (month_day_text m d) 3 ≡ d
+day_in_text m d = omega arith
+
+-- the bounds of a digit
+digit_bounds : (a : ℕ) → is_ascii_digit a ≡ true → (48 ≤ a) × (a ≤ 57)
+digit_bounds a h = grind (arith, nat_tests)
+
+-- a text of another length isn't that of a day of the year
+not_five : (text : List ℕ) → (length text ≡ 5 → ⊥) → has_month_day_shape text ≡ true → ⊥
+not_five text other h = other (digits_of_month_day text h).0
+
+-- the two digits of a number below a hundred
+digits_from : (a b : ℕ) → is_ascii_digit a ≡ true → is_ascii_digit b ≡ true → (48 + (10 * (a - 48) + (b - 48)) / 10 ≡ a) × (48 + (10 * (a - 48) + (b - 48)) % 10 ≡ b)
+digits_from a b h k =
+    let low : (48 ≤ a) × (a ≤ 57) = digit_bounds a h in
+    let high : (48 ≤ b) × (b ≤ 57) = digit_bounds b k in
+    (omega arith, omega arith)
+
+-- five characters, of which the third is a hyphen and the others are digits
+five_are : (a b c d e : ℕ) → is_ascii_digit a ≡ true → is_ascii_digit b ≡ true → c ≡ 45 → is_ascii_digit d ≡ true → is_ascii_digit e ≡ true
+    → month_day_text (10 * (a - 48) + (b - 48)) (10 * (d - 48) + (e - 48)) ≡ a ∷ b ∷ c ∷ d ∷ e ∷ []
+five_are a b c d e first second hyphen third fourth =
+    let month = digits_from a b first second in
+    let day = digits_from d e third fourth in
+    rw (month.0, month.1, hyphen, day.0, day.1) refl
+
+five_of : (text : List ℕ) → has_month_day_shape text ≡ true → month_day_text (two_digits text 0) (two_digits text 3) ≡ text
+five_of (a ∷ b ∷ c ∷ d ∷ e ∷ []) h =
+    let digits = digits_of_month_day (a ∷ b ∷ c ∷ d ∷ e ∷ []) h in
+    let month = both (is_ascii_digit a) (is_ascii_digit b) digits.1 in
+    let day = both (is_ascii_digit d) (is_ascii_digit e) digits.2 in
+    five_are a b c d e month.0 month.1 (hyphen_of_month_day (a ∷ b ∷ c ∷ d ∷ e ∷ []) h) day.0 day.1
+five_of [] h = absurd (not_five [] (λ e. omega (arith, e)) h)
+five_of (a ∷ []) h = absurd (not_five (a ∷ []) (λ e. omega (arith, e)) h)
+five_of (a ∷ b ∷ []) h = absurd (not_five (a ∷ b ∷ []) (λ e. omega (arith, e)) h)
+five_of (a ∷ b ∷ c ∷ []) h = absurd (not_five (a ∷ b ∷ c ∷ []) (λ e. omega (arith, e)) h)
+five_of (a ∷ b ∷ c ∷ d ∷ []) h = absurd (not_five (a ∷ b ∷ c ∷ d ∷ []) (λ e. omega (arith, e)) h)
+five_of (a ∷ b ∷ c ∷ d ∷ e ∷ f ∷ others) h = absurd (not_five (a ∷ b ∷ c ∷ d ∷ e ∷ f ∷ others) (λ e. omega (arith, e)) h)
+
+-- a text is that of its month and its day
+pub text_of_digits : (text : List ℕ) → is_month_day text ≡ true → month_day_text (two_digits text 0) (two_digits text 3) ≡ text
+text_of_digits text h = five_of text (both _ _ h).0
+
+-- the place is told by the month and the day
+pub place_of_text : (m d : ℕ) → place_in_year (month_day_text m d) ≡ 100 * m + d
+place_of_text m d = omega (arith, month_in_text m d, day_in_text m d)
 
 -- the bounds of a month and a day
 month_bounds : (m d n : ℕ) → (nat_le 1 m && nat_le m 12 && nat_le 1 d && nat_le d n) ≡ true → (1 ≤ m) × (m ≤ 12) × (1 ≤ d) × (d ≤ n)

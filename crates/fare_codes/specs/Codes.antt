@@ -32,6 +32,10 @@ is_rule_id bytes = nat_le 1 (length bytes) && nat_le (length bytes) 8 && list_al
 abbrev pub padded : List ℕ → List ℕ
 padded bytes = bytes ++ replicate (8 - length bytes) 0
 
+-- a byte is zero
+abbrev pub is_zero : ℕ → Bool
+is_zero c = c == 0
+
 -- the bytes where they are in the form, and nothing where they are not
 abbrev pub in_form : Bool → List ℕ → Option (List ℕ)
 in_form form bytes = if form then Some bytes else None

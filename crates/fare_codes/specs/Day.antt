@@ -1,5 +1,5 @@
 -- Days and days of the year, as their texts.
-use Rattle.std.specs.Prelude.{ℕ, ◌+◌, ◌*◌, ◌-◌, ◌/◌, Bool, List, length, Option, ◌==◌, ◌&&◌, nat_le, slice_index, drop}
+use Rattle.std.specs.Prelude.{ℕ, ◌+◌, ◌*◌, ◌-◌, ◌/◌, ◌%◌, Bool, List, [], ◌∷◌, length, Option, ◌==◌, ◌&&◌, nat_le, slice_index, drop}
 use Rattle.std.specs.Prelude.{ℤ, pos}
 use Rattle.std.specs.Char.{is_ascii_digit}
 use Rattle.jiff_core.specs.Calendar.{days_in_month, day_of_year, days_from_civil}
@@ -76,6 +76,15 @@ has_month_day_shape text =
 abbrev pub is_month_day : List ℕ → Bool
 is_month_day text =
     has_month_day_shape text && is_in_calendar 2000 (two_digits text 0) (two_digits text 3)
+
+-- the digit of a number from 0 to 9
+abbrev pub digit_of : ℕ → ℕ
+digit_of number = 48 + number
+
+-- the text of a month and a day of it: two digits each, and a hyphen between them
+abbrev pub month_day_text : ℕ → ℕ → List ℕ
+month_day_text month day =
+    digit_of (month / 10) ∷ digit_of (month % 10) ∷ 45 ∷ digit_of (day / 10) ∷ digit_of (day % 10) ∷ []
 
 -- the day of the year that bytes spell
 abbrev pub read_month_day : List ℕ → Option (List ℕ)

@@ -4,7 +4,7 @@
 //! - Letters and digits: `City`, `Country`, `Currency`, `Carrier` and `RuleId`.
 //! - Words: `Area`, `Indicator`, `Over`, `Cabin`, `Kind` and `Mode`.
 //! - Days: `Day`, `MonthDay` and `Season`.
-//! - Numbers: `Nuc`, and the plain numbers and rates that records write.
+//! - Numbers: `Nuc`, `FareAmount`, and the plain numbers and rates that records write.
 //! - Amounts: `surcharged` and `convert`.
 //! - Limits: how great the numbers may be that several crates speak of.
 //!
@@ -21,6 +21,7 @@ mod country;
 mod currency;
 mod day;
 mod decimals;
+mod fare_amount;
 mod indicator;
 mod kind;
 mod limits;
@@ -42,6 +43,7 @@ pub use country::Country;
 pub use currency::Currency;
 pub use day::Day;
 pub use decimals::{RATE_LIMIT, rate_text, read_rate};
+pub use fare_amount::FareAmount;
 pub use indicator::Indicator;
 pub use kind::Kind;
 pub use limits::{

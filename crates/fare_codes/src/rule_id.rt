@@ -2,42 +2,41 @@ ghost use Rattle.std.specs.Prelude.{◌≡◌, ◌↔◌, ◌≤◌, true, [], �
 ghost use Rattle.std.specs.Int.{to_be_bytes, w64};
 ghost use Rattle.std.specs.Cmp.Rules.{comparing, hashing};
 ghost use Rattle.std.proofs.Common.{rules};
-ghost use Rattle.fare_codes.specs.Codes.{is_rule_id, read_rule_id, padded};
+ghost use Rattle.std.specs.List.{position, position_or_len};
+ghost use Rattle.fare_codes.specs.Codes.{is_rule_id, is_zero, read_rule_id, padded};
 
 use crate::texts::{all_code_characters, ascii_text};
 use arrayvec::ArrayString;
 use std::hash::{Hash, Hasher};
 use std::marker::Model;
 
-/// A rule's id: one to eight characters, each a letter A to Z or a digit.
+/// A rule's id: one to eight characters, each a letter A to Z or a digit. Zeros stand behind them, and no length: each
+/// fare of an edition has one.
 #[derive(Clone, Copy, Debug, PartialEq, Eq, PartialOrd, Ord)]
 pub struct RuleId {
     characters: [u8; 8],
-    len: u8,
 }
 
 impl Model for RuleId {
-    ghost use Rattle.std.specs.Prelude.{◌≡◌, ◌-◌, ◌≤◌, ◌++◌, true, List, ℕ, take, drop, length, replicate};
-    ghost use Rattle.std.proofs.Common.{length-take-le, take-append-drop, sym, ap, ◌∙◌, arith};
-    ghost use Rattle.fare_codes.specs.Codes.{is_rule_id, padded};
+    ghost use Rattle.std.specs.Prelude.{◌≡◌, true, List, ℕ, length};
+    ghost use Rattle.std.specs.List.{before_first};
+    ghost use Rattle.fare_codes.specs.Codes.{is_rule_id, is_zero, padded};
 
     ghost Value = { List ℕ };
 
-    ghost view = { λ r. take r.len r.characters };
+    ghost view = { λ r. before_first is_zero r.characters };
 
-    ghost invariant = { λ r. (r.len ≤ 8) × (length r.characters ≡ 8)
-        × (is_rule_id (take r.len r.characters) ≡ true) × (padded (take r.len r.characters) ≡ r.characters) };
+    ghost invariant = { λ r. (length r.characters ≡ 8) × (is_rule_id (before_first is_zero r.characters) ≡ true)
+        × (padded (before_first is_zero r.characters) ≡ r.characters) };
 
-    ghost inverse = { λ bytes. record { characters = padded bytes; len = length bytes } };
+    ghost inverse = { λ bytes. record { characters = padded bytes } };
 
-    ghost inverse_ok = { λ r h i. record {
-      characters = h.3 i;
-      len = length-take-le r.len r.characters (omega (arith, h.0, h.1)) i;
-    } };
+    ghost inverse_ok = { λ r h i. record { characters = h.2 i } };
 }
 
 impl RuleId {
     /// The rule's id that these bytes spell; nothing exactly where they are not its form.
+    #[tactic(auto, using(crate::proofs::RuleIdLemmas::before_zeros))]
     pub fn read(bytes: &[u8]) -> Option<RuleId>
         ensures { result ≡ read_rule_id bytes.now }
     {
@@ -46,7 +45,6 @@ impl RuleId {
         }
         Some(RuleId {
             characters: with_zeros(bytes),
-            len: bytes.len() as u8,
         })
     }
 
@@ -57,7 +55,7 @@ impl RuleId {
         ensures form { is_rule_id self ≡ true }
         ensures read_back { read_rule_id self ≡ Some self }
     {
-        ascii_text(&self.characters[..self.len as usize])
+        ascii_text(&self.characters[..up_to_zeros(&self.characters)])
     }
 
     /// Whether both are the same rule's id.
@@ -66,7 +64,7 @@ impl RuleId {
         ensures same { IsTrue result ↔ (self ≡ other) }
         ensures test { result ≡ bytes_eq self other }
     {
-        self.len == other.len && as_one(self.characters) == as_one(other.characters)
+        have_same_characters(self, other)
     }
 }
 
@@ -78,6 +76,31 @@ impl Hash for RuleId {
 
     fn hash<H: Hasher>(&self, state: &mut H) {
         state.write(&self.characters);
+    }
+}
+
+/// Whether both are the same rule's id, by eight bytes each.
+fn have_same_characters(one: RuleId, other: RuleId) -> bool
+    ensures { IsTrue result ↔ (one ≡ other) }
+{
+    as_one(one.characters) == as_one(other.characters)
+}
+
+/// The place of the first zero.
+fn first_zero(characters: &[u8; 8]) -> Option<usize>
+    ensures { result ≡ position is_zero characters.now }
+{
+    characters.iter().position(|byte| *byte == 0)
+}
+
+/// How many bytes stand before the first zero.
+#[tactic(auto, using(crate::proofs::RuleIdLemmas::before_first_zero, crate::proofs::RuleIdLemmas::before_no_zero))]
+fn up_to_zeros(characters: &[u8; 8]) -> usize
+    ensures { result ≡ position_or_len is_zero characters.now }
+{
+    match first_zero(characters) {
+        None => 8,
+        Some(at) => at,
     }
 }
 

@@ -24,7 +24,7 @@ fn base(edition: &Edition, trip: &Trip, component: Component, fare: &FareRec) ->
 {
     let Component { a, b, back } = component;
     match higher(edition, trip, a, b, fare, back) {
-        None => fare.amount,
+        None => fare.amount.nuc(),
         Some((_, _, amount)) => amount,
     }
 }

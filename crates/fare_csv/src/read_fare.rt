@@ -1,6 +1,6 @@
 //! FARE records.
 
-ghost use Rattle.std.specs.Prelude.{◌≡◌, ◌<◌, ◌^◌, IfSome};
+ghost use Rattle.std.specs.Prelude.{◌≡◌};
 ghost use Rattle.fare_csv.specs.RecordText.{fare_key_of, fare_of, fare_one_of, fare_two_of, fare_with, read_amount};
 ghost use Rattle.fare_csv.specs.RecordText.{read_fare_rule};
 
@@ -8,19 +8,18 @@ use crate::field_list::FieldList;
 use crate::head::Version;
 use crate::text_fault::TextFault;
 use fare_codes::{
-    Cabin, Carrier, City, FARE_LIMIT, Indicator, Kind, MonthDay, Nuc, RuleId, Season,
+    Cabin, Carrier, City, FARE_LIMIT, FareAmount, Indicator, Kind, MonthDay, Nuc, RuleId, Season,
 };
 use fare_tariff::{FareKey, FareRec};
 
 /// The amount of a fare, at most 9999999.99.
 #[tactic(auto, unfolding(crate::specs::RecordText::read_amount))]
-fn read_amount(bytes: &[u8]) -> Option<Nuc>
-    ensures value { result ≡ read_amount bytes.now }
-    ensures range { IfSome result (λ amount. amount < FARE_LIMIT) }
+fn read_amount(bytes: &[u8]) -> Option<FareAmount>
+    ensures { result ≡ read_amount bytes.now }
 {
     let amount = Nuc::read(bytes)?;
     if amount.hundredths() < FARE_LIMIT {
-        Some(amount)
+        Some(FareAmount::of(amount))
     } else {
         None
     }
@@ -61,8 +60,7 @@ fn read_key(row: &FieldList, number: u32) -> Result<FareKey, TextFault>
 }
 
 /// The fare of a key, a season and an amount.
-fn fare_with(key: FareKey, season: Season, amount: Nuc) -> FareRec
-    requires { amount < FARE_LIMIT }
+fn fare_with(key: FareKey, season: Season, amount: FareAmount) -> FareRec
     ensures { result ≡ fare_with key season amount }
 {
     FareRec {

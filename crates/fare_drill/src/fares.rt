@@ -7,7 +7,7 @@ ghost use Rattle.fare_drill.specs.Fares.{amount_of, base_of, drawn_fare, fare_of
 use crate::cities::city;
 use crate::draws::{next_state, upper_half};
 use crate::way::Way;
-use fare_codes::{Cabin, Indicator, Kind, Nuc, Season};
+use fare_codes::{Cabin, FareAmount, Indicator, Kind, Nuc, Season};
 use fare_ports::NoMemory;
 use fare_tariff::{FareRec, Record};
 
@@ -38,7 +38,7 @@ fn fare_of(way: Way, drawn: u32) -> Record
         kind: way.kind,
         rule: way.rule,
         season: Season::whole_year(),
-        amount: Nuc::new(amount_of(way, drawn)),
+        amount: FareAmount::of(Nuc::new(amount_of(way, drawn))),
     })
 }
 

@@ -103,5 +103,5 @@ pub fn backhaul(edition: &Edition, trip: &Trip, a: usize, b: usize, fare: &FareR
     ensures bound { IfSome result (λ minimum. minimum < 2 * FARE_LIMIT) }
 {
     let high = greatest_reference(edition, trip, a, b, fare)?;
-    minimum_above(fare.amount, high)
+    minimum_above(fare.amount.nuc(), high)
 }

@@ -63,7 +63,7 @@ fn improved_from(component: &Component, i: usize, best: Option<Compared>) -> Opt
     let mut best = best;
     for j in i..b {
         let found = component.compared_pair(inds[j + 1], i, j + 1);
-        best = improved(fare.amount, best, found);
+        best = improved(fare.amount.nuc(), best, found);
     }
     best
 }

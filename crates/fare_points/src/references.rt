@@ -58,7 +58,7 @@ fn amount_on(edition: &Edition, key: &FareKey, on: Day, ahead: u32) -> Option<Nu
 {
     match fare_on(edition, key, on, ahead) {
         None => None,
-        Some(filed) => Some(filed.amount),
+        Some(filed) => Some(filed.amount.nuc()),
     }
 }
 

@@ -1,4 +1,4 @@
-use fare_codes::{Cabin, Carrier, City, Indicator, Kind, Nuc, RuleId, Season};
+use fare_codes::{Cabin, Carrier, City, FareAmount, Indicator, Kind, RuleId, Season};
 use std::marker::Model;
 
 /// A filed fare.
@@ -21,7 +21,7 @@ pub struct FareRec {
     /// The part of each year for which it is filed.
     pub season: Season,
     /// The amount in NUC, 0.00 to 9,999,999.99.
-    pub amount: Nuc,
+    pub amount: FareAmount,
 }
 
 impl Model for FareRec {

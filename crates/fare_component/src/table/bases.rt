@@ -17,7 +17,7 @@ pub(crate) fn amount_of_fare(fare: &FareRec) -> Nuc
     ensures value { result ≡ fare.now.amount }
     ensures bound { result < FARE_LIMIT }
 {
-    fare.amount
+    fare.amount.nuc()
 }
 
 /// The greatest of an amount and the references of all pairs of a component.

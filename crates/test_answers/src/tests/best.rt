@@ -4,7 +4,7 @@ ghost use Rattle.std.specs.Prelude.{◌<◌, ◌^◌};
 
 use fare_best::{BestList, first_k};
 use fare_codes::{
-    Area, Cabin, Carrier, City, Country, Currency, Day, Indicator, Kind, Mode, Nuc, Over, Season,
+    Area, Cabin, Carrier, City, Country, Currency, Day, FareAmount, Indicator, Kind, Mode, Nuc, Over, Season,
 };
 use fare_tariff::{CityRec, CurRec, Edition, FareRec, Record};
 use fare_trip::{Sector, Trip};
@@ -43,7 +43,7 @@ fn one_way(carrier: &[u8], class: Cabin, amount: u64) -> Result<Record, Fail>
         kind: Kind::OW,
         rule: None,
         season: Season::whole_year(),
-        amount: Nuc::new(amount),
+        amount: FareAmount::of(Nuc::new(amount)),
     }))
 }
 

@@ -3,7 +3,7 @@
 ghost use Rattle.std.specs.Prelude.{◌<◌, ◌^◌};
 
 use fare_codes::{
-    Area, Cabin, Carrier, City, Country, Currency, Day, Indicator, Kind, Mode, Nuc, Over, Season,
+    Area, Cabin, Carrier, City, Country, Currency, Day, FareAmount, Indicator, Kind, Mode, Nuc, Over, Season,
 };
 use fare_tariff::{CityRec, CurRec, Edition, FareRec, Record};
 use fare_trip::{Sector, Trip};
@@ -46,7 +46,7 @@ fn half_round_trip(from: &[u8], to: &[u8], amount: u64) -> Result<Record, Fail>
         kind: Kind::HR,
         rule: None,
         season: Season::whole_year(),
-        amount: Nuc::new(amount),
+        amount: FareAmount::of(Nuc::new(amount)),
     }))
 }
 

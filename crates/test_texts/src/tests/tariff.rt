@@ -80,7 +80,7 @@ fn fare(key: FareKey, first: MonthDay, last: MonthDay) -> Record {
         kind: key.kind,
         rule: key.rule,
         season: Season { first, last },
-        amount: Nuc::new(40_000),
+        amount: FareAmount::of(Nuc::new(40_000)),
     })
 }
 
