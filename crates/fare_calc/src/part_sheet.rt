@@ -11,7 +11,7 @@ ghost use Rattle.fare_units.specs.Advance.{Advances};
 ghost use Rattle.fare_units.specs.Places.{IsPlace};
 ghost use Rattle.fare_calc.specs.PartSheets.{gap_after, gap_before, in_fare_direction, sheet_of_part, sheet_with};
 
-use fare_codes::{Cabin, Carrier, City, Indicator, Kind, Nuc, Season};
+use fare_codes::{Cabin, Carrier, City, FareAmount, Indicator, Kind, Nuc, Season};
 use fare_component::applicable;
 use fare_mileage::{Mileage, mileage};
 use fare_points::{higher, indicator};
@@ -83,7 +83,7 @@ fn no_fare() -> FareRec {
         kind: Kind::OW,
         rule: None,
         season: Season::whole_year(),
-        amount: Nuc::new(0),
+        amount: FareAmount::of(Nuc::new(0)),
     }
 }
 
