@@ -1,8 +1,9 @@
 //! Each form at texts that are in it and next to it, and each call once.
 
 use fare_codes::{
-    Area, Cabin, Carrier, City, Country, Currency, Day, Indicator, Kind, Mode, MonthDay, Nuc, Over,
-    RuleId, Season, convert, number_text, rate_text, read_number, read_rate, surcharged,
+    Area, Cabin, Carrier, City, Country, Currency, Day, FareAmount, Indicator, Kind, Mode,
+    MonthDay, Nuc, Over, RuleId, Season, convert, number_text, rate_text, read_number, read_rate,
+    surcharged,
 };
 
 /// Texts, and of which codes they have the form: a city's, a currency's, a country's, a carrier's.
@@ -155,6 +156,8 @@ fn writes_texts(rt: HostRuntime) {
     assert!(rt; Carrier::default().text().as_str() == "AA");
     assert!(rt; Nuc::new(150).text().as_str() == "1.50");
     assert!(rt; Nuc::new(7).text().as_str() == "0.07");
+    assert!(rt; FareAmount::of(Nuc::new(999_999_999)).text().as_str() == "9999999.99");
+    assert!(rt; FareAmount::of(Nuc::new(150)).nuc().hundredths() == 150);
     assert!(rt; rate_text(900_000).as_str() == "0.900000");
     assert!(rt; number_text(0).as_str() == "0");
     assert!(rt; Over::Unmarked.text().as_str() == "");
