@@ -10,7 +10,8 @@ pub loop-j-preserved : goal.loop-j-preserved
 loop-j-preserved c =
     let fare_amount : ℕ = c.args.component.now.fare.now.amount in
     let pair : ℕ → Option Compared = compared_pair c.args.component.now.edition.now c.args.component.now.trip.now c.args.component.now.a c.args.component.now.b c.args.component.now.fare.now c.args.component.now.back c.args.i in
-    let same : c.fare.inside.amount ≡ fare_amount = cc in
+    let filed : c.fare.inside.amount ≡ fare_amount = cc in
+    let same : c.nuc.result ≡ fare_amount = c.nuc.ensures.value ∙ filed in
     let below : c.loop-j.j + 1 < c.args.component.now.b + 1 = omega arith in
     let step : c.improved-best.result ≡ improved fare_amount c.loop-j.best (option_to_list (pair (c.loop-j.j + 1))) =
     c.improved-best.ensures.value
