@@ -2,8 +2,6 @@
 PREFIX ?= /usr/local
 EXAMPLE ?= examples/london-rome.txt
 RECORDS ?= 200000
-# A crate that waits for one below it holds one of these, so there are more than processors.
-JOBS ?= $(shell expr 2 '*' $$(nproc))
 # The built program. It stands beside what `rt` makes, which `make test` sets aside while it runs.
 PROGRAM = build/fares
 SOURCES = crates.txt $(shell find crates -name out -prune -o \( -name '*.rt' -o -name '*.antt' \) -print)
@@ -41,10 +39,14 @@ speed: program
 try-store: program
 	examples/try-store $(PROGRAM)
 
-# JOBS of the crates below the program are proved at a time; one `rt run` alone would prove them one after the other.
+# The program's crates are proved in a copy without what it doesn't need: the crates of tests and the must-fail edits.
+# What is proved there is kept beside the toolchain, so `make test` doesn't prove it once more, nor this what that did.
+TESTS = crates/test_* crates/fare_trial crates/fare_outside
+
 program: $(PROGRAM)
 
 $(PROGRAM): $(SOURCES)
-	cd crates/fares && rt all check --jobs $(JOBS)
-	cd crates/fares && rt run fares -- price < $(abspath examples/london-rome.txt) > /dev/null
-	install -D crates/fares/out/fares $(PROGRAM)
+	room=$$(mktemp -d) && trap 'rm -rf "$$room"' EXIT && \
+	tar -c $(patsubst %,--exclude='%',$(TESTS)) --exclude=out --exclude=must-fail crates HANDLES | tar -x -C "$$room" && \
+	grep -v '^test_\|^fare_trial\|^fare_outside' crates.txt > "$$room/crates.txt" && \
+	(cd "$$room" && rt ci) && install -D "$$room/crates/fares/out/fares" $(PROGRAM)
