@@ -76,14 +76,13 @@ fn bar_at(table: &Table, homing: &Homing, ceiling: Ceiling, dear: u64) -> Option
     })
 }
 
-/// What is known of the units of constructions up to a price, where there is no ceiling yet.
-fn bar_of(table: &Table, homing: &Homing, price: u64) -> Option<Bar>
+/// What is known of the units of constructions up to a price, by the greatest circle minimum that is no more than
+/// another price.
+fn bar_under(table: &Table, homing: &Homing, price: u64) -> Option<Bar>
     requires homings { AreHomingsOf table.now.edition table.now.trip homing.now }
+    requires free { homing.now.ceiling ≡ None }
     ensures { IfSome result (IsBar table.now.edition table.now.trip) }
 {
-    if homing.ceiling.is_some() {
-        return None;
-    }
     let Some(ceiling) = ceiling_of(table, Some(price)) else {
         return None;
     };
@@ -100,6 +99,30 @@ fn is_raised(homing: &Homing, price: u64) -> bool {
         None => false,
         Some(floor) => floor.saturating_add(floor / 4) <= price,
     }
+}
+
+/// Whether something is known of the units of constructions up to a price that is raised above what all costs at least.
+fn says_more(homing: &Homing, bar: Option<Bar>) -> bool {
+    match bar {
+        None => false,
+        Some(bar) => is_raised(homing, bar.limit),
+    }
+}
+
+/// What is known of the units of constructions up to a price, where there is no ceiling yet: by the greatest circle
+/// minimum that the price has room for, or else by the greatest of all.
+fn bar_of(table: &Table, homing: &Homing, price: u64) -> Option<Bar>
+    requires homings { AreHomingsOf table.now.edition table.now.trip homing.now }
+    ensures { IfSome result (IsBar table.now.edition table.now.trip) }
+{
+    if homing.ceiling.is_some() {
+        return None;
+    }
+    let within = bar_under(table, homing, price);
+    if says_more(homing, within) {
+        return within;
+    }
+    bar_under(table, homing, u64::MAX)
 }
 
 /// Adds to a homing without a ceiling what is known of the units of constructions up to a price that is raised above
