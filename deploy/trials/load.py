@@ -29,22 +29,15 @@ def client(which, count, body):
     return len(rates) / sum(1 / rate for rate in rates)
 
 
-def rates(office, body):
-    """The quotations a second of one trip, by one desk, two and three."""
+def run(office, samples):
+    body = office.folder / 'trip.json'
+    body.write_bytes(samples.bodies[-1])
     office.stop_nginx()
     office.start_nginx(60, 300)
     for desk in QUOTATIONS[1:]:
         office.script('desk-out', desk)
-    found = []
-    for desk in QUOTATIONS:
+    for count, desk in enumerate(QUOTATIONS, 1):
         office.script('desk-in', desk)
         with ThreadPoolExecutor(CLIENTS) as clients:
-            found.append(sum(clients.map(lambda which: client(which, len(found) + 1, body), range(CLIENTS))))
-    return found
-
-
-def run(office, samples):
-    body = office.folder / 'trip.json'
-    body.write_bytes(samples.bodies[-1])
-    for count, rate in enumerate(rates(office, body), 1):
+            rate = sum(clients.map(lambda which: client(which, count, body), range(CLIENTS)))
         told(f'{rate:7.0f} quotations a second with {count} desk{"s" if count > 1 else ""}')
