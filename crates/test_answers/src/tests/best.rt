@@ -4,7 +4,8 @@ ghost use Rattle.std.specs.Prelude.{◌<◌, ◌^◌};
 
 use fare_best::{BestList, first_k};
 use fare_codes::{
-    Area, Cabin, Carrier, City, Country, Currency, Day, FareAmount, Indicator, Kind, Mode, Nuc, Over, Season,
+    Area, Cabin, Carrier, City, Country, Currency, Day, FareAmount, Indicator, Kind, Mode, Nuc,
+    Over, Season,
 };
 use fare_tariff::{CityRec, CurRec, Edition, FareRec, Record};
 use fare_trip::{Sector, Trip};

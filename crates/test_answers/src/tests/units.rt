@@ -3,7 +3,8 @@
 ghost use Rattle.std.specs.Prelude.{◌<◌, ◌^◌};
 
 use fare_codes::{
-    Area, Cabin, Carrier, City, Country, Currency, Day, FareAmount, Indicator, Kind, Mode, Nuc, Over, Season,
+    Area, Cabin, Carrier, City, Country, Currency, Day, FareAmount, Indicator, Kind, Mode, Nuc,
+    Over, Season,
 };
 use fare_tariff::{CityRec, CurRec, Edition, FareRec, Record};
 use fare_trip::{Sector, Trip};
