@@ -7,3 +7,4 @@ pub mod Rank
 pub mod Slots
 pub mod Link
 pub mod Places
+pub mod Groups

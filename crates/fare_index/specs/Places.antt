@@ -1,5 +1,5 @@
 -- The places of the keys of a list: those of one slot are linked, from the first to the last.
-use Rattle.std.specs.Prelude.{◌≡◌, ◌≢◌, ℕ, ◌+◌, ◌<◌, Bool, true, false, List, [], ◌∷◌, Option, Some, None, length}
+use Rattle.std.specs.Prelude.{◌≡◌, ◌≢◌, ◌↔◌, ℕ, ◌+◌, ◌<◌, Bool, true, false, List, [], ◌∷◌, Option, Some, None, drop, length}
 use Rattle.std.specs.Prelude.{slice_index_or}
 use Rattle.std.specs.List.{position_from}
 use Rattle.fare_index.specs.declared.key.Key.{Key}
@@ -23,10 +23,15 @@ abbrev pub AreHeads : Slots → ℕ → List Key → List (Option ℕ) → Type 
 AreHeads slots place keys heads = (slot : ℕ) → slot < slot_count slots →
     slice_index_or heads slot None ≡ position_from (has_slot slots slot) place keys
 
--- a place that leads is the first of its slot
+-- a place of a list of keys is the first of its slot, of those from a place on
+abbrev pub IsFirst : Slots → List Key → ℕ → ℕ → Key → Type 0
+IsFirst slots keys from place d =
+    position_from (share_slot slots (slice_index_or keys place d)) from (drop from keys) ≡ Some place
+
+-- the places that lead are the first ones of their slots
 abbrev pub AreFirst : Slots → List Key → List Bool → Type 0
-AreFirst slots keys leads = (place : ℕ) (d : Key) → place < length keys → slice_index_or leads (place + 1) false ≡ true →
-    position_from (share_slot slots (slice_index_or keys place d)) 0 keys ≡ Some place
+AreFirst slots keys leads = (place : ℕ) (d : Key) → place < length keys →
+    (slice_index_or leads (place + 1) false ≡ true) ↔ IsFirst slots keys 0 place d
 
 -- the first place of each slot, for each place the next of its slot, and places that are the first of theirs
 pub record AreChained (slots : Slots) (keys : List Key) (places : Places) : Type 0 where

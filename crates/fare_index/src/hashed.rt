@@ -43,7 +43,11 @@ pub(crate) fn hash_each(alloc: Global, keys: &[Key]) -> Result<Vec<u64>, AllocEr
 pub fn threads_for<R: Threads>(rt: &R, count: usize) -> usize
     ensures { 0 < result }
 {
-    (count / FEWEST_APART).min(current_num_threads(rt)).max(1)
+    let shares = count / FEWEST_APART;
+    if shares < 2 {
+        return 1;
+    }
+    shares.min(current_num_threads(rt)).max(1)
 }
 
 /// Puts the hash of each key at its place, on all processors. None is moved again: what each thread gathered by itself

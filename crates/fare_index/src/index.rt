@@ -4,6 +4,7 @@ ghost use Rattle.fare_index.specs.declared.key.Key.{Key};
 ghost use Rattle.fare_index.specs.Hashed.{hash_of};
 ghost use Rattle.fare_index.specs.Key.{same_key};
 
+use crate::groups::Groups;
 use crate::hashed::{hash_each, hash_side_by_side};
 use crate::key::Key;
 use crate::places::{Places, places_of, seek};
@@ -99,5 +100,12 @@ impl Index {
             place + 1,
             self.places.links[place],
         )
+    }
+
+    /// Its keys in groups.
+    pub fn groups(&self) -> Groups<'_>
+        ensures { result.keys ≡ self.now }
+    {
+        Groups::of(self.keys.as_slice(), &self.places)
     }
 }

@@ -9,9 +9,11 @@
 //! - `slots`: the slot of a key, by the last bits of its hash, or by the place of its hash where too many would share one;
 //! - `link`: a place, or nothing, in four bytes;
 //! - `places`: the places of the keys of a slot, linked in one pass over the hashes of keys from the back;
-//! - `index`: the index of a list of keys.
+//! - `index`: the index of a list of keys;
+//! - `groups`: its keys in groups, in which equal keys are together.
 #![tactic(auto)]
 
+mod groups;
 mod hashed;
 mod index;
 mod key;
@@ -22,6 +24,7 @@ mod places;
 mod rank;
 mod slots;
 
+pub use groups::Groups;
 pub use hashed::{FEWEST_APART, threads_for};
 pub use index::Index;
 pub use key::Key;

@@ -2,7 +2,7 @@
 //! are made in one pass from the back over the hashes of the keys, in which no two keys are compared; only a look-up
 //! compares keys. Where a slot gets so many places that look-ups would be slow, they are made once more by other slots.
 
-ghost use Rattle.std.specs.Prelude.{ℕ, ◌≡◌, ◌+◌, ◌<◌, ◌≤◌, true, false, IfOk, length, drop, map, slice_index_or};
+ghost use Rattle.std.specs.Prelude.{ℕ, ◌≡◌, ◌≢◌, ◌+◌, ◌<◌, ◌≤◌, true, false, IfOk, Some, length, drop, map, slice_index_or};
 ghost use Rattle.std.specs.List.{position_from};
 ghost use Rattle.fare_index.specs.Hashed.{hash_of};
 ghost use Rattle.fare_index.specs.Key.{same_key};
@@ -23,9 +23,8 @@ const MOST_IN_SLOT: u8 = 192;
 /// records there are 32.
 const MOST_BEHIND: usize = 40;
 
-/// The slots of keys, the first place of each slot, and for each place the next of its slot and whether it leads. A place
-/// that leads is the first of its slot, and so of its key; that each first one leads isn't said, since of another place
-/// the first one of its key is looked up.
+/// The slots of keys, the first place of each slot, and for each place the next of its slot and whether it leads, which
+/// the first of each slot does.
 #[derive(Drop)]
 pub(crate) struct Places {
     pub(crate) slots: Slots,
@@ -39,6 +38,8 @@ pub(crate) struct Places {
 fn follow(leads: &mut Vec<bool>, later: Link)
     ensures same_length { length leads.new.items ≡ length leads.old.items }
     ensures leads { (k : ℕ) → slice_index_or leads.new.items (k + 1) false ≡ true → LeadsOn leads.old.items later k }
+    ensures others { (k : ℕ) → later ≢ Some k →
+        slice_index_or leads.new.items (k + 1) false ≡ slice_index_or leads.old.items (k + 1) false }
 {
     let number = later.number();
     if number < leads.len() {

@@ -9,11 +9,11 @@ use Rattle.fare_records.specs.declared.record.Record.{Record}
 use Rattle.fare_records.specs.Keyed.{own_key, has_own_key, HasKeyAt}
 
 -- a place by a test of keys is a place by a test of records
-position_from-keys : (test : Key → Bool) (k : ℕ) (xs : List Record) → position_from test k (map own_key xs) ≡ position_from (λ one. test (own_key one)) k xs
+pub position_from-keys : (test : Key → Bool) (k : ℕ) (xs : List Record) → position_from test k (map own_key xs) ≡ position_from (λ one. test (own_key one)) k xs
 position_from-keys test k [] = refl
 position_from-keys test k (x ∷ xs) = ap (cond (test (own_key x)) (Some k)) (position_from-keys test (k + 1) xs)
 
-get_or-keys : (xs : List Record) (i : ℕ) (d : Record) → get_or (map own_key xs) i (own_key d) ≡ own_key (get_or xs i d)
+pub get_or-keys : (xs : List Record) (i : ℕ) (d : Record) → get_or (map own_key xs) i (own_key d) ≡ own_key (get_or xs i d)
 get_or-keys [] i d = refl
 get_or-keys (x ∷ xs) zero d = refl
 get_or-keys (x ∷ xs) (suc i) d = get_or-keys xs i d

@@ -14,7 +14,7 @@ use crate::fare_record::FareRec;
 use crate::guesses::Guesses;
 use crate::record::Record;
 use fare_codes::City;
-use fare_index::{Index, Key, threads_for};
+use fare_index::{Groups, Index, Key, threads_for};
 use fare_ports::NoMemory;
 use std::alloc::Global;
 use std::marker::{Model, Sync};
@@ -123,6 +123,13 @@ impl Filed {
             (has_own_key (own_key (slice_index_or self.now place d))) (place + 1) (drop (place + 1) self.now) }
     {
         self.index.next(place)
+    }
+
+    /// The places of the records, in groups by their keys.
+    pub fn groups(&self) -> Groups<'_>
+        ensures { result.keys ≡ map own_key self.now }
+    {
+        self.index.groups()
     }
 
     /// The first record with a key.

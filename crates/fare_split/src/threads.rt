@@ -15,8 +15,8 @@ use fare_ports::Gate;
 use std::thread;
 use std::thread::Threads;
 
-/// Lets all workers search their shares of all pieces, by what dives into all of these come to. What is behind each point
-/// takes tens of pages, so this stands apart: a search by one worker alone doesn't touch them.
+/// Lets all workers search their shares of all pieces, by what dives into all of these come to. What is behind each
+/// point takes tens of pages, so this stands apart: a search by one worker alone doesn't touch them.
 #[inline(never)]
 pub(crate) fn search_all<R: Threads + Sync, G: Gate>(
     rt: &R,

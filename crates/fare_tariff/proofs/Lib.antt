@@ -6,7 +6,6 @@ pub mod FaultPlaces
 pub mod Clashes
 pub mod KeyTests
 pub mod KindTests
-pub mod FreePlaces
 pub mod Faults
 pub mod Validity
 pub mod CheckExamples
@@ -15,4 +14,5 @@ pub mod FoundFares
 pub mod OneFare
 pub mod FoundOptions
 pub mod NextFares
-pub mod SeenFares
+pub mod Grouped
+pub mod Strips

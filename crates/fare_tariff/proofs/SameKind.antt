@@ -26,7 +26,7 @@ position_from-same f g same k (x ∷ xs) =
     ap (λ t. cond t (Some k) (position_from f (k + 1) xs)) (same x) ∙ ap (cond (g x) (Some k)) (position_from-same f g same (k + 1) xs)
 
 -- a record that is no fare
-own_tells : (one other : Record) → ((fare : FareRecord) → one ≡ filed.Fare fare → ⊥) → has_own_key (own_key one) other ≡ has_key_of one other
+pub own_tells : (one other : Record) → ((fare : FareRecord) → one ≡ filed.Fare fare → ⊥) → has_own_key (own_key one) other ≡ has_key_of one other
 own_tells (filed.City r) other isnt = city_tells r.code other
 own_tells (filed.Cur r) other isnt = currency_tells r.country other
 own_tells (filed.Rule r) other isnt = rule_tells r.id other

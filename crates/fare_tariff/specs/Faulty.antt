@@ -1,5 +1,5 @@
 -- The first fault of a list, by the place of the first record that has a kind.
-use Rattle.std.specs.Prelude.{◌≡◌, ℕ, ◌+◌, ◌<◌, Bool, false, List, [], ◌∷◌, Option, Some, None, length, position}
+use Rattle.std.specs.Prelude.{◌≡◌, ℕ, ◌<◌, Bool, true, false, List, Option, Some, length, position}
 use Rattle.std.specs.Prelude.{count_by, nat_le, ◌==◌, ◌&&◌, ◌||◌, take, is_some, option_and_then, slice_get}
 use Rattle.std.specs.Prelude.{slice_index_or}
 use Rattle.std.specs.List.{position_from, range_with_len}
@@ -8,13 +8,16 @@ use Rattle.fare_records.specs.declared.record.Record.TheVariants as filed
 use Rattle.fare_tariff.specs.declared.check.check_fault.CheckFault.{CheckFault}
 use Rattle.fare_codes.specs.declared.season.Season.{Season}
 use Rattle.fare_index.specs.declared.key.Key.{Key}
-use Rattle.fare_records.specs.declared.limits.TheConstants.{MOST_FARES_BETWEEN, MOST_RECORDS}
+use Rattle.fare_index.specs.Groups.{Grouped, group_of}
+use Rattle.fare_records.specs.declared.limits.TheConstants.{MOST_FARES_BETWEEN}
 use Rattle.fare_records.specs.declared.fare_key.FareKey.{FareKey}
 use Rattle.fare_tariff.specs.Lookup.{is_fare_between}
 use Rattle.fare_tariff.specs.Check.{kind_of, fault_at, first_number, has_key_of, has_same_points, is_fare_over}
 use Rattle.fare_tariff.specs.Check.{is_zero_mileage, key_of, names_unknown_city, names_unknown_rule}
 use Rattle.fare_tariff.specs.Check.{names_unknown_currency}
-use Rattle.fare_records.specs.Keyed.{own_key, has_own_key}
+use Rattle.fare_records.specs.Keyed.{own_key}
+use Rattle.fare_tariff.specs.declared.check.seen.Seen.{Seen}
+use Rattle.fare_tariff.specs.Seen.{may_clash}
 
 -- the record at a place has a kind
 abbrev pub has_kind_at : List Record → ℕ → Bool
@@ -50,35 +53,24 @@ abbrev pub is_faulty : List Record → List Record → Record → Bool
 is_faulty records earlier one =
     clash_of earlier one || (names_unknown records one || (has_same_points one || is_zero_mileage one))
 
--- one of the records with a key clashes with one before it, of the rest of a list from a place on
-abbrev pub clashes_from : List Record → Key → ℕ → List Record → Bool
-clashes_from records key place [] = false
-clashes_from records key place (one ∷ rest) =
-    (has_own_key key one && clash_of (take place records) one) || clashes_from records key (place + 1) rest
+-- one of the tests of the record at a place in the limit is true, of which that of its clash is asked only where it may
+-- clash with those of its group that were passed
+abbrev pub is_suspect : List Record → Seen → ℕ → Record → Bool
+is_suspect records seen place one =
+    (may_clash seen one && clash_of (take place records) one)
+    || (names_unknown records one || (has_same_points one || is_zero_mileage one))
 
--- a place is the one that was found
-abbrev pub is_found_at : ℕ → Option ℕ → Bool
-is_found_at place None = false
-is_found_at place (Some first) = first == place
+-- a record is of the group of a key
+abbrev pub is_of : Grouped → Key → Record → Bool
+is_of grouped key one = group_of grouped (own_key one) == group_of grouped key
 
--- a record at a place is the first with its key, and one of the records with its key clashes with one before it
-abbrev pub leads_to_clash : List Record → ℕ → Record → Bool
-leads_to_clash records place one =
-    is_found_at place (position_from (has_own_key (own_key one)) 0 records)
-    && clashes_from records (own_key one) 0 records
+-- no record of the group of a key has a kind
+abbrev pub IsClear : List Record → Grouped → Key → Type 0
+IsClear records grouped key = (place : ℕ) (d : Record) → place < length records →
+    is_of grouped key (slice_index_or records place d) ≡ true → has_kind_at records place ≡ false
 
--- a record clashes with one of the earlier ones; of a fare, it leads to one that does
-abbrev pub clash_behind : List Record → ℕ → Record → Bool
-clash_behind records place (filed.Fare r) = leads_to_clash records place (filed.Fare r)
-clash_behind records place one = clash_of (take place records) one
-
--- one of the tests of a record in the limit is true, of which that of its clash is asked of the first fare of a market
--- for all
-abbrev pub is_suspect : List Record → ℕ → Record → Bool
-is_suspect records place one =
-    clash_behind records place one || (names_unknown records one || (has_same_points one || is_zero_mileage one))
-
--- a place is in the limit, and its record isn't suspect
-pub record IsFree (records : List Record) (place : ℕ) : Type 0 where
-  pub in_limit : place < MOST_RECORDS
-  pub unsuspected : (d : Record) → is_suspect records place (slice_index_or records place d) ≡ false
+-- no record of the group that begins at a place has a kind, where one begins there
+abbrev pub IsClearAt : List Record → Grouped → ℕ → Type 0
+IsClearAt records grouped place = (d : Record) →
+    position_from (is_of grouped (own_key (slice_index_or records place d))) 0 records ≡ Some place →
+    IsClear records grouped (own_key (slice_index_or records place d))

@@ -1,5 +1,5 @@
--- The fares that a walk over a market has passed.
-use Rattle.std.specs.Prelude.{ℕ, ◌+◌, ◌%◌, Bool, true, false, List, Option, Some, None, codes, bytes_eq, ◌||◌, nat_le}
+-- The records that a walk over a group of them has passed.
+use Rattle.std.specs.Prelude.{ℕ, ◌+◌, ◌%◌, Bool, true, false, List, Option, Some, None, codes, bytes_eq, ◌||◌, ◌&&◌, nat_le}
 use Rattle.std.specs.Prelude.{nat_lt, replicate, slice_index_or, slice_set, if◌then◌else◌}
 use Rattle.fare_codes.specs.declared.rule_id.RuleId.{RuleId}
 use Rattle.fare_codes.specs.declared.cabin.Cabin.{Cabin}
@@ -46,11 +46,15 @@ bucket_of fare = bucket_of_key (key_of fare)
 abbrev pub none_seen : Seen
 none_seen = record { count = 0; buckets = replicate 61 false }
 
--- a record may clash with those that were passed
-abbrev pub may_clash : Seen → Record → Bool
-may_clash seen (filed.Fare r) =
+-- a record may clash with some that were passed
+abbrev pub may_clash_some : Seen → Record → Bool
+may_clash_some seen (filed.Fare r) =
     nat_le MOST_FARES_BETWEEN seen.count || slice_index_or seen.buckets (bucket_of r) false
-may_clash seen _ = true
+may_clash_some seen _ = true
+
+-- some were passed, and a record may clash with them
+abbrev pub may_clash : Seen → Record → Bool
+may_clash seen one = nat_lt 0 seen.count && may_clash_some seen one
 
 -- the buckets, with that of a record
 abbrev pub marked : List Bool → Record → List Bool

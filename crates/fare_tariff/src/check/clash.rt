@@ -39,7 +39,7 @@ fn clashes(filed: &Filed, place: usize, first: Option<usize>, key: &FareKey, sea
 }
 
 /// Whether the record at a place clashes with one before it. The first record with its key is at a place that is known.
-pub(crate) fn clash_from(filed: &Filed, place: usize, one: &Record, first: Option<usize>) -> bool
+fn clash_from(filed: &Filed, place: usize, one: &Record, first: Option<usize>) -> bool
     requires at { one.now ≡ slice_index_or filed.now place one.now }
     requires first { (d : Record) → first
         ≡ position_from (has_own_key (own_key (slice_index_or filed.now place d))) 0 filed.now }

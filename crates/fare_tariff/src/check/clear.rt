@@ -1,120 +1,134 @@
-//! Whether no record has a kind. The fares of a market are asked one behind the other from the first of them on, so
-//! that they are read together wherever they stand in a text.
+//! Whether no record has a kind. The records are asked group by group, in which those with one key are together: so
+//! each is read once, wherever it stands in a text, and each processor has its share of the markets.
 
-ghost use Rattle.std.specs.Prelude.{◌≡◌, ◌<◌, ◌&&◌, ℕ, true, false, length, slice_index_or, take};
+ghost use Rattle.std.specs.Prelude.{◌≡◌, ◌+◌, ◌/◌, ◌%◌, ◌<◌, ◌≤◌, ◌&&◌, ℕ, Some, false, true, length, map};
+ghost use Rattle.std.specs.Prelude.{slice_index_or, take};
 ghost use Rattle.std.specs.List.{position_from};
-ghost use Rattle.fare_tariff.specs.Faulty.{clash_behind, clash_of, clashes_from, has_kind_at, IsFree};
-ghost use Rattle.fare_tariff.specs.Faulty.{is_suspect, leads_to_clash};
+ghost use Rattle.fare_records.specs.Keyed.{own_key};
+ghost use Rattle.fare_tariff.specs.Faulty.{clash_of, has_kind_at, is_of, is_suspect, IsClear, IsClearAt};
 ghost use Rattle.fare_tariff.specs.Seen.{may_clash};
-ghost use Rattle.fare_records.specs.Keyed.{has_own_key, own_key};
 
-use crate::check::clash::{clash_at, clash_from};
+use crate::check::clash::clash_at;
 use crate::check::names::names_unknown;
 use crate::check::numbers::{has_same_points, is_zero_mileage};
 use crate::check::seen::Seen;
+use fare_index::{FEWEST_APART, Groups};
 use fare_records::{Filed, MOST_RECORDS, Record};
 use rayon::prelude::*;
 use std::marker::Sync;
 use std::thread::Threads;
 
-/// Whether the record at a place may clash with those that were passed, and clashes with one before it. The first
-/// record with its key is at a place that is known.
-fn clashes_among(
-    filed: &Filed,
-    place: usize,
-    one: &Record,
-    first: Option<usize>,
-    seen: &Seen,
-) -> bool
+/// So many records behind one another are a block. A block is read from its start to its end.
+const BLOCK: usize = 64;
+
+/// The blocks are dealt out to so many strips: a text without order has the first records of most groups at its start.
+const STRIPS: usize = 64;
+
+/// Whether the record at a place may clash with those of its group that were passed, and clashes with one before it.
+fn clashes_among(filed: &Filed, place: usize, one: &Record, seen: &Seen) -> bool
+    requires within { place < length filed.now }
     requires at { one.now ≡ slice_index_or filed.now place one.now }
-    requires first { (d : Record) → first
-        ≡ position_from (has_own_key (own_key (slice_index_or filed.now place d))) 0 filed.now }
     requires long { length seen.now.buckets ≡ 61 }
     ensures { result ≡ (may_clash seen.now one.now && clash_of (take place filed.now) one.now) }
 {
-    seen.may_clash(one) && clash_from(filed, place, one, first)
+    seen.may_clash(one) && clash_at(filed, place, one)
 }
 
-/// Whether one of the records with the key of a record clashes with one before it. The first of them is at a place that
-/// is known. A fare whose bucket is empty has the key of none before it, so that few are compared.
-fn chain_clashes(filed: &Filed, one: &Record, first: Option<usize>) -> bool
-    requires { first ≡ position_from (has_own_key (own_key one.now)) 0 filed.now }
-    ensures { result ≡ clashes_from filed.now (own_key one.now) 0 filed.now }
-{
-    let mut seen = Seen::new();
-    let mut at = first;
-    while let Some(place) = at {
-        let other = &filed.records()[place];
-        if clashes_among(filed, place, other, first, &seen) {
-            return true;
-        }
-        seen.note(other);
-        at = filed.next(place);
-    }
-    false
-}
-
-/// Whether the record at a place is the first with its key, and one of those with its key clashes with one before it.
-fn leads_to_clash(filed: &Filed, place: usize, one: &Record) -> bool
+/// Whether one of the tests of the record at a place in the limit is true, where those of its group before it were
+/// passed.
+fn is_suspect(filed: &Filed, place: usize, one: &Record, seen: &Seen) -> bool
     requires within { place < length filed.now }
     requires at { one.now ≡ slice_index_or filed.now place one.now }
-    ensures { result ≡ leads_to_clash filed.now place one.now }
+    requires long { length seen.now.buckets ≡ 61 }
+    ensures { result ≡ is_suspect filed.now seen.now place one.now }
 {
-    match filed.first_at(place) {
-        None => false,
-        Some(first) => first == place && chain_clashes(filed, one, Some(first)),
-    }
-}
-
-/// Whether the record at a place clashes with one before it; of a fare, whether it leads to one that does.
-fn clash_behind(filed: &Filed, place: usize, one: &Record) -> bool
-    requires within { place < length filed.now }
-    requires at { one.now ≡ slice_index_or filed.now place one.now }
-    ensures { result ≡ clash_behind filed.now place one.now }
-{
-    match one {
-        Record::Fare(_) => leads_to_clash(filed, place, one),
-        _ => clash_at(filed, place, one),
-    }
-}
-
-/// Whether one of the tests of the record at a place in the limit is true.
-fn is_suspect(filed: &Filed, place: usize, one: &Record) -> bool
-    requires within { place < length filed.now }
-    requires at { one.now ≡ slice_index_or filed.now place one.now }
-    ensures { result ≡ is_suspect filed.now place one.now }
-{
-    clash_behind(filed, place, one)
+    clashes_among(filed, place, one, seen)
         || (names_unknown(filed, one) || (has_same_points(one) || is_zero_mileage(one)))
 }
 
-/// Whether the record at a place is suspect or out of the limit.
-fn is_suspected(filed: &Filed, place: usize) -> bool
-    requires { place < length filed.now }
-    ensures { result ≡ false → IsFree filed.now place }
+/// Whether no record is suspect of the group that begins with a record at a place. A fare whose bucket is empty has the
+/// key of none before it, so that few are compared.
+fn is_clear_group(filed: &Filed, groups: &Groups, first: usize, one: &Record) -> bool
+    requires grouped { groups.now.keys ≡ map own_key filed.now }
+    requires first { position_from (is_of groups.now (own_key one.now)) 0 filed.now ≡ Some first }
+    ensures { result ≡ true → IsClear filed.now groups.now (own_key one.now) }
 {
-    if place >= MOST_RECORDS {
-        return true;
+    let mut seen = Seen::new();
+    let mut place = first;
+    loop {
+        let other = &filed.records()[place];
+        if place >= MOST_RECORDS || is_suspect(filed, place, other, &seen) {
+            return false;
+        }
+        let Some(next) = groups.behind(place) else {
+            return true;
+        };
+        seen.note(other);
+        place = next;
     }
-    is_suspect(filed, place, &filed.records()[place])
 }
 
-/// Whether no record is suspect, asked on all processors.
-fn has_no_suspect<R: Threads + Sync>(rt: &R, filed: &Filed) -> bool
-    ensures { result ≡ true → (place : ℕ) → place < length filed.now → IsFree filed.now place }
+/// Whether no record is suspect of a group that begins at a place, where one does.
+fn is_clear_at(filed: &Filed, groups: &Groups, place: usize) -> bool
+    requires grouped { groups.now.keys ≡ map own_key filed.now }
+    requires within { place < length filed.now }
+    ensures { result ≡ true → IsClearAt filed.now groups.now place }
 {
-    !(0..filed.records().len()).into_par_iter().any(
-        rt,
-        |place: usize| -> bool
-            requires { place < length filed.now }
-            ensures { result ≡ false → IsFree filed.entry.now place }
-        { is_suspected(filed, place) },
-    )
+    !groups.leads(place) || is_clear_group(filed, groups, place, &filed.records()[place])
 }
 
-/// Whether no record has a kind. Records that have none may be taken for ones that do.
+/// Whether no record is suspect of the groups that begin in the block of records from a place on.
+fn is_clear_block(filed: &Filed, groups: &Groups, start: usize) -> bool
+    requires { groups.now.keys ≡ map own_key filed.now }
+    ensures { result ≡ true → (place : ℕ) → start ≤ place → place < start + BLOCK → place < length filed.now →
+        IsClearAt filed.now groups.now place }
+{
+    let end = start.saturating_add(BLOCK).min(filed.records().len());
+    for place in start..end {
+        if !is_clear_at(filed, groups, place) {
+            return false;
+        }
+    }
+    true
+}
+
+/// Whether no record is suspect of the groups that begin in the blocks of a strip.
+fn is_clear_strip(filed: &Filed, groups: &Groups, strip: usize) -> bool
+    requires grouped { groups.now.keys ≡ map own_key filed.now }
+    requires within { strip < STRIPS }
+    ensures { result ≡ true → (place : ℕ) → place / BLOCK % STRIPS ≡ strip → place < length filed.now →
+        IsClearAt filed.now groups.now place }
+{
+    let mut start = strip * BLOCK;
+    while start < filed.records().len() {
+        if !is_clear_block(filed, groups, start) {
+            return false;
+        }
+        start = start.saturating_add(STRIPS * BLOCK);
+    }
+    true
+}
+
+/// Of how many strips a processor takes at least, of so many records. Nothing is stated of it but that it is speed.
+fn fewest_strips(records: usize) -> usize {
+    if records < FEWEST_APART { STRIPS } else { 1 }
+}
+
+/// Whether no record has a kind, asked on all processors. Records that have none may be taken for ones that do.
 pub(crate) fn is_clear<R: Threads + Sync>(rt: &R, filed: &Filed) -> bool
     ensures { result ≡ true → (place : ℕ) → place < length filed.now → has_kind_at filed.now place ≡ false }
 {
-    has_no_suspect(rt, filed)
+    let groups = filed.groups();
+    !(0..STRIPS)
+        .into_par_iter()
+        .with_min_len(fewest_strips(filed.records().len()))
+        .any(
+            rt,
+            |strip: usize| -> bool
+                requires within { strip < STRIPS }
+                requires grouped { groups.keys ≡ map own_key filed.now }
+                ensures { result ≡ false → (place : ℕ) → place / BLOCK % STRIPS ≡ strip →
+                    place < length filed.entry.now → IsClearAt filed.entry.now groups.entry place }
+            { !is_clear_strip(filed, &groups, strip) },
+        )
 }

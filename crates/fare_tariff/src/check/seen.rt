@@ -1,4 +1,4 @@
-//! The fares that a walk over a market has passed: how many, and in which buckets. Fares with one key share a bucket,
+//! The records that a walk over a group has passed: how many, and the fares' buckets. Fares with one key share a bucket,
 //! so a fare that comes to an empty one has the key of none before it.
 
 ghost use Rattle.std.specs.Prelude.{◌≡◌, ◌<◌, length};
@@ -11,7 +11,7 @@ use fare_records::{FareRec, MOST_FARES_BETWEEN, Record, spelled_rule};
 /// How many buckets there are: a prime, so that each character of a rule's id counts.
 const BUCKETS: usize = 61;
 
-/// The fares that were passed, of which 64 or more count as 64.
+/// The records that were passed, of which 64 or more count as 64.
 #[derive(Drop)]
 pub(crate) struct Seen {
     pub(crate) count: usize,
@@ -75,12 +75,15 @@ impl Seen {
         }
     }
 
-    /// Whether a record may clash with those that were passed: as many as there may be were passed, or one in its
-    /// bucket, or it is no fare.
+    /// Whether a record may clash with those that were passed: of a fare, as many as there may be or one in its bucket
+    /// were passed; of any other, some were.
     pub(crate) fn may_clash(&self, one: &Record) -> bool
         requires { length self.now.buckets ≡ 61 }
         ensures { result ≡ may_clash self.now one.now }
     {
+        if self.count == 0 {
+            return false;
+        }
         match one {
             Record::Fare(fare) => self.count >= MOST_FARES_BETWEEN || self.buckets[bucket_of(fare)],
             _ => true,

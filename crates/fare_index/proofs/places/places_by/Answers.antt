@@ -13,4 +13,4 @@ loop-place-preserved c =
     let hashed = hash_at c.args.keys.now c.args.hashes.now place there.0 c.requires.hashed within there.1 in
     passed_more c.args.slots c.args.keys.now c.loop-place.place place c.by-slot.result there.0 _ _ _ _ _ _
     (omega (arith, c.loop-place-test.true)) within there.1 (c.by-slot.ensures.slot ∙ ap (slot_by c.args.slots) hashed) c.by-slot.ensures.within c.to.ensures c.index-later.ensures
-    c.follow.ensures.same_length c.follow.ensures.leads c.loop-place.invariant
+    c.follow.ensures.same_length c.follow.ensures.leads c.follow.ensures.others c.loop-place.invariant

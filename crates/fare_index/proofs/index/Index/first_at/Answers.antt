@@ -13,5 +13,5 @@ returns-then-index c =
     let among : c.args.place + 1 < length c.self.inside.places.leads.items = omega (arith, within, c.self.invariant.many_leads) in
     let led : get_or leads (c.args.place + 1) false ≡ true = get_or_default leads (c.args.place + 1) false c.index.result.now among ∙ sym c.index.ensures ∙ c.if-index.true in
     λ d.
-    leads_key c.self.inside.places.slots c.self.inside.keys.items c.args.place d within (c.self.invariant.lead c.args.place d within led)
+    leads_key c.self.inside.places.slots c.self.inside.keys.items c.args.place d within ((c.self.invariant.lead c.args.place d within).0 led)
     ∙ ap (λ l. position_from (same_key (get_or l c.args.place d)) 0 l) c.self.view_is

@@ -2,7 +2,7 @@
 use Rattle.std.proofs.Common.{arith, ap, sym, ◌∙◌, option_and_then}
 use Rattle.fare_tariff.specs.Faulty.{fault_of}
 use Rattle.fare_tariff.proofs.FaultPlaces.{fault_of_first, faulty_within, faulty_in_limit}
-use Rattle.fare_tariff.proofs.FreePlaces.{no_fault}
+use Rattle.fare_tariff.proofs.Strips.{no_fault}
 use Rattle.fare_tariff.proofs.check.kind.first_fault.Goals as goal
 
 pub fault_at-requires-clause-within : goal.fault_at-requires-clause-within
