@@ -13,7 +13,7 @@ use fare_branch::{best_of, dived_front, is_far};
 use fare_codes::MOST_BEST;
 use fare_component::Table;
 use fare_floors::{Partial, Stage, add_bar, ahead_of, bar_limit, remake, stack_of};
-use fare_homing::{Homing, add_barred, homing_of, number_at};
+use fare_homing::{Homing, add_barred, make_homing, number_at, unknown_homing};
 use fare_ports::NoMemory;
 use fare_ranking::BestList;
 use fare_rules::{PRICE_LIMIT, edition_is_valid, price_is_bounded};
@@ -68,7 +68,8 @@ fn rise(table: &Table, k: usize, least: u64, found: &mut BestList)
     requires ranked { IsRanked table.now.edition table.now.trip k found.old }
     ensures { IsFirstK table.now.edition table.now.trip k found.new }
 {
-    let mut homing = homing_of(table, None);
+    let mut homing = unknown_homing();
+    make_homing(&mut homing, table, None);
     add_bar(table, &mut homing, least);
     let Some(limit) = bar_limit(&homing, least) else {
         return rise_by(table, &mut homing, k, least, found);
@@ -118,7 +119,8 @@ fn rise_anew(table: &Table, k: usize, least: u64, found: &mut BestList)
     requires ranked { IsRanked table.now.edition table.now.trip k found.old }
     ensures { IsFirstK table.now.edition table.now.trip k found.new }
 {
-    let mut homing = homing_of(table, None);
+    let mut homing = unknown_homing();
+    make_homing(&mut homing, table, None);
     rise_by(table, &mut homing, k, least, found)
 }
 
@@ -288,7 +290,8 @@ fn walk_under(
     ensures { IsWalked table.now.edition table.now.trip wanted.count wanted.limit (Completes []) found.new }
 {
     if ceiling.is_some() {
-        let mut homing = homing_of(table, ceiling);
+        let mut homing = unknown_homing();
+        make_homing(&mut homing, table, ceiling);
         add_barred(table, &mut homing);
         return walk_all(table, &homing, wanted, found);
     }

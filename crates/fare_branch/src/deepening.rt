@@ -14,7 +14,7 @@ use crate::opening::bring_closer;
 use crate::own_bound::OwnBound;
 use fare_component::Table;
 use fare_floors::Partial;
-use fare_homing::{Homing, homing_of};
+use fare_homing::{Homing, make_homing, unknown_homing};
 use fare_units::lawful_price_by;
 
 /// After how many questions for the least price known a search takes long.
@@ -79,7 +79,8 @@ fn dive_deeper(table: &Table, bound: &mut OwnBound)
     ensures fixed { ⟦<OwnBound as Bound>⟧.fixed bound.new ≡ ⟦<OwnBound as Bound>⟧.fixed bound.old }
     ensures falls { ⟦<OwnBound as Bound>⟧.least bound.new ≤ ⟦<OwnBound as Bound>⟧.least bound.old }
 {
-    let mut homing = homing_of(table, None);
+    let mut homing = unknown_homing();
+    make_homing(&mut homing, table, None);
     let known = bound.seen();
     bring_closer(table, &mut homing, known);
     let mut lists = MOST_LISTS;

@@ -23,7 +23,7 @@ use arrayvec::ArrayVec;
 use fare_bounds::Rest;
 use fare_component::Table;
 use fare_floors::{Partial, Stage, ahead_of, floor_ahead, stack_of};
-use fare_homing::{Homing, homing_of};
+use fare_homing::{Homing, make_homing, unknown_homing};
 use fare_rules::Part;
 use fare_units::Construction;
 
@@ -46,7 +46,8 @@ pub fn search<B: Bound>(
     ensures fixed { B.fixed bound.new ≡ B.fixed bound.old }
     ensures searched { IsSearched table.now.edition table.now.trip piece (B.least bound.new) result }
 {
-    let mut homing = homing_of(table, None);
+    let mut homing = unknown_homing();
+    make_homing(&mut homing, table, None);
     let first = opened(table, &mut homing, piece, bound);
     let best = BestSoFar {
         share: WHOLE,

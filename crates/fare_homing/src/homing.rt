@@ -160,10 +160,10 @@ fn rest_at_end(count: usize) -> [Floor; MOST_POINTS]
     rest
 }
 
-/// Numbers of which none is known. They fill many pages, and each copy that a caller holds is as much of the time of a
-/// short trip, so they are made once and put right in their place.
+/// Numbers of which none is known, for `make_homing`. They fill many pages, and each copy is as much of the time of a
+/// short trip, so whoever needs them has the one place in which they are put right.
 #[inline(never)]
-fn unknown() -> Homing {
+pub fn unknown_homing() -> Homing {
     let rows = [[NOTHING; MOST_POINTS]; MOST_POINTS];
     let none = Standing {
         begun: rows,
@@ -213,7 +213,8 @@ fn unit_ceiling_of(ceiling: Option<Ceiling>, bar: Option<Bar>) -> Option<Ceiling
     }
 }
 
-/// Makes the homing of the trip of a table in the place of another, under a ceiling where a price is given.
+/// Makes the homing of the trip of a table in the place of another, under a ceiling where a price is given, and by what
+/// is known of the units of constructions up to another price.
 #[inline(never)]
 fn make(homing: &mut Homing, table: &Table, price: Option<u64>, bar: Option<Bar>)
     requires { IfSome bar (IsBar table.now.edition table.now.trip) }
@@ -243,25 +244,15 @@ fn make(homing: &mut Homing, table: &Table, price: Option<u64>, bar: Option<Bar>
     homing.onwards = without_barred(&homing.rest);
 }
 
-/// The homing of the trip of a table, under a ceiling where a price is given.
-pub fn homing_of(table: &Table, price: Option<u64>) -> Homing
-    ensures homings { AreHomingsOf table.now.edition table.now.trip result }
-    ensures ceiling { IfSome result.ceiling (λ ceiling. price ≡ Some ceiling.price) }
+/// Makes the homing of the trip of a table in the place of another, under a ceiling where a price is given; of its
+/// units nothing is known.
+pub fn make_homing(homing: &mut Homing, table: &Table, price: Option<u64>)
+    ensures { AreHomingsOf table.now.edition table.now.trip homing.new }
 {
-    let mut homing = unknown();
-    make(&mut homing, table, price, None);
-    homing
+    make(homing, table, price, None);
 }
 
-/// Makes a homing anew under a ceiling at a price.
-pub fn remake(homing: &mut Homing, table: &Table, price: u64)
-    ensures homings { AreHomingsOf table.now.edition table.now.trip homing.new }
-    ensures ceiling { IfSome homing.new.ceiling (λ ceiling. ceiling.price ≡ price) }
-{
-    make(homing, table, Some(price), None);
-}
-
-/// The same by what is known of the units of constructions up to a price.
+/// Makes a homing anew under a ceiling at a price, by what is known of units.
 pub fn remake_barred(homing: &mut Homing, table: &Table, price: u64, bar: Option<Bar>)
     requires { IfSome bar (IsBar table.now.edition table.now.trip) }
     ensures homings { AreHomingsOf table.now.edition table.now.trip homing.new }

@@ -34,8 +34,8 @@ pub use fare_legs::{
     day_behind, greater, is_rule_of, is_too_dear, lesser, number_at, paid_with, rule_at,
 };
 pub use homing::{
-    Bar, Homing, Standing, begun_from, cell, closing_from, homing_of, jaw_from, lie_near, remake,
-    remake_barred,
+    Bar, Homing, Standing, begun_from, cell, closing_from, jaw_from, lie_near, make_homing,
+    remake_barred, unknown_homing,
 };
 pub use onward::{Onward, Onwards, next_set};
 pub use turns::greatest_turn;

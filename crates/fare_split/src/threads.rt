@@ -10,7 +10,7 @@ use crate::word::Word;
 use crate::worker::Worker;
 use fare_branch::{MOST_PIECES, Piece, Plan, opening_price};
 use fare_component::Table;
-use fare_homing::homing_of;
+use fare_homing::{make_homing, unknown_homing};
 use fare_ports::Gate;
 use std::thread;
 use std::thread::Threads;
@@ -33,7 +33,8 @@ pub(crate) fn search_all<R: Threads + Sync, G: Gate>(
     requires seated { All (IsSeated word.now.shared.table_id (floor_of table.now)) workers.old }
     ensures { HaveRun word.now.shared.table_id table.now pieces.now workers.new }
 {
-    let mut homing = homing_of(table, None);
+    let mut homing = unknown_homing();
+    make_homing(&mut homing, table, None);
     let known = opening_price(table, &mut homing);
     let plan = Plan {
         table,
