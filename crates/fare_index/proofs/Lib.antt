@@ -1,5 +1,5 @@
 pub mod HashedKeys
-pub mod HashesMade
+pub mod Items
 pub mod SharedSlots
 pub mod Halved
 pub mod Passed

@@ -8,3 +8,4 @@ pub mod Slots
 pub mod Link
 pub mod Places
 pub mod Groups
+pub mod Index

@@ -1,41 +1,42 @@
 //! Keys in groups: keys that are the same are in one group. Whoever asks something of each key, beside those that are
 //! the same, goes through each group from its first place on: so each place is read once, and nothing is looked up.
 
-ghost use Rattle.std.specs.Prelude.{◌≡◌, ◌↔◌, ◌+◌, ◌<◌, IsTrue, Some, length, drop, slice_index_or};
+ghost use Rattle.std.specs.Prelude.{◌≡◌, ◌↔◌, ◌+◌, ◌<◌, IsTrue, Some, length, map, drop, slice_index_or};
 ghost use Rattle.std.specs.List.{position_from};
 ghost use Rattle.fare_index.specs.declared.key.Key.{Key};
 ghost use Rattle.fare_index.specs.Groups.{group_of, is_in_group};
 ghost use Rattle.fare_index.specs.Places.{ArePlaces};
 
-use crate::key::Key;
+use crate::keyed::Keyed;
 use crate::places::Places;
 use std::marker::Model;
 
 /// The keys of an index in groups, of which some have no key. A group may have a few keys that aren't the same.
 #[derive(Drop)]
-pub struct Groups<'a> {
-    keys: &'a [Key],
+pub struct Groups<'a, T: Keyed> {
+    items: &'a [T],
     places: &'a Places,
 }
 
-impl<'a> Model for Groups<'a> {
+impl<'a, T: Keyed> Model for Groups<'a, T> {
+    ghost use Rattle.std.specs.Prelude.{map};
     ghost use Rattle.fare_index.specs.Groups.{Grouped};
     ghost use Rattle.fare_index.specs.Places.{ArePlaces};
 
     ghost Value = { Grouped };
 
-    ghost view = { λ g. record { keys = g.keys.now; slots = g.places.now.slots } };
+    ghost view = { λ g. record { keys = map T.key_of g.items.now; slots = g.places.now.slots } };
 
-    ghost invariant = { λ g. ArePlaces g.keys.now g.places.now };
+    ghost invariant = { λ g. ArePlaces (map T.key_of g.items.now) g.places.now };
 }
 
-impl<'a> Groups<'a> {
-    /// The groups of keys by the places of their slots.
-    pub(crate) fn of(keys: &'a [Key], places: &'a Places) -> Groups<'a>
-        requires { ArePlaces keys.now places.now }
-        ensures { result.keys ≡ keys.now }
+impl<'a, T: Keyed> Groups<'a, T> {
+    /// The groups of the keys of items by the places of their slots.
+    pub(crate) fn of(items: &'a [T], places: &'a Places) -> Groups<'a, T>
+        requires { ArePlaces (map T.key_of items.now) places.now }
+        ensures { result.keys ≡ map T.key_of items.now }
     {
-        Groups { keys, places }
+        Groups { items, places }
     }
 
     /// Whether a place is the first of its group.

@@ -17,6 +17,7 @@ mod groups;
 mod hashed;
 mod index;
 mod key;
+mod keyed;
 mod link;
 mod mark;
 mod pairs;
@@ -28,6 +29,7 @@ pub use groups::Groups;
 pub use hashed::{FEWEST_APART, threads_for};
 pub use index::Index;
 pub use key::Key;
+pub use keyed::Keyed;
 
 #[cfg(test)]
 mod tests;

@@ -2,14 +2,16 @@
 //! are made in one pass from the back over the hashes of the keys, in which no two keys are compared; only a look-up
 //! compares keys. Where a slot gets so many places that look-ups would be slow, they are made once more by other slots.
 
-ghost use Rattle.std.specs.Prelude.{ℕ, ◌≡◌, ◌≢◌, ◌+◌, ◌<◌, ◌≤◌, true, false, IfOk, Some, length, drop, map, slice_index_or};
+ghost use Rattle.std.specs.Prelude.{ℕ, List, ◌≡◌, ◌≢◌, ◌+◌, ◌<◌, ◌≤◌, true, false, IfOk, Some, length, drop, map, slice_index_or};
 ghost use Rattle.std.specs.List.{position_from};
+ghost use Rattle.fare_index.specs.declared.key.Key.{Key};
 ghost use Rattle.fare_index.specs.Hashed.{hash_of};
 ghost use Rattle.fare_index.specs.Key.{same_key};
 ghost use Rattle.fare_index.specs.Slots.{share_slot, slot_count};
 ghost use Rattle.fare_index.specs.Places.{ArePlaces, LeadsOn};
 
 use crate::key::Key;
+use crate::keyed::Keyed;
 use crate::link::Link;
 use crate::slots::Slots;
 use fare_ports::NoMemory;
@@ -49,16 +51,15 @@ fn follow(leads: &mut Vec<bool>, later: Link)
 
 /// The places of a list of keys, by the slots of their hashes. Each hash is known before the pass, so that a place
 /// waits only for its slot.
-fn places_by(alloc: Global, keys: &[Key], hashes: &[u64], slots: Slots) -> Result<Places, NoMemory>
-    requires hashed { hashes.now ≡ map hash_of keys.now }
-    requires in_links { length keys.now ≤ u32.MAX }
+fn places_by(alloc: Global, hashes: &[u64], slots: Slots) -> Result<Places, NoMemory>
+    requires in_links { length hashes.now ≤ u32.MAX }
     requires some_slot { 0 < slot_count slots }
-    ensures { IfOk result (ArePlaces keys.now) }
+    ensures { (keys : List Key) → hashes.now ≡ map hash_of keys → IfOk result (ArePlaces keys) }
 {
     let mut heads = vec![in alloc; Link::none(); slots.count()]?;
-    let mut links = vec![in alloc; Link::none(); keys.len()]?;
-    let mut leads = vec![in alloc; true; keys.len() + 1]?;
-    for place in (0..keys.len()).rev() {
+    let mut links = vec![in alloc; Link::none(); hashes.len()]?;
+    let mut leads = vec![in alloc; true; hashes.len() + 1]?;
+    for place in (0..hashes.len()).rev() {
         let slot = slots.by(hashes[place]);
         let later = heads[slot];
         follow(&mut leads, later);
@@ -91,37 +92,36 @@ fn is_crowded(alloc: Global, links: &[Link]) -> Result<bool, NoMemory> {
 
 /// The places of a list of keys, by their hashes. A list whose length doesn't fit 32 bits is answered as want of
 /// memory.
-pub(crate) fn places_of(alloc: Global, keys: &[Key], hashes: &[u64]) -> Result<Places, NoMemory>
-    requires { hashes.now ≡ map hash_of keys.now }
-    ensures { IfOk result (ArePlaces keys.now) }
+pub(crate) fn places_of(alloc: Global, hashes: &[u64]) -> Result<Places, NoMemory>
+    ensures { (keys : List Key) → hashes.now ≡ map hash_of keys → IfOk result (ArePlaces keys) }
 {
-    if keys.len() > u32::MAX as usize {
+    if hashes.len() > u32::MAX as usize {
         return Err(NoMemory);
     }
-    let places = places_by(alloc, keys, hashes, Slots::hashed(keys.len()))?;
+    let places = places_by(alloc, hashes, Slots::hashed(hashes.len()))?;
     if is_crowded(alloc, places.links.as_slice())? {
-        return places_by(alloc, keys, hashes, Slots::ranked(alloc, hashes)?);
+        return places_by(alloc, hashes, Slots::ranked(alloc, hashes)?);
     }
     Ok(places)
 }
 
 /// The first place of a key from a place on, by the first place of its slot from there on.
-pub(crate) fn seek(
-    keys: &[Key],
+pub(crate) fn seek<T: Keyed>(
+    items: &[T],
     places: &Places,
     key: &Key,
     from: usize,
     first: Link,
 ) -> Option<usize>
-    requires places { ArePlaces keys.now places.now }
-    requires within { from ≤ length keys.now }
+    requires places { ArePlaces (map T.key_of items.now) places.now }
+    requires within { from ≤ length items.now }
     requires first { first
-        ≡ position_from (share_slot places.now.slots key.now) from (drop from keys.now) }
-    ensures { result ≡ position_from (same_key key.now) from (drop from keys.now) }
+        ≡ position_from (share_slot places.now.slots key.now) from (drop from (map T.key_of items.now)) }
+    ensures { result ≡ position_from (same_key key.now) from (drop from (map T.key_of items.now)) }
 {
     let mut at = first;
     while let Some(place) = at.place() {
-        if *key == keys[place as usize] {
+        if items[place as usize].has(key) {
             return Some(place as usize);
         }
         at = places.links[place as usize];

@@ -1,16 +1,34 @@
 //! Each public call, over ordinary keys and over keys that share a slot.
 
-use crate::hashed::hash_each;
+use crate::hashed::hashes_of;
 use crate::places::{Places, places_of};
 use crate::slots::Slots;
 use crate::*;
 use fare_codes::{City, Indicator, RuleId};
 use sharing::SHARING;
 use std::alloc::Global;
+use std::marker::Sync;
 use std::process::Abort;
 use std::test::Fail;
+use std::thread::Threads;
 
 mod sharing;
+
+impl Keyed for Key {
+    ghost use Rattle.std.specs.Prelude.{true};
+
+    ghost key_of = { λ key. key };
+
+    ghost holds_of = { λ key. true };
+
+    fn key(&self) -> Key {
+        *self
+    }
+
+    fn has(&self, key: &Key) -> bool {
+        key == self
+    }
+}
 
 fn city(rt: &impl Abort, code: [u8; 3]) -> City {
     City::read(&code).expect(rt, "a city")
@@ -24,7 +42,7 @@ fn finds_places(rt: HostRuntime) -> Result<(), Fail> {
     keys.push(Key::permitted(london, rome, Indicator::EH))?;
     keys.push(Key::extra(london, rome, Indicator::EH, None))?;
     keys.push(Key::ticketed(rome, london))?;
-    let index = Index::of(rt.alloc(), keys)?;
+    let index = Index::of(&rt, rt.alloc(), keys)?;
     assert_eq!(rt; index.first(&Key::ticketed(london, rome)), Some(0));
     assert_eq!(rt;
         index.first(&Key::permitted(rome, london, Indicator::EH)),
@@ -49,7 +67,7 @@ fn finds_equal_places(rt: HostRuntime) -> Result<(), Fail> {
     keys.push(Key::ticketed(london, rome))?;
     keys.push(Key::City(london))?;
     keys.push(Key::ticketed(rome, london))?;
-    let index = Index::of(rt.alloc(), keys)?;
+    let index = Index::of(&rt, rt.alloc(), keys)?;
     assert_eq!(rt; index.first_at(1), Some(1));
     assert_eq!(rt; index.first_at(3), Some(1));
     assert_eq!(rt; index.next(1), Some(3));
@@ -71,9 +89,9 @@ fn sharing_keys(alloc: Global, first: City) -> Result<Vec<Key>, Fail> {
 }
 
 /// The places of keys, by their hashes.
-fn hashed_places(alloc: Global, keys: &[Key]) -> Result<Places, Fail> {
-    let hashes = hash_each(alloc, keys)?;
-    Ok(places_of(alloc, keys, hashes.as_slice())?)
+fn hashed_places<R: Threads + Sync>(rt: &R, alloc: Global, keys: &[Key]) -> Result<Places, Fail> {
+    let hashes = hashes_of(rt, alloc, keys)?;
+    Ok(places_of(alloc, hashes.as_slice())?)
 }
 
 #[test]
@@ -81,8 +99,8 @@ fn goes_by_order_where_many_share_a_slot(rt: HostRuntime) -> Result<(), Fail> {
     let london = city(&rt, *b"LON");
     let few = [Key::City(london)];
     let many = sharing_keys(rt.alloc(), london)?;
-    let by_hash = hashed_places(rt.alloc(), &few)?;
-    let by_order = hashed_places(rt.alloc(), many.as_slice())?;
+    let by_hash = hashed_places(&rt, rt.alloc(), &few)?;
+    let by_order = hashed_places(&rt, rt.alloc(), many.as_slice())?;
     assert!(rt; matches!(by_hash.slots, Slots::Hashed(_)));
     assert!(rt; matches!(by_order.slots, Slots::Ranked(_)));
     Ok(())
@@ -93,7 +111,7 @@ fn finds_places_by_order(rt: HostRuntime) -> Result<(), Fail> {
     let london = city(&rt, *b"LON");
     let keys = sharing_keys(rt.alloc(), london)?;
     assert_eq!(rt; keys.len(), 202);
-    let index = Index::of(rt.alloc(), keys)?;
+    let index = Index::of(&rt, rt.alloc(), keys)?;
     let id = RuleId::read(&SHARING[150]).ok_or("a rule's id")?;
     assert_eq!(rt; index.first(&Key::Rule(id)), Some(151));
     assert_eq!(rt; index.first(&Key::City(london)), Some(0));

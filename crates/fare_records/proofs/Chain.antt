@@ -1,42 +1,12 @@
 -- Records found by the places of their keys: from a place with a key to the next.
-use Rattle.std.proofs.Common.{◌≡◌, ℕ, ◌+◌, ◌-◌, ◌<◌, ◌≤◌, Bool, true, false, cond, List, [], ◌∷◌, length, map, get_or, drop, Option, Some, None, IfSome, find, refl, ap, subst, sym, ◌∙◌, arith, zero, suc}
+use Rattle.std.proofs.Common.{◌≡◌, ℕ, ◌+◌, ◌-◌, ◌<◌, ◌≤◌, Bool, true, false, cond, List, [], ◌∷◌, length, get_or, drop, Option, Some, None, IfSome, find, refl, ap, subst, sym, ◌∙◌, arith, zero, suc}
 use Rattle.std.specs.List.{position_from}
-use Rattle.std.proofs.lemmas.List.{at_drop_more, get_or-drop, drop-map, length-drop}
+use Rattle.std.proofs.lemmas.List.{at_drop_more, get_or-drop, length-drop}
 use Rattle.fare_index.specs.declared.key.Key.{Key}
 use Rattle.fare_index.specs.Key.{same_key}
 use Rattle.fare_index.specs.SameKeys.{same_key-true}
 use Rattle.fare_records.specs.declared.record.Record.{Record}
 use Rattle.fare_records.specs.Keyed.{own_key, has_own_key, HasKeyAt}
-
--- a place by a test of keys is a place by a test of records
-pub position_from-keys : (test : Key → Bool) (k : ℕ) (xs : List Record) → position_from test k (map own_key xs) ≡ position_from (λ one. test (own_key one)) k xs
-position_from-keys test k [] = refl
-position_from-keys test k (x ∷ xs) = ap (cond (test (own_key x)) (Some k)) (position_from-keys test (k + 1) xs)
-
-pub get_or-keys : (xs : List Record) (i : ℕ) (d : Record) → get_or (map own_key xs) i (own_key d) ≡ own_key (get_or xs i d)
-get_or-keys [] i d = refl
-get_or-keys (x ∷ xs) zero d = refl
-get_or-keys (x ∷ xs) (suc i) d = get_or-keys xs i d
-
--- the first place of a key, in an index of a list of records that is seen as another
-pub first_seen : (records now : List Record) (index : List Key) (key : Key) → records ≡ now → index ≡ map own_key records → position_from (same_key key) 0 index ≡ position_from (has_own_key key) 0 now
-first_seen records now index key seen keys =
-    ap (position_from (same_key key) 0) (keys ∙ ap (map own_key) seen) ∙ position_from-keys (same_key key) 0 now
-
--- the first place of the key at a place
-pub first_at_seen : (records now : List Record) (index : List Key) (place : ℕ) (d : Record) → records ≡ now → index ≡ map own_key records → position_from (same_key (get_or index place (own_key d))) 0 index ≡ position_from (has_own_key (own_key (get_or now place d))) 0 now
-first_at_seen records now index place d seen keys =
-    ap (λ l. position_from (same_key (get_or l place (own_key d))) 0 l) (keys ∙ ap (map own_key) seen)
-    ∙ ap (λ k. position_from (same_key k) 0 (map own_key now)) (get_or-keys now place d)
-    ∙ position_from-keys (same_key (own_key (get_or now place d))) 0 now
-
--- and the next place
-pub next_seen : (records now : List Record) (index : List Key) (place : ℕ) (d : Record) → records ≡ now → index ≡ map own_key records → position_from (same_key (get_or index place (own_key d))) (place + 1) (drop (place + 1) index) ≡ position_from (has_own_key (own_key (get_or now place d))) (place + 1) (drop (place + 1) now)
-next_seen records now index place d seen keys =
-    ap (λ l. position_from (same_key (get_or l place (own_key d))) (place + 1) (drop (place + 1) l)) (keys ∙ ap (map own_key) seen)
-    ∙ ap (λ k. position_from (same_key k) (place + 1) (drop (place + 1) (map own_key now))) (get_or-keys now place d)
-    ∙ ap (position_from (same_key (own_key (get_or now place d))) (place + 1)) (drop-map own_key (place + 1) now)
-    ∙ position_from-keys (same_key (own_key (get_or now place d))) (place + 1) (drop (place + 1) now)
 
 -- what is known of a place at which a test is first passed, from a place on
 pub record IsFoundFrom (test : Record → Bool) (from : ℕ) (xs : List Record) (place : ℕ) : Type 0 where
@@ -215,10 +185,10 @@ module _ {B : Type 0} (F : ℕ → List Record → B) (e : B) (key : Key) where
       (some.0, ap (has_own_key key) some.1 ∙ keyed.keyed some.0, walk_here all at place some.0 is at_keyed some.1)
 
 -- a record that is at a place and has a key, in a list that is seen as another
-pub has_key_at : (records now : List Record) (place : ℕ) (one : Record) (key : Key) → records ≡ now → place < length records → ((d : Record) → one ≡ get_or records place d) → same_key (own_key one) key ≡ true → HasKeyAt now place key
+pub has_key_at : (records now : List Record) (place : ℕ) (one : Record) (key : Key) → records ≡ now → place < length records → ((d : Record) → one ≡ get_or records place d) → same_key key (own_key one) ≡ true → HasKeyAt now place key
 has_key_at records now place one key seen within at same = record {
   within = omega (arith, within, ap length seen);
-  own = λ d. ap own_key (sym (at d ∙ ap (λ l. get_or l place d) seen)) ∙ same_key-true (own_key one) key same;
+  own = λ d. ap own_key (sym (at d ∙ ap (λ l. get_or l place d) seen)) ∙ sym (same_key-true key (own_key one) same);
 }
 
 -- the first place of the key of such a place is that of the key

@@ -1,7 +1,6 @@
 -- The keys by which the records of a list are found.
-use Rattle.std.specs.Prelude.{◌≡◌, ◌<◌, ℕ, Bool, true, List, Option, Some, None, map, length, nat_lt, slice_get}
+use Rattle.std.specs.Prelude.{◌≡◌, ◌<◌, ℕ, Bool, true, List, Option, Some, None, length, nat_lt, slice_get}
 use Rattle.std.specs.Prelude.{slice_index_or, if◌then◌else◌}
-use Rattle.std.specs.List.{list_all}
 use Rattle.fare_codes.specs.declared.nuc.TheConstants.{FARE_LIMIT}
 use Rattle.fare_index.specs.declared.key.Key.{Key}
 use Rattle.fare_index.specs.declared.key.Key.TheVariants as kind
@@ -38,11 +37,6 @@ extra_miles key _ = 0
 abbrev pub before : ℕ → Option ℕ → Option ℕ
 before place None = None
 before place (Some first) = if nat_lt first place then Some first else None
-
--- an index is that of the keys of a list of records, of which each fare's amount is in its range
-pub record IsIndexed (records : List Record) (index : List Key) : Type 0 where
-  pub keys : index ≡ map own_key records
-  pub amounts : list_all has_amount_in_range records ≡ true
 
 -- a record stands at a place of a list
 abbrev pub IsAmong : List Record → Record → Type 0

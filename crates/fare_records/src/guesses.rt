@@ -4,6 +4,7 @@ ghost use Rattle.std.specs.Prelude.{◌≡◌, ◌+◌, ◌*◌, ◌%◌, ◌^�
 ghost use Rattle.std.specs.List.{fold};
 ghost use Rattle.fare_records.specs.Spelling.{spelled_rule};
 
+use crate::record::Record;
 use fare_codes::{City, RuleId};
 use fare_index::Key;
 use fare_ports::NoMemory;
@@ -91,23 +92,31 @@ fn spelled(key: &Key) -> Option<u64> {
     }
 }
 
+/// The number of the key of a record; nothing where it files neither a city nor a rule.
+fn spelled_of(one: &Record) -> Option<u64> {
+    match one {
+        Record::City(city) => Some(spelled_city(city.code)),
+        Record::Rule(filed) => Some(mixed(spelled_rule(filed.rule().id))),
+        _ => None,
+    }
+}
+
 /// The slot of a number among so many, a power of two.
 fn slot_of(number: u64, slots: usize) -> usize {
     number as usize & (slots.max(1) - 1)
 }
 
 impl Guesses {
-    /// The places of the cities and the rules among the keys of some records. Places that don't fit 32 bits are left
-    /// out.
-    pub(crate) fn of(alloc: Global, keys: &[Key]) -> Result<Guesses, NoMemory> {
-        let slots = keys
+    /// The places of the cities and the rules among some records. Places that don't fit 32 bits are left out.
+    pub(crate) fn of(alloc: Global, records: &[Record]) -> Result<Guesses, NoMemory> {
+        let slots = records
             .len()
             .max(FEWEST_SLOTS)
             .min(MOST_SLOTS)
             .next_power_of_two();
         let mut places = vec![in alloc; 0; slots]?;
-        for (place, key) in (0..u32::MAX).zip(keys.iter()) {
-            if let Some(number) = spelled(key) {
+        for (place, one) in (0..u32::MAX).zip(records.iter()) {
+            if let Some(number) = spelled_of(one) {
                 if let Some(slot) = places.get_mut(slot_of(number, slots)) {
                     *slot = place;
                 }

@@ -6,6 +6,7 @@
 //! - `fare_key`, `terms`, `names`: a fare's key, a rule's terms and its lists of names;
 //! - `fields`, `equality`: when two fields of a record, or two records, are the same;
 //! - `seasons`: when two seasons share a day;
+//! - `keyed`: the key of a record;
 //! - `filed`: a list of records with the places of their keys, and `guesses`, where that of a city or a rule may stand.
 #![tactic(auto)]
 
@@ -19,6 +20,7 @@ mod fields;
 mod filed;
 mod filed_rule;
 mod guesses;
+mod keyed;
 mod limits;
 mod mileage_record;
 mod names;
@@ -35,7 +37,7 @@ pub use equality::same_records;
 pub use fare_key::FareKey;
 pub use fare_record::FareRec;
 pub use fields::{same_pairs, same_rules};
-pub use filed::{Filed, own_key};
+pub use filed::Filed;
 pub use filed_rule::FiledRule;
 pub use guesses::spelled_rule;
 pub use limits::{

@@ -18,7 +18,7 @@ use Rattle.fare_records.specs.declared.record.Record.TheVariants as filed
 use Rattle.fare_records.specs.Keyed.{own_key, has_own_key}
 use Rattle.fare_records.specs.Record.{FareRecord}
 use Rattle.fare_records.specs.Seasons.{seasons_overlap}
-use Rattle.fare_records.proofs.Chain.{get_or-keys, position_from-keys}
+use Rattle.fare_index.proofs.Items.{key_at_place, position_by}
 use Rattle.fare_tariff.specs.declared.check.seen.Seen.{Seen}
 use Rattle.fare_tariff.specs.declared.look_up.seek.Sought.TheVariants.{Over}
 use Rattle.fare_tariff.specs.Check.{first_number, has_key_of, has_same_points, is_fare_over, is_zero_mileage, key_of}
@@ -399,14 +399,14 @@ not_both false isnt is = absurd (false≢true is)
 pub next_of_keys : (all : List Record) (grouped : Grouped) (key : Key) (place : ℕ) (d : Record) → grouped.keys ≡ map own_key all → is_of grouped key (get_or all place d) ≡ true → position_from (is_in_group grouped (group_of grouped (get_or grouped.keys place (own_key d)))) (place + 1) (drop (place + 1) grouped.keys) ≡ position_from (is_of grouped key) (place + 1) (drop (place + 1) all)
 next_of_keys all grouped key place d keys of_group =
     ap (λ l. position_from (is_in_group grouped (group_of grouped (get_or l place (own_key d)))) (place + 1) (drop (place + 1) l)) keys
-    ∙ ap (λ k. position_from (is_in_group grouped (group_of grouped k)) (place + 1) (drop (place + 1) (map own_key all))) (get_or-keys all place d)
+    ∙ ap (λ k. position_from (is_in_group grouped (group_of grouped k)) (place + 1) (drop (place + 1) (map own_key all))) (key_at_place own_key all place d)
     ∙ ap (λ n. position_from (is_in_group grouped n) (place + 1) (drop (place + 1) (map own_key all))) (eqb-true _ _ of_group)
     ∙ ap (position_from (is_in_group grouped (group_of grouped key)) (place + 1)) (drop-map own_key (place + 1) all)
-    ∙ position_from-keys (is_in_group grouped (group_of grouped key)) (place + 1) (drop (place + 1) all)
+    ∙ position_by own_key (is_in_group grouped (group_of grouped key)) (place + 1) (drop (place + 1) all)
 
 -- the first place of a group of keys is that of its records
 pub first_of_keys : (all : List Record) (grouped : Grouped) (place : ℕ) (d : Record) → grouped.keys ≡ map own_key all → position_from (is_in_group grouped (group_of grouped (get_or grouped.keys place (own_key d)))) 0 grouped.keys ≡ position_from (is_of grouped (own_key (get_or all place d))) 0 all
 first_of_keys all grouped place d keys =
     ap (λ l. position_from (is_in_group grouped (group_of grouped (get_or l place (own_key d)))) 0 l) keys
-    ∙ ap (λ k. position_from (is_in_group grouped (group_of grouped k)) 0 (map own_key all)) (get_or-keys all place d)
-    ∙ position_from-keys (is_in_group grouped (group_of grouped (own_key (get_or all place d)))) 0 all
+    ∙ ap (λ k. position_from (is_in_group grouped (group_of grouped k)) 0 (map own_key all)) (key_at_place own_key all place d)
+    ∙ position_by own_key (is_in_group grouped (group_of grouped (own_key (get_or all place d)))) 0 all

@@ -83,7 +83,7 @@ impl Edition {
 
     /// Its records with the places of their keys.
     #[tactic(auto, using(crate::proofs::Validity::length_in_limit))]
-    pub(crate) fn filed(&self) -> &Filed
+    pub fn filed(&self) -> &Filed
         ensures records { result.now ≡ self.now.records }
         ensures valid { IsEdition self.now.number self.now.records }
         ensures in_limit { length result.now ≤ MOST_RECORDS }

@@ -18,6 +18,6 @@ pub use edition::Edition;
 pub use fare_records::{
     CityRec, CurRec, EmaRec, FareKey, FareRec, Filed, FiledRule, MOST_DAYS, MOST_FARES_BETWEEN,
     MOST_MILES, MOST_NAMES, MOST_PLACES, MOST_RECORDS, MOST_STOPS, MOST_TRANSFERS, MileRec, Names,
-    PairRec, Record, RuleList, RuleRec, Terms, overlap_is_a_shared_day, own_key, same_records,
+    PairRec, Record, RuleList, RuleRec, Terms, overlap_is_a_shared_day, same_records,
 };
 pub use laws::{fare_of_a_day_is_one, fares_come_in_turn};

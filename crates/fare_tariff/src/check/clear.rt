@@ -48,7 +48,7 @@ fn is_suspect(filed: &Filed, place: usize, one: &Record, seen: &Seen) -> bool
 
 /// Whether no record is suspect of the group that begins with a record at a place. A fare whose bucket is empty has the
 /// key of none before it, so that few are compared.
-fn is_clear_group(filed: &Filed, groups: &Groups, first: usize, one: &Record) -> bool
+fn is_clear_group(filed: &Filed, groups: &Groups<'_, Record>, first: usize, one: &Record) -> bool
     requires grouped { groups.now.keys ≡ map own_key filed.now }
     requires first { position_from (is_of groups.now (own_key one.now)) 0 filed.now ≡ Some first }
     ensures { result ≡ true → IsClear filed.now groups.now (own_key one.now) }
@@ -69,7 +69,7 @@ fn is_clear_group(filed: &Filed, groups: &Groups, first: usize, one: &Record) ->
 }
 
 /// Whether no record is suspect of a group that begins at a place, where one does.
-fn is_clear_at(filed: &Filed, groups: &Groups, place: usize) -> bool
+fn is_clear_at(filed: &Filed, groups: &Groups<'_, Record>, place: usize) -> bool
     requires grouped { groups.now.keys ≡ map own_key filed.now }
     requires within { place < length filed.now }
     ensures { result ≡ true → IsClearAt filed.now groups.now place }
@@ -78,7 +78,7 @@ fn is_clear_at(filed: &Filed, groups: &Groups, place: usize) -> bool
 }
 
 /// Whether no record is suspect of the groups that begin in the block of records from a place on.
-fn is_clear_block(filed: &Filed, groups: &Groups, start: usize) -> bool
+fn is_clear_block(filed: &Filed, groups: &Groups<'_, Record>, start: usize) -> bool
     requires { groups.now.keys ≡ map own_key filed.now }
     ensures { result ≡ true → (place : ℕ) → start ≤ place → place < start + BLOCK → place < length filed.now →
         IsClearAt filed.now groups.now place }
@@ -93,7 +93,7 @@ fn is_clear_block(filed: &Filed, groups: &Groups, start: usize) -> bool
 }
 
 /// Whether no record is suspect of the groups that begin in the blocks of a strip.
-fn is_clear_strip(filed: &Filed, groups: &Groups, strip: usize) -> bool
+fn is_clear_strip(filed: &Filed, groups: &Groups<'_, Record>, strip: usize) -> bool
     requires grouped { groups.now.keys ≡ map own_key filed.now }
     requires within { strip < STRIPS }
     ensures { result ≡ true → (place : ℕ) → place / BLOCK % STRIPS ≡ strip → place < length filed.now →

@@ -5,7 +5,8 @@ ghost use Rattle.fare_tariff.specs.Check.{key_of, has_key_of, first_number, over
 ghost use Rattle.fare_records.specs.Keyed.{before};
 
 use crate::look_up::{Sought, first_fare, number_at};
-use fare_records::{FareKey, FareRec, Filed, MOST_PLACES, Record, own_key};
+use fare_index::Keyed;
+use fare_records::{FareKey, FareRec, Filed, MOST_PLACES, Record};
 
 /// The key of a filed fare without its season.
 pub(crate) fn key_of(fare: &FareRec) -> FareKey
@@ -39,7 +40,7 @@ fn first_of_key(filed: &Filed, one: &Record) -> Option<usize>
 {
     match one {
         Record::Fare(r) => first_fare(filed, &key_of(r), &Sought::Of(r.season)),
-        _ => filed.first(&own_key(one)),
+        _ => filed.first(&one.key()),
     }
 }
 

@@ -3,6 +3,7 @@ use Rattle.std.proofs.Common.{sym, ◌∙◌}
 use Rattle.fare_index.proofs.hashed.put_hashes.Goals as goal
 
 pub returns : goal.returns
-returns g c = λ i key hash within.
+returns g c = λ i one hash within.
     let there = (c.for_each_mut.ensures i hash within).1 in
-    sym there.left ∙ there.call key
+    let made = there.call one in
+    (sym there.left ∙ made.0, made.1)

@@ -1,9 +1,0 @@
--- the key at a place is what the call there left
-use Rattle.std.proofs.Common.{sym, ◌∙◌}
-use Rattle.fare_records.proofs.filed.put_keys.Goals as goal
-
-pub returns : goal.returns
-returns g c = λ i one key within.
-    let there = (c.for_each_mut.ensures i key within).1 in
-    let made = there.call one in
-    (sym there.left ∙ made.0, made.1)
