@@ -3,7 +3,6 @@ pub use Rattle.fare_tariff.specs.Tariff
 pub use Rattle.fare_csv.specs.CanonicalText
 pub mod SameRecord
 pub mod Diff
-pub mod Known
 pub mod DiffText
 pub mod Items
 pub mod Compared

@@ -17,8 +17,8 @@ use std::alloc::Global;
 pub fn diff_text(alloc: Global, old: &Edition, new: &Edition) -> Result<Vec<u8>, NoMemory>
     ensures { IfOk result (λ text. text.items ≡ diff_text old.now new.now) }
 {
-    let gone = lines_of_missing(alloc, b"- ", old.records(), new.records())?;
-    let more = lines_of_missing(alloc, b"+ ", new.records(), old.records())?;
+    let gone = lines_of_missing(alloc, b"- ", old.records(), new.filed())?;
+    let more = lines_of_missing(alloc, b"+ ", new.records(), old.filed())?;
     let mut text = Vec::new(alloc);
     push_diff_line(&mut text, old, new, gone.count, more.count)?;
     text.extend_from_slice(gone.text.as_slice())?;

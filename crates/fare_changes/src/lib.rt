@@ -2,7 +2,7 @@
 //! what changed (`Diff`, over `SameRecord`, and `DiffText`), and what trips cost (`Items`, `Compared`, `CompareText`).
 //!
 //! - `same`: when two records are equal;
-//! - `known`: the records of an edition by their keys, and where one is in it;
+//! - `held`: where an edition holds a record;
 //! - `missing`: the lines of the records that one edition alone has;
 //! - `diff`, `laws`: the text of what changed, and what follows of it for every two editions;
 //! - `items`: the items of a batch, from its text;
@@ -19,9 +19,9 @@ mod compare;
 mod compared;
 mod comparer;
 mod diff;
+mod held;
 mod item_line;
 mod items;
-mod known;
 mod laws;
 mod missing;
 mod outcome;

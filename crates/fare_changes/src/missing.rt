@@ -4,12 +4,11 @@ ghost use Rattle.std.specs.Prelude.{◌≡◌, ◌+◌, ◌<◌, ◌≤◌, [], 
 ghost use Rattle.std.specs.List.{flat_map};
 ghost use Rattle.fare_changes.specs.Diff.{is_missing, only_in};
 ghost use Rattle.fare_changes.specs.DiffText.{marked};
-ghost use Rattle.fare_changes.specs.Known.{IsKnown};
 
-use crate::known::{Known, known_of, place_of};
+use crate::held::place_of;
 use fare_csv::record_line;
 use fare_ports::NoMemory;
-use fare_tariff::{MOST_RECORDS, Record};
+use fare_tariff::{Filed, MOST_RECORDS, Record};
 use std::alloc::Global;
 
 /// The lines of some records behind a sign, and how many they are.
@@ -28,15 +27,14 @@ fn add_missing(
     lines: &mut Lines,
     alloc: Global,
     sign: &[u8],
-    others: &Known<'_>,
+    others: &Filed,
     one: &Record,
 ) -> Result<(), NoMemory>
-    requires known { IsKnown others.now }
-    requires few { lines.old.count < MOST_RECORDS }
+    requires { lines.old.count < MOST_RECORDS }
     ensures text { OnOk result (lines.new.text.items ≡ lines.old.text.items
-        ++ (if is_missing others.now.records.now one.now then marked sign.now one.now else [])) }
+        ++ (if is_missing others.now one.now then marked sign.now one.now else [])) }
     ensures count { OnOk result (lines.new.count
-        ≡ lines.old.count + (if is_missing others.now.records.now one.now then 1 else 0)) }
+        ≡ lines.old.count + (if is_missing others.now one.now then 1 else 0)) }
 {
     if let Some(place) = place_of(others, one, lines.near) {
         lines.near = place.saturating_add(1);
@@ -50,18 +48,17 @@ fn add_missing(
     Ok(())
 }
 
-/// The lines of the records of a list that others don't hold, in the order of the list.
-fn add_each(
+/// The lines of the records of a list that others don't hold, behind a sign, in the order of the list.
+pub(crate) fn lines_of_missing(
     alloc: Global,
     sign: &[u8],
     records: &[Record],
-    others: &Known<'_>,
+    others: &Filed,
 ) -> Result<Lines, NoMemory>
-    requires known { IsKnown others.now }
-    requires few { length records.now ≤ MOST_RECORDS }
+    requires { length records.now ≤ MOST_RECORDS }
     ensures text { IfOk result (λ lines. lines.text.items
-        ≡ flat_map (marked sign.now) (only_in records.now others.now.records.now)) }
-    ensures count { IfOk result (λ lines. lines.count ≡ length (only_in records.now others.now.records.now)) }
+        ≡ flat_map (marked sign.now) (only_in records.now others.now)) }
+    ensures count { IfOk result (λ lines. lines.count ≡ length (only_in records.now others.now)) }
 {
     let mut lines = Lines {
         text: Vec::new(alloc),
@@ -72,20 +69,4 @@ fn add_each(
         add_missing(&mut lines, alloc, sign, others, one)?;
     }
     Ok(lines)
-}
-
-/// The lines of the records of a list that others aren't, behind a sign.
-pub(crate) fn lines_of_missing(
-    alloc: Global,
-    sign: &[u8],
-    records: &[Record],
-    others: &[Record],
-) -> Result<Lines, NoMemory>
-    requires { length records.now ≤ MOST_RECORDS }
-    ensures text { IfOk result (λ lines. lines.text.items
-        ≡ flat_map (marked sign.now) (only_in records.now others.now)) }
-    ensures count { IfOk result (λ lines. lines.count ≡ length (only_in records.now others.now)) }
-{
-    let others = known_of(alloc, others)?;
-    add_each(alloc, sign, records, &others)
 }

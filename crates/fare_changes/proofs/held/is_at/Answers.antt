@@ -1,6 +1,6 @@
 use Rattle.std.proofs.Common.{◌∙◌, sym}
 use Rattle.fare_changes.proofs.Held.{is_in_at}
-use Rattle.fare_changes.proofs.known.is_at.Goals as goal
+use Rattle.fare_changes.proofs.held.is_at.Goals as goal
 
 pub returns-in-Some : goal.returns-in-Some
 returns-in-Some c = λ h.

@@ -4,13 +4,13 @@ use Rattle.fare_records.specs.Keyed.{own_key}
 use Rattle.fare_records.proofs.Chain.{IsKeyed, from_place, rest_from}
 use Rattle.fare_changes.specs.Diff.{is_in}
 use Rattle.fare_changes.proofs.Held.{in_rest}
-use Rattle.fare_changes.proofs.known.place_by_key.Given as goal
+use Rattle.fare_changes.proofs.held.place_by_key.Given as goal
 
 abbrev pub invariant-loop-at : goal.invariant-loop-at
 invariant-loop-at l = record {
-  keyed : IfSome l.at (IsKeyed (own_key l.one) l.known.records.now);
-  same : from_place (in_rest l.one) false (own_key l.one) l.known.records.now l.at ≡ is_in l.known.records.now l.one;
+  keyed : IfSome l.at (IsKeyed (own_key l.one) l.filed);
+  same : from_place (in_rest l.one) false (own_key l.one) l.filed l.at ≡ is_in l.filed l.one;
 }
 
 abbrev pub decreases-loop-at : goal.decreases-loop-at
-decreases-loop-at l = rest_from l.known.records.now l.at
+decreases-loop-at l = rest_from l.filed l.at
