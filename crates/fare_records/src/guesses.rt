@@ -2,7 +2,7 @@
 
 ghost use Rattle.std.specs.Prelude.{◌≡◌, ◌+◌, ◌*◌, ◌%◌, ◌^◌};
 ghost use Rattle.std.specs.List.{fold};
-ghost use Rattle.fare_records.specs.Spelling.{spelled_rule};
+ghost use Rattle.fare_records.specs.Spelling.{spelled_city, spelled_rule};
 
 use crate::record::Record;
 use fare_codes::{City, RuleId};
@@ -71,10 +71,17 @@ pub fn spelled_rule(id: RuleId) -> u64
 }
 
 /// The number that the letters of a city spell.
-fn spelled_city(city: City) -> u64 {
+#[tactic(auto, unfolding(crate::specs::Spelling::spelled_city))]
+pub fn spelled_city(city: City) -> u64
+    ensures { result ≡ spelled_city city }
+{
     let mut spelling = Spelling { number: 0 };
     city.hash(&mut spelling);
-    let number = spelling.finish();
+    spelling.finish()
+}
+
+/// The bits of a number that three letters fill, in which those that they overflow into count too.
+fn folded(number: u64) -> u64 {
     number ^ (number >> SLOT_BITS)
 }
 
@@ -86,7 +93,7 @@ fn mixed(number: u64) -> u64 {
 /// The number by which the slot of a key is found; nothing where it is neither a city's nor a rule's.
 fn spelled(key: &Key) -> Option<u64> {
     match key {
-        Key::City(city) => Some(spelled_city(*city)),
+        Key::City(city) => Some(folded(spelled_city(*city))),
         Key::Rule(id) => Some(mixed(spelled_rule(*id))),
         _ => None,
     }
@@ -95,7 +102,7 @@ fn spelled(key: &Key) -> Option<u64> {
 /// The number of the key of a record; nothing where it files neither a city nor a rule.
 fn spelled_of(one: &Record) -> Option<u64> {
     match one {
-        Record::City(city) => Some(spelled_city(city.code)),
+        Record::City(city) => Some(folded(spelled_city(city.code))),
         Record::Rule(filed) => Some(mixed(spelled_rule(filed.rule().id))),
         _ => None,
     }

@@ -39,7 +39,7 @@ pub use fare_record::FareRec;
 pub use fields::{same_pairs, same_rules};
 pub use filed::Filed;
 pub use filed_rule::FiledRule;
-pub use guesses::spelled_rule;
+pub use guesses::{spelled_city, spelled_rule};
 pub use limits::{
     MOST_DAYS, MOST_FARES_BETWEEN, MOST_MILES, MOST_NAMES, MOST_PLACES, MOST_RECORDS, MOST_STOPS,
     MOST_TRANSFERS,

@@ -24,7 +24,8 @@ use Rattle.fare_tariff.specs.declared.look_up.seek.Sought.TheVariants.{Over}
 use Rattle.fare_tariff.specs.Check.{first_number, has_key_of, has_same_points, is_fare_over, is_zero_mileage, key_of}
 use Rattle.fare_tariff.specs.Faulty.{clash_of, has_kind_at, is_of, is_suspect, names_unknown, IsClear}
 use Rattle.fare_tariff.specs.Lookup.{has_key, is_fare_between, number_at}
-use Rattle.fare_tariff.specs.Seen.{bucket_of, bucket_of_key, marked, may_clash, may_clash_some, none_seen, noted}
+use Rattle.fare_tariff.specs.Seen.{bucket_of, bucket_of_key, bucket_of_record, marked, may_clash, may_clash_some, none_seen, noted}
+use Rattle.fare_tariff.proofs.Buckets.{one_bucket, small}
 use Rattle.fare_tariff.proofs.FoundByKey.{fare_tells}
 use Rattle.fare_tariff.proofs.FoundFares.{and_true, count_cons, counted, not_counted}
 use Rattle.fare_tariff.proofs.KindTests.{kind_tells}
@@ -117,24 +118,18 @@ neither : (p q : Bool) → false ≡ (p || q) → (p ≡ false) × (q ≡ false)
 neither true q h = absurd (false≢true h)
 neither false q h = (refl, sym h)
 
--- a bucket is one of all
-small : (r : FareRecord) → bucket_of r < 61
-small r = omega arith
-
 marked_long : (buckets : List Bool) (one : Record) → length buckets ≡ 61 → length (marked buckets one) ≡ 61
-marked_long buckets (filed.Fare r) long = length-set buckets (bucket_of r) true ∙ long
-marked_long buckets _ long = long
+marked_long buckets one long = length-set buckets (bucket_of_record one) true ∙ long
 
 -- a bucket that is marked stays so
 still_marked : (buckets : List Bool) (one : Record) (i : ℕ) → length buckets ≡ 61 → get_or buckets i false ≡ true → get_or (marked buckets one) i false ≡ true
-still_marked buckets (filed.Fare f) i long h = ⊎_elim
-    (λ same. ap (λ k. get_or (set buckets (bucket_of f) true) k false) same ∙ get_or-set_same buckets (bucket_of f) true false (omega (arith, small f, long)))
-    (λ other. get_or-set_other buckets (bucket_of f) i true false other ∙ h)
-    (cases_eq i (bucket_of f))
-still_marked buckets _ i long h = h
+still_marked buckets one i long h = ⊎_elim
+    (λ same. ap (λ k. get_or (set buckets (bucket_of_record one) true) k false) same ∙ get_or-set_same buckets (bucket_of_record one) true false (omega (arith, small one, long)))
+    (λ other. get_or-set_other buckets (bucket_of_record one) i true false other ∙ h)
+    (cases_eq i (bucket_of_record one))
 
-own_marked : (buckets : List Bool) (r : FareRecord) → length buckets ≡ 61 → get_or (marked buckets (filed.Fare r)) (bucket_of r) false ≡ true
-own_marked buckets r long = get_or-set_same buckets (bucket_of r) true false (omega (arith, small r, long))
+own_marked : (buckets : List Bool) (one : Record) → length buckets ≡ 61 → get_or (marked buckets one) (bucket_of_record one) false ≡ true
+own_marked buckets one long = get_or-set_same buckets (bucket_of_record one) true false (omega (arith, small one, long))
 
 -- one more below the limit is one more
 one_noted : (n : ℕ) → cond (ltb n MOST_FARES_BETWEEN) (n + 1) n < MOST_FARES_BETWEEN → (n < MOST_FARES_BETWEEN) × (cond (ltb n MOST_FARES_BETWEEN) (n + 1) n ≡ n + 1)
@@ -165,14 +160,14 @@ module _ (all : List Record) (grouped : Grouped) (key : Key) where
   alike : (x y : Record) → own_key x ≡ own_key y → is_of grouped key y ≡ true → is_of grouped key x ≡ true
   alike x y same h = ap (λ k. group_of grouped k == group_of grouped key) same ∙ h
 
-  -- the walk at a place of the list: what it has passed has no kind, its fares are in their buckets, and it is counted
+  -- the walk at a place of the list: what it has passed has no kind, is in its buckets, and is counted
   pub record IsWalked (seen : Seen) (at : Option ℕ) : Type 0 where
     pub start : ℕ
     pub start_within : start ≤ length all
     pub next : at ≡ position_from (is_of grouped key) start (drop start all)
     pub clear : (q : ℕ) (d : Record) → q < start → is_of grouped key (get_or all q d) ≡ true → has_kind_at all q ≡ false
     pub long : length seen.buckets ≡ 61
-    pub marks : (q : ℕ) (d : Record) (r : FareRecord) → q < start → get_or all q d ≡ filed.Fare r → is_of grouped key (filed.Fare r) ≡ true → get_or seen.buckets (bucket_of r) false ≡ true
+    pub marks : (q : ℕ) (d : Record) → q < start → is_of grouped key (get_or all q d) ≡ true → get_or seen.buckets (bucket_of_record (get_or all q d)) false ≡ true
     pub counts : seen.count < MOST_FARES_BETWEEN → seen.count + count_by (is_of grouped key) (drop start all) ≡ count_by (is_of grouped key) all
 
   -- the walk begins
@@ -183,7 +178,7 @@ module _ (all : List Record) (grouped : Grouped) (key : Key) where
     next = sym found;
     clear = λ q d low of_group. absurd (omega (arith, low));
     long = refl;
-    marks = λ q d r low is_fare of_group. absurd (omega (arith, low));
+    marks = λ q d low of_group. absurd (omega (arith, low));
     counts = λ few. omega arith;
   })
 
@@ -249,7 +244,10 @@ module _ (all : List Record) (grouped : Grouped) (key : Key) where
       let own : own_key (filed.Fare f) ≡ own_key (filed.Fare r) = ap (λ (k : FareKey). Fares k.from k.to k.ind) same in
       let also : is_of grouped key (filed.Fare f) ≡ true = alike (filed.Fare f) (filed.Fare r) own of_group in
       ⊎_elim
-      (λ lt. ap (λ k. get_or seen.buckets (bucket_of_key k) false) (sym same) ∙ walked.marks q (filed.Fare f) f lt read also)
+      (λ lt.
+      ap (λ k. get_or seen.buckets (bucket_of_key k) false) (sym same)
+      ∙ ap (λ o. get_or seen.buckets (bucket_of_record o) false) (sym read)
+      ∙ walked.marks q (filed.Fare f) lt (ap (is_of grouped key) read ∙ also))
       (λ ge. absurd (false≢true (sym (here.apart q (filed.Fare f) ge low) ∙ ap (is_of grouped key) read ∙ also)))
       (cases_lt q walked.start)
   over_marked seen at place q r _ is low read of_group walked over = absurd (false≢true over)
@@ -276,9 +274,40 @@ module _ (all : List Record) (grouped : Grouped) (key : Key) where
           go true over = absurd (false≢true (sym empty ∙ over_marked seen at place q r (get_or all q d) is low (get_or_default all q (get_or all q d) d within) of_group walked over))
           go false fails = refl
 
+  -- a record of the group with the key of one that is no fare is in its bucket
+  key_marked : (seen : Seen) (at : Option ℕ) (place q : ℕ) (one x : Record) → at ≡ Some place → q < place → get_or all q x ≡ x → ((fare : FareRecord) → one ≡ filed.Fare fare → ⊥) → is_of grouped key one ≡ true → (walked : IsWalked seen at) → has_key_of one x ≡ true → get_or seen.buckets (bucket_of_record one) false ≡ true
+  key_marked seen at place q one x is low read isnt of_group walked has =
+      let here = walk_at seen at place is walked in
+      let own : own_key one ≡ own_key x = same_key-true (own_key one) (own_key x) (own_tells one x isnt ∙ has) in
+      let also : is_of grouped key x ≡ true = alike x one (sym own) of_group in
+      ⊎_elim
+      (λ lt.
+      ap (λ b. get_or seen.buckets b false) (one_bucket one x isnt own)
+      ∙ ap (λ o. get_or seen.buckets (bucket_of_record o) false) (sym read)
+      ∙ walked.marks q x lt (ap (is_of grouped key) read ∙ also))
+      (λ ge. absurd (false≢true (sym (here.apart q x ge low) ∙ ap (is_of grouped key) read ∙ also)))
+      (cases_lt q walked.start)
+
+  -- one that is no fare, in an empty bucket, clashes with none
+  other_apart : (seen : Seen) (at : Option ℕ) (place : ℕ) (one : Record) → at ≡ Some place → ((fare : FareRecord) → one ≡ filed.Fare fare → ⊥) → is_of grouped key one ≡ true → false ≡ get_or seen.buckets (bucket_of_record one) false → IsWalked seen at → false ≡ is_some (first_number (has_key_of one) (take place all))
+  other_apart seen at place one is isnt of_group empty walked =
+      sym (ap (λ o. is_some (option_map number_at o)) (position_from-zero (has_key_of one) (take place all) ∙ none_before (has_key_of one) 0 place all not_own))
+    where
+      not_own : (q : ℕ) (d : Record) → q < place → q < length all → has_key_of one (get_or all q d) ≡ false
+      not_own q d low within = go (has_key_of one (get_or all q d)) refl
+        where
+          go : (t : Bool) → has_key_of one (get_or all q d) ≡ t → t ≡ false
+          go true has = absurd (false≢true (empty ∙ key_marked seen at place q one (get_or all q d) is low (get_or_default all q (get_or all q d) d within) isnt of_group walked has))
+          go false fails = refl
+
   some_apart : (seen : Seen) (at : Option ℕ) (place : ℕ) (one : Record) → at ≡ Some place → is_of grouped key one ≡ true → false ≡ may_clash_some seen one → IsWalked seen at → false ≡ clash_of (take place all) one
   some_apart seen at place (filed.Fare r) is of_group apart walked = fare_apart seen at place r is of_group apart walked
-  some_apart seen at place _ is of_group apart walked = absurd (false≢true apart)
+  some_apart seen at place (filed.City r) is of_group apart walked = other_apart seen at place (filed.City r) is (λ fare h. cc) of_group apart walked
+  some_apart seen at place (filed.Cur r) is of_group apart walked = other_apart seen at place (filed.Cur r) is (λ fare h. cc) of_group apart walked
+  some_apart seen at place (filed.Rule r) is of_group apart walked = other_apart seen at place (filed.Rule r) is (λ fare h. cc) of_group apart walked
+  some_apart seen at place (filed.Mpm r) is of_group apart walked = other_apart seen at place (filed.Mpm r) is (λ fare h. cc) of_group apart walked
+  some_apart seen at place (filed.Tpm r) is of_group apart walked = other_apart seen at place (filed.Tpm r) is (λ fare h. cc) of_group apart walked
+  some_apart seen at place (filed.Ema r) is of_group apart walked = other_apart seen at place (filed.Ema r) is (λ fare h. cc) of_group apart walked
 
   -- a record before which none of the group was passed clashes with none
   fare_alone : (place : ℕ) (r : FareRecord) → is_of grouped key (filed.Fare r) ≡ true → count_by (is_of grouped key) (take place all) ≡ 0 → false ≡ clash_of (take place all) (filed.Fare r)
@@ -357,7 +386,7 @@ module _ (all : List Record) (grouped : Grouped) (key : Key) where
         next = found;
         clear = λ q d low other. passed q d low other (clear_here seen at place one is read in_limit unsuspected walked);
         long = marked_long seen.buckets one walked.long;
-        marks = λ q d r low is_fare other. noted_at q d r low is_fare other;
+        marks = λ q d low other. noted_at q d low other;
         counts = λ few.
             let below_limit = one_noted seen.count few in
             omega (arith, below_limit.1, walked.counts below_limit.0, here.rest, counted_here);
@@ -373,14 +402,14 @@ module _ (all : List Record) (grouped : Grouped) (key : Key) where
           (cases_eq q place))
           (cases_lt q walked.start)
 
-      noted_at : (q : ℕ) (d : Record) (r : FareRecord) → q < place + 1 → get_or all q d ≡ filed.Fare r → is_of grouped key (filed.Fare r) ≡ true → get_or (marked seen.buckets one) (bucket_of r) false ≡ true
-      noted_at q d r low is_fare other = ⊎_elim
-          (λ lt. still_marked seen.buckets one (bucket_of r) walked.long (walked.marks q d r lt is_fare other))
+      noted_at : (q : ℕ) (d : Record) → q < place + 1 → is_of grouped key (get_or all q d) ≡ true → get_or (marked seen.buckets one) (bucket_of_record (get_or all q d)) false ≡ true
+      noted_at q d low other = ⊎_elim
+          (λ lt. still_marked seen.buckets one (bucket_of_record (get_or all q d)) walked.long (walked.marks q d lt other))
           (λ ge. ⊎_elim
           (λ same.
-          let fare : one ≡ filed.Fare r = read ∙ get_or_default all place one d (walk_at seen at place is walked).within ∙ ap (λ i. get_or all i d) (sym same) ∙ is_fare in
-          ap (λ o. get_or (marked seen.buckets o) (bucket_of r) false) fare ∙ own_marked seen.buckets r walked.long)
-          (λ differs. absurd (false≢true (sym ((walk_at seen at place is walked).apart q d ge (omega (arith, low, differs))) ∙ ap (is_of grouped key) is_fare ∙ other)))
+          let own : get_or all q d ≡ one = ap (λ i. get_or all i d) same ∙ get_or_default all place d one (walk_at seen at place is walked).within ∙ sym read in
+          ap (λ o. get_or (marked seen.buckets one) (bucket_of_record o) false) own ∙ own_marked seen.buckets one walked.long)
+          (λ differs. absurd (false≢true (sym ((walk_at seen at place is walked).apart q d ge (omega (arith, low, differs))) ∙ other)))
           (cases_eq q place))
           (cases_lt q walked.start)
 

@@ -14,5 +14,6 @@ pub mod FoundFares
 pub mod OneFare
 pub mod FoundOptions
 pub mod NextFares
+pub mod Buckets
 pub mod Grouped
 pub mod Strips

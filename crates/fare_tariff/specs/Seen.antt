@@ -13,7 +13,11 @@ use Rattle.fare_records.specs.declared.record.Record.TheVariants as filed
 use Rattle.fare_records.specs.declared.fare_key.FareKey.{FareKey}
 use Rattle.fare_records.specs.Record.{FareRecord}
 use Rattle.fare_tariff.specs.Check.{key_of}
-use Rattle.fare_records.specs.Spelling.{spelled_rule}
+use Rattle.fare_records.specs.Keyed.{own_key}
+use Rattle.fare_records.specs.Spelling.{spelled_city, spelled_rule}
+use Rattle.fare_codes.specs.declared.city.City.{City}
+use Rattle.fare_index.specs.declared.key.Key.{Key}
+use Rattle.fare_index.specs.declared.key.Key.TheVariants as kind
 
 -- a number for a rule field
 abbrev pub rule_number : Option RuleId → ℕ
@@ -42,6 +46,24 @@ bucket_of_key key =
 abbrev pub bucket_of : FareRecord → ℕ
 bucket_of fare = bucket_of_key (key_of fare)
 
+-- the bucket of two cities, in either order
+abbrev pub bucket_of_pair : City → City → ℕ
+bucket_of_pair a b = (spelled_city a % 61 + spelled_city b % 61) % 61
+
+-- the bucket of the records other than fares with a key
+abbrev pub bucket_of_own : Key → ℕ
+bucket_of_own (kind.City city) = spelled_city city % 61
+bucket_of_own (kind.Rule id) = spelled_rule id % 61
+bucket_of_own (kind.Permitted a b ind) = bucket_of_pair a b
+bucket_of_own (kind.Ticketed a b) = bucket_of_pair a b
+bucket_of_own (kind.Extra a b ind via) = bucket_of_pair a b
+bucket_of_own _ = 0
+
+-- the bucket of a record
+abbrev pub bucket_of_record : Record → ℕ
+bucket_of_record (filed.Fare r) = bucket_of r
+bucket_of_record one = bucket_of_own (own_key one)
+
 -- none was passed
 abbrev pub none_seen : Seen
 none_seen = record { count = 0; buckets = replicate 61 false }
@@ -50,7 +72,7 @@ none_seen = record { count = 0; buckets = replicate 61 false }
 abbrev pub may_clash_some : Seen → Record → Bool
 may_clash_some seen (filed.Fare r) =
     nat_le MOST_FARES_BETWEEN seen.count || slice_index_or seen.buckets (bucket_of r) false
-may_clash_some seen _ = true
+may_clash_some seen one = slice_index_or seen.buckets (bucket_of_record one) false
 
 -- some were passed, and a record may clash with them
 abbrev pub may_clash : Seen → Record → Bool
@@ -58,8 +80,7 @@ may_clash seen one = nat_lt 0 seen.count && may_clash_some seen one
 
 -- the buckets, with that of a record
 abbrev pub marked : List Bool → Record → List Bool
-marked buckets (filed.Fare r) = slice_set buckets (bucket_of r) true
-marked buckets _ = buckets
+marked buckets one = slice_set buckets (bucket_of_record one) true
 
 -- one more was passed
 abbrev pub noted : Seen → Record → Seen

@@ -1,12 +1,12 @@
-//! The records that a walk over a group has passed: how many, and the fares' buckets. Fares with one key share a bucket,
-//! so a fare that comes to an empty one has the key of none before it.
+//! The records that a walk over a group has passed: how many, and their buckets. Records with one key share a bucket, so
+//! one that comes to an empty one has the key of none before it.
 
 ghost use Rattle.std.specs.Prelude.{◌≡◌, ◌<◌, length};
-ghost use Rattle.fare_tariff.specs.Seen.{bucket_of, class_number, kind_number, may_clash, noted, none_seen};
-ghost use Rattle.fare_tariff.specs.Seen.{rule_number};
+ghost use Rattle.fare_tariff.specs.Seen.{bucket_of, bucket_of_pair, bucket_of_record, class_number, kind_number};
+ghost use Rattle.fare_tariff.specs.Seen.{may_clash, noted, none_seen, rule_number};
 
-use fare_codes::{Cabin, Carrier, Kind, RuleId};
-use fare_records::{FareRec, MOST_FARES_BETWEEN, Record, spelled_rule};
+use fare_codes::{Cabin, Carrier, City, Kind, RuleId};
+use fare_records::{FareRec, MOST_FARES_BETWEEN, Record, spelled_city, spelled_rule};
 
 /// How many buckets there are: a prime, so that each character of a rule's id counts.
 const BUCKETS: usize = 61;
@@ -64,6 +64,31 @@ fn bucket_of(fare: &FareRec) -> usize
     (number % 61) as usize
 }
 
+/// The bucket of two cities, in either order.
+fn bucket_of_pair(a: City, b: City) -> usize
+    ensures value { result ≡ bucket_of_pair a b }
+    ensures within { result < 61 }
+{
+    ((spelled_city(a) % 61 + spelled_city(b) % 61) % 61) as usize
+}
+
+/// The bucket of a record.
+#[tactic(auto, using(crate::proofs::Buckets::of_ordered))]
+fn bucket_of_record(one: &Record) -> usize
+    ensures value { result ≡ bucket_of_record one.now }
+    ensures within { result < 61 }
+{
+    match one {
+        Record::City(r) => (spelled_city(r.code) % 61) as usize,
+        Record::Cur(_) => 0,
+        Record::Rule(r) => (spelled_rule(r.rule().id) % 61) as usize,
+        Record::Fare(r) => bucket_of(r),
+        Record::Mpm(r) => bucket_of_pair(r.from, r.to),
+        Record::Tpm(r) => bucket_of_pair(r.from, r.to),
+        Record::Ema(r) => bucket_of_pair(r.from, r.to),
+    }
+}
+
 impl Seen {
     /// None was passed.
     pub(crate) fn new() -> Seen
@@ -75,8 +100,8 @@ impl Seen {
         }
     }
 
-    /// Whether a record may clash with those that were passed: of a fare, as many as there may be or one in its bucket
-    /// were passed; of any other, some were.
+    /// Whether a record may clash with those that were passed: one in its bucket was, or, of a fare, as many as there may
+    /// be.
     pub(crate) fn may_clash(&self, one: &Record) -> bool
         requires { length self.now.buckets ≡ 61 }
         ensures { result ≡ may_clash self.now one.now }
@@ -86,7 +111,7 @@ impl Seen {
         }
         match one {
             Record::Fare(fare) => self.count >= MOST_FARES_BETWEEN || self.buckets[bucket_of(fare)],
-            _ => true,
+            _ => self.buckets[bucket_of_record(one)],
         }
     }
 
@@ -98,8 +123,6 @@ impl Seen {
         if self.count < MOST_FARES_BETWEEN {
             self.count += 1;
         }
-        if let Record::Fare(fare) = one {
-            self.buckets[bucket_of(fare)] = true;
-        }
+        self.buckets[bucket_of_record(one)] = true;
     }
 }
