@@ -37,10 +37,13 @@ impl Keyed for Record {
         }
     }
 
-    /// A search looks up rules again and again, so of a rule its id alone is compared.
+    /// A search looks up rules and fares again and again, so of these no key is made.
     fn has(&self, key: &Key) -> bool {
         match (self, key) {
             (Record::Rule(filed), Key::Rule(id)) => id.is(filed.rule().id),
+            (Record::Fare(r), Key::Fares(from, to, ind)) => {
+                from.is(r.from) && to.is(r.to) && ind.is(r.ind)
+            }
             _ => *key == self.key(),
         }
     }
