@@ -1,5 +1,5 @@
 pub mod SameRecords
-pub mod Held
+pub mod HeldLemmas
 pub mod Shuffled
 pub mod Once
 pub mod Counted

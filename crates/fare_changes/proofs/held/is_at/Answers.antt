@@ -1,5 +1,5 @@
 use Rattle.std.proofs.Common.{◌∙◌, sym}
-use Rattle.fare_changes.proofs.Held.{is_in_at}
+use Rattle.fare_changes.proofs.HeldLemmas.{is_in_at}
 use Rattle.fare_changes.proofs.held.is_at.Goals as goal
 
 pub returns-in-Some : goal.returns-in-Some

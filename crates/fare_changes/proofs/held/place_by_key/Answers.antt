@@ -1,11 +1,11 @@
 -- one step from a record with the key to the next
-use Rattle.std.proofs.Common.{◌≡◌, ◌+◌, true, false, ◌||◌, drop, get_or, length, IfSome, ap, subst, sym, ◌∙◌, arith}
+use Rattle.std.proofs.Common.{◌≡◌, ◌+◌, true, false, ◌||◌, drop, get_or, IfSome, ap, subst, sym, ◌∙◌}
 use Rattle.std.specs.List.{position_from}
 use Rattle.fare_records.specs.Keyed.{own_key, has_own_key}
 use Rattle.fare_records.proofs.Chain.{IsKeyed, from_first, from_place, keyed_first, walk_here, walk_step}
 use Rattle.fare_changes.specs.SameRecord.{same_record}
 use Rattle.fare_changes.specs.Diff.{is_in}
-use Rattle.fare_changes.proofs.Held.{in_looks, in_rest}
+use Rattle.fare_changes.proofs.HeldLemmas.{in_looks, in_rest}
 use Rattle.fare_changes.proofs.held.place_by_key.Goals as goal
 
 pub loop-at-init : goal.loop-at-init

@@ -3,7 +3,7 @@ use Rattle.std.proofs.Common.{◌≡◌, IfSome, false}
 use Rattle.fare_records.specs.Keyed.{own_key}
 use Rattle.fare_records.proofs.Chain.{IsKeyed, from_place, rest_from}
 use Rattle.fare_changes.specs.Diff.{is_in}
-use Rattle.fare_changes.proofs.Held.{in_rest}
+use Rattle.fare_changes.proofs.HeldLemmas.{in_rest}
 use Rattle.fare_changes.proofs.held.place_by_key.Given as goal
 
 abbrev pub invariant-loop-at : goal.invariant-loop-at
