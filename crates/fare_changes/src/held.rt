@@ -28,7 +28,8 @@ fn is_at(records: &[Record], one: &Record, place: usize) -> bool
     }
 }
 
-/// The same by the key of the record: one after the other the records with its key are compared, which are few.
+/// The place of a record that equals one, if there is one, by its key: one after the other the records with that key are
+/// compared, which are few.
 fn place_by_key(filed: &Filed, one: &Record) -> Option<usize>
     ensures { is_some result ≡ is_in filed.now one.now }
 {

@@ -247,7 +247,8 @@ fn make(homing: &mut Homing, table: &Table, price: Option<u64>, bar: Option<Bar>
 /// Makes the homing of the trip of a table in the place of another, under a ceiling where a price is given; of its
 /// units nothing is known.
 pub fn make_homing(homing: &mut Homing, table: &Table, price: Option<u64>)
-    ensures { AreHomingsOf table.now.edition table.now.trip homing.new }
+    ensures homings { AreHomingsOf table.now.edition table.now.trip homing.new }
+    ensures ceiling { IfSome homing.new.ceiling (λ ceiling. price ≡ Some ceiling.price) }
 {
     make(homing, table, price, None);
 }

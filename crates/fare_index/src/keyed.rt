@@ -7,8 +7,10 @@ use std::marker::Sync;
 
 /// What an index finds by its key.
 pub trait Keyed: Sync {
+    /// Its key.
     ghost key_of: { Self → Key };
 
+    /// What holds of it by its type.
     ghost holds_of: { Self → Bool };
 
     /// The key by which it is found, and what holds of it by its type.

@@ -10,11 +10,13 @@
 //! - `rank`: hashes in their order, and the place of one among them;
 //! - `slots`: the slot of a key, by the last bits of its hash, or by the place of its hash where too many would share one;
 //! - `link`: a place, or nothing, in four bytes;
+//! - `crowd`: how many places have one slot;
 //! - `places`: the places of the keys of a slot, linked in one pass over their hashes from the back;
 //! - `index`: items with the places of their keys;
 //! - `groups`: their keys in groups, in which equal keys are together.
 #![tactic(auto)]
 
+mod crowd;
 mod groups;
 mod hashed;
 mod index;

@@ -2,7 +2,8 @@
 //! are made in one pass from the back over the hashes of the keys, in which no two keys are compared; only a look-up
 //! compares keys. Where a slot gets so many places that look-ups would be slow, they are made once more by other slots.
 
-ghost use Rattle.std.specs.Prelude.{ℕ, List, ◌≡◌, ◌≢◌, ◌+◌, ◌<◌, ◌≤◌, true, false, IfOk, Some, length, drop, map, slice_index_or};
+ghost use Rattle.std.specs.Prelude.{ℕ, List, ◌≡◌, ◌≢◌, ◌+◌, ◌<◌, ◌≤◌, true, false, IfOk, Some};
+ghost use Rattle.std.specs.Prelude.{length, drop, map, slice_index_or};
 ghost use Rattle.std.specs.List.{position_from};
 ghost use Rattle.fare_index.specs.declared.key.Key.{Key};
 ghost use Rattle.fare_index.specs.Hashed.{hash_of};
@@ -10,20 +11,13 @@ ghost use Rattle.fare_index.specs.Key.{same_key};
 ghost use Rattle.fare_index.specs.Slots.{share_slot, slot_count};
 ghost use Rattle.fare_index.specs.Places.{ArePlaces, LeadsOn};
 
+use crate::crowd::Crowd;
 use crate::key::Key;
 use crate::keyed::Keyed;
 use crate::link::Link;
 use crate::slots::Slots;
 use fare_ports::NoMemory;
 use std::alloc::Global;
-
-/// With more places than these in one slot a list is linked by the order of its hashes. An edition has at most 64
-/// records of one key, so three keys may share a slot by chance.
-const MOST_IN_SLOT: u8 = 192;
-
-/// With more places than these, in the mean of all keys, behind a place in its slot it is too. Where each key has 64
-/// records there are 32.
-const MOST_BEHIND: usize = 40;
 
 /// The slots of keys, the first place of each slot, and for each place the next of its slot and whether it leads, which
 /// the first of each slot does.
@@ -49,13 +43,14 @@ fn follow(leads: &mut Vec<bool>, later: Link)
     }
 }
 
-/// The places of a list of keys, by the slots of their hashes. Each hash is known before the pass, so that a place
-/// waits only for its slot.
-fn places_by(alloc: Global, hashes: &[u64], slots: Slots) -> Result<Places, NoMemory>
+/// The places of a list of keys, by the slots of their hashes, and how they crowd. Each hash is known before the pass, so
+/// that a place waits only for its slot.
+fn places_by(alloc: Global, hashes: &[u64], slots: Slots) -> Result<(Places, Crowd), NoMemory>
     requires in_links { length hashes.now ≤ u32.MAX }
     requires some_slot { 0 < slot_count slots }
-    ensures { (keys : List Key) → hashes.now ≡ map hash_of keys → IfOk result (ArePlaces keys) }
+    ensures { (keys : List Key) → hashes.now ≡ map hash_of keys → IfOk result (λ made. ArePlaces keys made.0) }
 {
+    let mut crowd = Crowd::new(alloc, hashes.len())?;
     let mut heads = vec![in alloc; Link::none(); slots.count()]?;
     let mut links = vec![in alloc; Link::none(); hashes.len()]?;
     let mut leads = vec![in alloc; true; hashes.len() + 1]?;
@@ -63,31 +58,17 @@ fn places_by(alloc: Global, hashes: &[u64], slots: Slots) -> Result<Places, NoMe
         let slot = slots.by(hashes[place]);
         let later = heads[slot];
         follow(&mut leads, later);
+        crowd.note(place, later);
         links[place] = later;
         heads[slot] = Link::to(place as u32);
     }
-    Ok(Places {
+    let places = Places {
         slots,
         heads,
         links,
         leads,
-    })
-}
-
-/// Whether some slot has too many places, or all slots together. Nothing is known of the answer: it decides how fast
-/// look-ups are, and not what they answer.
-fn is_crowded(alloc: Global, links: &[Link]) -> Result<bool, NoMemory> {
-    let mut counts = vec![in alloc; 0u8; links.len() + 1]?;
-    let mut sum = 0usize;
-    for place in (0..links.len()).rev() {
-        let behind = counts.get(links[place].number()).copied().unwrap_or(0);
-        if behind >= MOST_IN_SLOT {
-            return Ok(true);
-        }
-        counts[place + 1] = behind + 1;
-        sum = sum.saturating_add(behind as usize);
-    }
-    Ok(sum > links.len().saturating_mul(MOST_BEHIND))
+    };
+    Ok((places, crowd))
 }
 
 /// The places of a list of keys, by their hashes. A list whose length doesn't fit 32 bits is answered as want of
@@ -98,9 +79,10 @@ pub(crate) fn places_of(alloc: Global, hashes: &[u64]) -> Result<Places, NoMemor
     if hashes.len() > u32::MAX as usize {
         return Err(NoMemory);
     }
-    let places = places_by(alloc, hashes, Slots::hashed(hashes.len()))?;
-    if is_crowded(alloc, places.links.as_slice())? {
-        return places_by(alloc, hashes, Slots::ranked(alloc, hashes)?);
+    let (places, crowd) = places_by(alloc, hashes, Slots::hashed(hashes.len()))?;
+    if crowd.is_too_great() {
+        let (ranked, _) = places_by(alloc, hashes, Slots::ranked(alloc, hashes)?)?;
+        return Ok(ranked);
     }
     Ok(places)
 }

@@ -8,6 +8,7 @@ use Rattle.fare_codes.specs.declared.kind.Kind.{Kind}
 use Rattle.fare_codes.specs.declared.kind.Kind.TheVariants.{OW, HR}
 use Rattle.fare_records.specs.declared.limits.TheConstants.{MOST_FARES_BETWEEN}
 use Rattle.fare_tariff.specs.declared.check.seen.Seen.{Seen}
+use Rattle.fare_tariff.specs.declared.check.seen.TheConstants.{BUCKETS}
 use Rattle.fare_records.specs.declared.record.Record.{Record}
 use Rattle.fare_records.specs.declared.record.Record.TheVariants as filed
 use Rattle.fare_records.specs.declared.fare_key.FareKey.{FareKey}
@@ -22,7 +23,7 @@ use Rattle.fare_index.specs.declared.key.Key.TheVariants as kind
 -- a number for a rule field
 abbrev pub rule_number : Option RuleId → ℕ
 rule_number None = 0
-rule_number (Some id) = spelled_rule id % 61
+rule_number (Some id) = spelled_rule id % BUCKETS
 
 -- a number for each class
 abbrev pub class_number : Cabin → ℕ
@@ -40,7 +41,7 @@ kind_number HR false = 12
 -- the bucket of the fares with a key
 abbrev pub bucket_of_key : FareKey → ℕ
 bucket_of_key key =
-    (rule_number key.rule + class_number key.class + kind_number key.kind (bytes_eq key.carrier (codes "YY"))) % 61
+    (rule_number key.rule + class_number key.class + kind_number key.kind (bytes_eq key.carrier (codes "YY"))) % BUCKETS
 
 -- the bucket of a fare
 abbrev pub bucket_of : FareRecord → ℕ
@@ -48,12 +49,12 @@ bucket_of fare = bucket_of_key (key_of fare)
 
 -- the bucket of two cities, in either order
 abbrev pub bucket_of_pair : City → City → ℕ
-bucket_of_pair a b = (spelled_city a % 61 + spelled_city b % 61) % 61
+bucket_of_pair a b = (spelled_city a % BUCKETS + spelled_city b % BUCKETS) % BUCKETS
 
 -- the bucket of the records other than fares with a key
 abbrev pub bucket_of_own : Key → ℕ
-bucket_of_own (kind.City city) = spelled_city city % 61
-bucket_of_own (kind.Rule id) = spelled_rule id % 61
+bucket_of_own (kind.City city) = spelled_city city % BUCKETS
+bucket_of_own (kind.Rule id) = spelled_rule id % BUCKETS
 bucket_of_own (kind.Permitted a b ind) = bucket_of_pair a b
 bucket_of_own (kind.Ticketed a b) = bucket_of_pair a b
 bucket_of_own (kind.Extra a b ind via) = bucket_of_pair a b
@@ -66,7 +67,7 @@ bucket_of_record one = bucket_of_own (own_key one)
 
 -- none was passed
 abbrev pub none_seen : Seen
-none_seen = record { count = 0; buckets = replicate 61 false }
+none_seen = record { count = 0; buckets = replicate BUCKETS false }
 
 -- a record may clash with some that were passed
 abbrev pub may_clash_some : Seen → Record → Bool

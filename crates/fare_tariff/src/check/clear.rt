@@ -11,7 +11,7 @@ ghost use Rattle.fare_tariff.specs.Seen.{may_clash};
 use crate::check::clash::clash_at;
 use crate::check::names::names_unknown;
 use crate::check::numbers::{has_same_points, is_zero_mileage};
-use crate::check::seen::Seen;
+use crate::check::seen::{BUCKETS, Seen};
 use fare_index::{FEWEST_APART, Groups};
 use fare_records::{Filed, MOST_RECORDS, Record};
 use rayon::prelude::*;
@@ -28,7 +28,7 @@ const STRIPS: usize = 64;
 fn clashes_among(filed: &Filed, place: usize, one: &Record, seen: &Seen) -> bool
     requires within { place < length filed.now }
     requires at { one.now ≡ slice_index_or filed.now place one.now }
-    requires long { length seen.now.buckets ≡ 61 }
+    requires long { length seen.now.buckets ≡ BUCKETS }
     ensures { result ≡ (may_clash seen.now one.now && clash_of (take place filed.now) one.now) }
 {
     seen.may_clash(one) && clash_at(filed, place, one)
@@ -39,7 +39,7 @@ fn clashes_among(filed: &Filed, place: usize, one: &Record, seen: &Seen) -> bool
 fn is_suspect(filed: &Filed, place: usize, one: &Record, seen: &Seen) -> bool
     requires within { place < length filed.now }
     requires at { one.now ≡ slice_index_or filed.now place one.now }
-    requires long { length seen.now.buckets ≡ 61 }
+    requires long { length seen.now.buckets ≡ BUCKETS }
     ensures { result ≡ is_suspect filed.now seen.now place one.now }
 {
     clashes_among(filed, place, one, seen)
