@@ -16,10 +16,11 @@ use Rattle.fare_rules.specs.Numbers.{greatest_of}
 use Rattle.fare_rules.specs.Reference.{reference}
 use Rattle.fare_rules.specs.Span.{first_day, stopovers}
 use Rattle.fare_rules.specs.Terms.{terms_of_fare}
+use Rattle.fare_component.specs.declared.table.known.Known.{Known}
 use Rattle.fare_component.specs.declared.table.references.Column.{Column}
 use Rattle.fare_component.specs.declared.table.references.Form.{Form}
 use Rattle.fare_component.specs.declared.table.references.References.{References}
-use Rattle.fare_component.specs.References.{AreReferences, IsColumn, IsOfForm, IsReach, IsReference, greatest_from, kept_at, reference_of}
+use Rattle.fare_component.specs.References.{AreReferences, IsColumn, IsOfForm, IsReach, IsReference, found_of, greatest_from, kept_at, nothing, reference_of}
 
 -- at each place of a list of one value stands that value, and behind it too where that is what stands behind
 pub same_at : {A : Type 0} (x : A) (n place : ℕ) → get_or (replicate n x) place x ≡ x
@@ -29,35 +30,36 @@ same_at x n place =
       | inr past ↦ get_or_past (replicate n x) place x (omega (arith, length-replicate n x, past))
     ]
 
--- what stands at a place once one is written
-at_put : (slots : List (Option (Option ℕ))) (place at : ℕ) (found : Option ℕ) (P : Option ℕ → Type 0)
-    → (at ≡ place → P found) → IfSome (get_or slots at None) P
-    → IfSome (get_or (set slots place (Some found)) at None) P
-at_put slots place at found P here there =
+-- what is known at a place once one is written
+at_put : (slots : List Known) (place at : ℕ) (one : Known) (P : Option ℕ → Type 0)
+    → (at ≡ place → IfSome (found_of one) P) → IfSome (found_of (get_or slots at nothing)) P
+    → IfSome (found_of (get_or (set slots place one) at nothing)) P
+at_put slots place at one P here there =
     elim (cases_eq at place) [
-      | inr other ↦ subst (λ (o : Option (Option ℕ)). IfSome o P) (sym (get_or-set_other slots place at (Some found) None other)) there
+      | inr other ↦ subst (λ (k : Known). IfSome (found_of k) P) (sym (get_or-set_other slots place at one nothing other)) there
       | inl same ↦
           elim (cases_lt place (length slots)) [
-            | inl within ↦ subst (λ (o : Option (Option ℕ)). IfSome o P) (sym (get_or-set_at slots place at (Some found) None same within)) (here same)
+            | inl within ↦ subst (λ (k : Known). IfSome (found_of k) P) (sym (get_or-set_at slots place at one nothing same within)) (here same)
             | inr past ↦
-                subst (λ (o : Option (Option ℕ)). IfSome o P)
-                (sym (get_or_past (set slots place (Some found)) at None (omega (arith, length-set slots place (Some found), past, same)))) tt
+                subst (λ (k : Known). IfSome (found_of k) P)
+                (sym (get_or_past (set slots place one) at nothing (omega (arith, length-set slots place one, past, same)))) tt
           ]
     ]
 
 -- what is known is right once one more reference is
-pub references_put : (tariff : Tariff) (trip : Itinerary) (known : References) (i j : ℕ) (found : Option ℕ)
+pub references_put : (tariff : Tariff) (trip : Itinerary) (known : References) (i j : ℕ) (found : Option ℕ) (one : Known)
     → count trip ≤ MOST_SECTORS → i < j → j ≤ count trip → AreReferences tariff trip known
-    → IsReference tariff trip known.form i j found
-    → AreReferences tariff trip (record known { found = set known.found (i * MOST_POINTS + j) (Some found) })
-references_put tariff trip known i j found short rises within right one =
+    → IsReference tariff trip known.form i j found → found_of one ≡ Some found
+    → AreReferences tariff trip (record known { found = set known.found (i * MOST_POINTS + j) one })
+references_put tariff trip known i j found one short rises within right reference stands =
     record {
-      found = λ p q up last. at_put known.found (i * MOST_POINTS + j) (p * MOST_POINTS + q) found (IsReference tariff trip known.form p q)
+      found = λ p q up last. at_put known.found (i * MOST_POINTS + j) (p * MOST_POINTS + q) one (IsReference tariff trip known.form p q)
           (λ same.
           let first : i ≡ p = omega arith in
           let second : j ≡ q = omega arith in
-          subst (λ (n : ℕ). IsReference tariff trip known.form n q found) first
-          (subst (λ (n : ℕ). IsReference tariff trip known.form i n found) second one))
+          subst (λ (o : Option (Option ℕ)). IfSome o (IsReference tariff trip known.form p q)) (sym stands)
+          (subst (λ (n : ℕ). IsReference tariff trip known.form n q found) first
+          (subst (λ (n : ℕ). IsReference tariff trip known.form i n found) second reference)))
           (right.found p q up last);
       columns = right.columns;
       reach = right.reach;
@@ -66,7 +68,7 @@ references_put tariff trip known i j found short rises within right one =
 
 -- where nothing is known, what is known is right
 pub nothing_known : (tariff : Tariff) (trip : Itinerary) (known : References)
-    → ((place : ℕ) → get_or known.found place None ≡ None) → ((j : ℕ) → kept_at known j ≡ None)
+    → ((place : ℕ) → found_of (get_or known.found place nothing) ≡ None) → ((j : ℕ) → kept_at known j ≡ None)
     → IsReach tariff trip known.form known.reach → known.asked ≡ terms_of_fare tariff known.form.fare
     → AreReferences tariff trip known
 nothing_known tariff trip known none columns reach asked =

@@ -1,5 +1,6 @@
 -- References between the points of a trip that a table has looked up, each once for all fares that share it.
-use Rattle.std.specs.Prelude.{◌≡◌, ℕ, ◌+◌, ◌*◌, ◌<◌, ◌≤◌, Bool, ◌&&◌, List, Option, None, IfSome, All, slice_index_or}
+use Rattle.std.specs.Prelude.{◌≡◌, ℕ, ◌+◌, ◌-◌, ◌*◌, ◌<◌, ◌≤◌, ◌==◌, Bool, ◌&&◌, List, Option, Some, None, IfSome}
+use Rattle.std.specs.Prelude.{All, slice_index_or}
 use Rattle.std.specs.Prelude.{option_map, filter, filter_map, flat_map, unwrap_or, if◌then◌else◌}
 use Rattle.fare_codes.specs.declared.nuc.Nuc.{Nuc}
 use Rattle.fare_codes.specs.declared.nuc.TheConstants.{FARE_LIMIT}
@@ -11,6 +12,8 @@ use Rattle.fare_rules.specs.Numbers.{greatest_of, numbers}
 use Rattle.fare_rules.specs.Base.{Compared, with_amount, is_end_or_stopover, reference_between, greatest_amount}
 use Rattle.fare_rules.specs.Span.{first_day, is_stopover}
 use Rattle.fare_rules.specs.Terms.{terms_of_fare}
+use Rattle.fare_component.specs.declared.table.known.Known.{Known}
+use Rattle.fare_component.specs.declared.table.known.TheConstants.{NOT_LOOKED_UP, NO_REFERENCE, LEAST_REFERENCE}
 use Rattle.fare_component.specs.declared.table.references.Column.{Column}
 use Rattle.fare_component.specs.declared.table.references.Form.{Form}
 use Rattle.fare_component.specs.declared.table.references.Reach.{Reach}
@@ -25,9 +28,20 @@ pub record IsOfForm (fare : FareRecord) (back : Bool) (form : Form) : Type 0 whe
   pub rule : form.fare.rule ≡ fare.rule
   pub direction : form.back ≡ back
 
+-- what stands for a reference that wasn't looked up
+abbrev pub nothing : Known
+nothing = record { number = NOT_LOOKED_UP }
+
+-- what a number stands for: nothing yet, that there is no reference, or one of so many hundredths
+abbrev pub found_of : Known → Option (Option Nuc)
+found_of known =
+    if known.number == NOT_LOOKED_UP then None
+    else if known.number == NO_REFERENCE then Some None
+    else Some (Some (known.number - LEAST_REFERENCE))
+
 -- what is known of two points: nothing yet, or what was found between them
 abbrev pub known_at : References → ℕ → ℕ → Option (Option Nuc)
-known_at known i j = slice_index_or known.found (i * MOST_POINTS + j) None
+known_at known i j = found_of (slice_index_or known.found (i * MOST_POINTS + j) nothing)
 
 -- the reference of a form between two points
 abbrev pub reference_of : Tariff → Itinerary → Form → ℕ → ℕ → Option Nuc

@@ -1,5 +1,6 @@
 //! The table of a trip in an edition: what each fare costs for each span, computed once.
 //!
+//! - `known`: what is known of one reference;
 //! - `references`, `forms`: the references of fares between the points, each looked up once;
 //! - `columns`: the greatest of them to a point, kept for the components from earlier points;
 //! - `reaches`: the greatest of all, kept for longer components from the same point;
@@ -24,6 +25,7 @@ mod cursor;
 mod entries;
 mod entry;
 mod forms;
+mod known;
 mod reaches;
 mod references;
 mod row;

@@ -6,8 +6,10 @@ ghost use Rattle.fare_tariff.specs.Tariff.{Tariff};
 ghost use Rattle.fare_rules.specs.Base.{reference_between};
 ghost use Rattle.fare_rules.specs.Terms.{terms_of_fare};
 ghost use Rattle.fare_component.specs.declared.table.references.Form.{Form};
-ghost use Rattle.fare_component.specs.References.{AreReferences, IsOfForm, IsReach, IsReference, kept_at, reference_of};
+ghost use Rattle.fare_component.specs.References.{AreReferences, IsOfForm, IsReach, IsReference};
+ghost use Rattle.fare_component.specs.References.{found_of, kept_at, nothing, reference_of};
 
+use crate::table::known::Known;
 use fare_codes::{Day, FARE_LIMIT, Nuc};
 use fare_conditions::{Priced, terms_of_fare};
 use fare_points::{Likes, reference_of};
@@ -52,7 +54,7 @@ pub(crate) struct Column {
 pub(crate) struct References {
     pub(crate) form: Form,
     pub(crate) asked: Option<Terms>,
-    pub(crate) found: [Option<Option<u64>>; MOST_PAIRS],
+    pub(crate) found: [Known; MOST_PAIRS],
     pub(crate) columns: [Option<Column>; MOST_POINTS],
     pub(crate) reach: Reach,
 }
@@ -139,7 +141,7 @@ impl References {
         ensures form { IsOfForm fare.now back result.form }
         ensures day { result.form.on ≡ on }
         ensures asked { result.asked ≡ terms_of_fare edition.now result.form.fare }
-        ensures none { (place : ℕ) → slice_index_or result.found place None ≡ None }
+        ensures none { (place : ℕ) → found_of (slice_index_or result.found place nothing) ≡ None }
         ensures columns { (j : ℕ) → kept_at result j ≡ None }
         ensures reach { (tariff : Tariff) (trip : Itinerary) → IsReach tariff trip result.form result.reach }
     {
@@ -151,7 +153,7 @@ impl References {
                 on,
             },
             asked: terms_of_fare(edition, fare),
-            found: [None; MOST_PAIRS],
+            found: [Known::nothing(); MOST_PAIRS],
             columns: [None; MOST_POINTS],
             reach: Reach::at(0),
         }
@@ -196,7 +198,7 @@ impl References {
     {
         let count = priced.trip.count();
         prove!(j <= count);
-        self.found[i * MOST_POINTS + j] = Some(found);
+        self.found[i * MOST_POINTS + j] = Known::of(found);
     }
 
     /// The reference between two points, which is looked up where it isn't known.
@@ -213,7 +215,7 @@ impl References {
     {
         let count = priced.trip.count();
         prove!(j <= count);
-        if let Some(found) = self.found[i * MOST_POINTS + j] {
+        if let Some(found) = self.found[i * MOST_POINTS + j].found() {
             return amount_of(found);
         }
         let found = self.looked_up(priced, i, j);
