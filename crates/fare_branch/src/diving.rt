@@ -57,87 +57,92 @@ fn is_no_dearer(found: &Step, floor: u64) -> bool {
     }
 }
 
-/// The one with the lesser floor of what was found and some first parts that one more follows, where these can bring
-/// anything and their floor isn't below a number.
+/// Finds some first parts that one more follows in place of what was found, where they can bring anything, and their
+/// floor is lesser and not below a number.
 #[tactic(auto, using(crate::proofs::DiveLemmas::goes_next))]
-fn lesser_step(stage: &Stage, part: Part, guess: Option<u64>, wanted: Wanted, found: Step) -> Step
+fn lesser_step(stage: &Stage, part: Part, guess: Option<u64>, wanted: Wanted, found: &mut Step)
     requires stage { IsStage stage.now.table.now stage.now.homing.now stage.now.front.now stage.now.ahead.now }
-    requires found { IfSome found (GoesFrom stage.now.table.now stage.now.front.now) }
-    ensures { IfSome result (GoesFrom stage.now.table.now stage.now.front.now) }
+    requires found { IfSome found.old (GoesFrom stage.now.table.now stage.now.front.now) }
+    ensures { IfSome found.new (GoesFrom stage.now.table.now stage.now.front.now) }
 {
     let (table, homing) = (stage.table, stage.homing);
     let Some(guess) = guess else {
-        return found;
+        return;
     };
-    if wanted.most < guess || is_no_dearer(&found, guess) {
-        return found;
+    if wanted.most < guess || is_no_dearer(found, guess) {
+        return;
     }
     let Some(longer) = stage.front.next(table, part) else {
-        return found;
+        return;
     };
     let Some(floor) = stack_after(table, homing, &longer, &stage.ahead.floors).floor else {
-        return found;
+        return;
     };
-    if floor < wanted.from || is_no_dearer(&found, floor) {
-        return found;
+    if floor < wanted.from || is_no_dearer(found, floor) {
+        return;
     }
     if is_crowded(table, homing, &longer) || is_barred(table, &longer) {
-        return found;
+        return;
     }
-    Some((longer, floor))
+    *found = Some((longer, floor));
+}
+
+/// The number of the first unit to which a part with an entry may come, where some units have begun: a one way fare is a
+/// unit of its own.
+fn first_unit(entry: &Entry, greatest: usize) -> usize {
+    if entry.single.is_some() {
+        greatest.saturating_add(1)
+    } else {
+        1
+    }
 }
 
 /// Over the units of a part that ends at a point and has a fare.
-fn least_by_units(stage: &Stage, end: usize, entry: &Entry, wanted: Wanted, found: Step) -> Step
+fn least_by_units(stage: &Stage, end: usize, entry: &Entry, wanted: Wanted, found: &mut Step)
     requires stage { IsStage stage.now.table.now stage.now.homing.now stage.now.front.now stage.now.ahead.now }
     requires within { end ≤ count stage.now.table.now.trip }
     requires bounds { IsInBounds entry.now }
-    requires found { IfSome found (GoesFrom stage.now.table.now stage.now.front.now) }
-    ensures { IfSome result (GoesFrom stage.now.table.now stage.now.front.now) }
+    requires found { IfSome found.old (GoesFrom stage.now.table.now stage.now.front.now) }
+    ensures { IfSome found.new (GoesFrom stage.now.table.now stage.now.front.now) }
 {
     let sectors = stage.table.trip().count();
     prove!(end <= sectors);
-    let mut found = found;
-    for unit in 1..stage.front.greatest_unit() + 2 {
+    let greatest = stage.front.greatest_unit();
+    for unit in first_unit(entry, greatest)..greatest + 2 {
         let part = Part {
             end: end as u8,
             unit: unit as u8,
             fare: entry.fare,
         };
         let guess = floor_with(stage.ahead, entry, part);
-        found = lesser_step(stage, part, guess, wanted, found);
+        lesser_step(stage, part, guess, wanted, found);
     }
-    found
 }
 
 /// Over the entries of the span to a point.
-fn least_by_entries(stage: &Stage, end: usize, wanted: Wanted, found: Step) -> Step
+fn least_by_entries(stage: &Stage, end: usize, wanted: Wanted, found: &mut Step)
     requires stage { IsStage stage.now.table.now stage.now.homing.now stage.now.front.now stage.now.ahead.now }
     requires rises { next_start stage.now.table.now.trip stage.now.front.now < end }
     requires within { end ≤ count stage.now.table.now.trip }
-    requires found { IfSome found (GoesFrom stage.now.table.now stage.now.front.now) }
-    ensures { IfSome result (GoesFrom stage.now.table.now stage.now.front.now) }
+    requires found { IfSome found.old (GoesFrom stage.now.table.now stage.now.front.now) }
+    ensures { IfSome found.new (GoesFrom stage.now.table.now stage.now.front.now) }
 {
     let start = stage.front.next_start(stage.table.trip());
-    let mut found = found;
     for entry in stage.table.entries(start, end) {
-        found = least_by_units(stage, end, entry, wanted, found);
+        least_by_units(stage, end, entry, wanted, found);
     }
-    found
 }
 
 /// Over the points where one more part may end.
-fn least_by_ends(stage: &Stage, wanted: Wanted, found: Step) -> Step
+fn least_by_ends(stage: &Stage, wanted: Wanted, found: &mut Step)
     requires stage { IsStage stage.now.table.now stage.now.homing.now stage.now.front.now stage.now.ahead.now }
-    requires found { IfSome found (GoesFrom stage.now.table.now stage.now.front.now) }
-    ensures { IfSome result (GoesFrom stage.now.table.now stage.now.front.now) }
+    requires found { IfSome found.old (GoesFrom stage.now.table.now stage.now.front.now) }
+    ensures { IfSome found.new (GoesFrom stage.now.table.now stage.now.front.now) }
 {
     let trip = stage.table.trip();
-    let mut found = found;
     for end in (stage.front.next_start(trip) + 1..trip.count() + 1).rev() {
-        found = least_by_entries(stage, end, wanted, found);
+        least_by_entries(stage, end, wanted, found);
     }
-    found
 }
 
 /// Some first parts that one more follows, with the least floor that isn't below a number; nothing where none follows.
@@ -156,32 +161,26 @@ pub(crate) fn least_step(table: &Table, homing: &Homing, front: &Partial, from: 
         front,
         ahead: &ahead,
     };
-    let found = least_by_ends(&stage, wanted, None);
+    let mut found = None;
+    least_by_ends(&stage, wanted, &mut found);
     if is_no_dearer(&found, wanted.most) {
         return found;
     }
-    least_by_ends(&stage, wanted.then(), found)
+    least_by_ends(&stage, wanted.then(), &mut found);
+    found
 }
 
 /// Over the choices of a piece.
-fn least_by_choices(
-    stage: &Stage,
-    counts: &Counts,
-    piece: Piece,
-    wanted: Wanted,
-    found: Step,
-) -> Step
+fn least_by_choices(stage: &Stage, counts: &Counts, piece: Piece, wanted: Wanted, found: &mut Step)
     requires stage { IsStage stage.now.table.now stage.now.homing.now stage.now.front.now stage.now.ahead.now }
     requires none { stage.now.front.now ≡ [] }
     requires counts { AreCounts stage.now.table.now.edition stage.now.table.now.trip counts.now }
-    requires found { IfSome found (StartsIn stage.now.table.now piece) }
-    ensures { IfSome result (StartsIn stage.now.table.now piece) }
+    requires found { IfSome found.old (StartsIn stage.now.table.now piece) }
+    ensures { IfSome found.new (StartsIn stage.now.table.now piece) }
 {
-    let mut found = found;
     for number in piece.first..piece.past.min(choices(stage.table)) {
-        found = lesser_start(stage, counts, piece, number, wanted, found);
+        lesser_start(stage, counts, piece, number, wanted, found);
     }
-    found
 }
 
 /// The first part with the least floor, not below a number, among the choices of a piece.
@@ -200,33 +199,35 @@ pub(crate) fn first_step(table: &Table, homing: &Homing, piece: Piece, from: u64
         ahead: &ahead,
     };
     let counts = counts_of(table);
-    let found = least_by_choices(&stage, &counts, piece, wanted, None);
+    let mut found = None;
+    least_by_choices(&stage, &counts, piece, wanted, &mut found);
     if is_no_dearer(&found, wanted.most) {
         return found;
     }
-    least_by_choices(&stage, &counts, piece, wanted.then(), found)
+    least_by_choices(&stage, &counts, piece, wanted.then(), &mut found);
+    found
 }
 
-/// The one with the lesser floor of what was found and the first part of a choice.
+/// Finds the first part of a choice in place of what was found, where its floor is lesser.
 fn lesser_start(
     stage: &Stage,
     counts: &Counts,
     piece: Piece,
     number: u32,
     wanted: Wanted,
-    found: Step,
-) -> Step
+    found: &mut Step,
+)
     requires stage { IsStage stage.now.table.now stage.now.homing.now stage.now.front.now stage.now.ahead.now }
     requires none { stage.now.front.now ≡ [] }
     requires counts { AreCounts stage.now.table.now.edition stage.now.table.now.trip counts.now }
     requires low { piece.first ≤ number }
     requires high { number < piece.past }
-    requires found { IfSome found (StartsIn stage.now.table.now piece) }
-    ensures { IfSome result (StartsIn stage.now.table.now piece) }
+    requires found { IfSome found.old (StartsIn stage.now.table.now piece) }
+    ensures { IfSome found.new (StartsIn stage.now.table.now piece) }
 {
     let (table, homing) = (stage.table, stage.homing);
     let Some((end, fare)) = choice(table, counts, number) else {
-        return found;
+        return;
     };
     let _sectors = table.trip().count();
     let part = Part {
@@ -235,19 +236,19 @@ fn lesser_start(
         fare,
     };
     let Some(guess) = floor_ahead(table, stage.ahead, stage.front, part) else {
-        return found;
+        return;
     };
-    if wanted.most < guess || is_no_dearer(&found, guess) {
-        return found;
+    if wanted.most < guess || is_no_dearer(found, guess) {
+        return;
     }
     let Some(first) = stage.front.next(table, part) else {
-        return found;
+        return;
     };
     let Some(floor) = stack_of(table, homing, &first).floor else {
-        return found;
+        return;
     };
-    if floor < wanted.from || is_no_dearer(&found, floor) || is_crowded(table, homing, &first) {
-        return found;
+    if floor < wanted.from || is_no_dearer(found, floor) || is_crowded(table, homing, &first) {
+        return;
     }
-    Some((first, floor))
+    *found = Some((first, floor));
 }

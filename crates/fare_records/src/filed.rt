@@ -40,7 +40,7 @@ impl Filed {
         ensures { IfOk result (λ filed. filed ≡ records.items) }
     {
         let index = Index::of(rt, alloc, records)?;
-        let guesses = Guesses::of(alloc, index.items())?;
+        let guesses = Guesses::of(rt, alloc, index.items())?;
         Ok(Filed { index, guesses })
     }
 
@@ -80,13 +80,13 @@ impl Filed {
         self.index.first(key)
     }
 
-    /// The place of the first record with a key. A rule's id takes longer to hash than to guess by, a pair of cities
-    /// doesn't.
+    /// The place of the first record with a key. A city's code and a rule's id take longer to hash than to guess by, a
+    /// pair of cities doesn't.
     pub fn first(&self, key: &Key) -> Option<usize>
         ensures { result ≡ position_from (has_own_key key.now) 0 self.now }
     {
         match key {
-            Key::Rule(_) => self.first_guessed(key),
+            Key::City(_) | Key::Rule(_) => self.first_guessed(key),
             _ => self.index.first(key),
         }
     }

@@ -6,10 +6,13 @@ ghost use Rattle.fare_records.specs.Spelling.{spelled_city, spelled_rule};
 
 use crate::record::Record;
 use fare_codes::{City, RuleId};
-use fare_index::Key;
+use fare_index::{FEWEST_APART, Key};
 use fare_ports::NoMemory;
-use std::alloc::Global;
+use rayon::prelude::*;
+use std::alloc::{AllocError, Global};
 use std::hash::{Hash, Hasher};
+use std::marker::Sync;
+use std::thread::Threads;
 
 /// As many slots as three letters of five bits have, so that no two cities share one. A shorter edition has at least as
 /// many as it has records.
@@ -31,6 +34,13 @@ const MIXING: u64 = 0x9E37_79B9_7F4A_7C15;
 #[derive(Drop)]
 pub(crate) struct Guesses {
     places: Vec<u32>,
+}
+
+/// A city or a rule in a share of the records: the number by which its slot is found, and its place in the share.
+#[derive(Clone, Copy)]
+struct Told {
+    number: u64,
+    place: u32,
 }
 
 /// The letters of a code as the digits of a number. Unlike by a hash, cities whose letters are near one another have
@@ -113,23 +123,54 @@ fn slot_of(number: u64, slots: usize) -> usize {
     number as usize & (slots.max(1) - 1)
 }
 
+/// The cities and the rules in a share of the records.
+fn told_in(alloc: Global, share: &[Record]) -> Result<Vec<Told>, AllocError> {
+    let mut told = Vec::new(alloc);
+    for (place, one) in (0..u32::MAX).zip(share.iter()) {
+        if let Some(number) = spelled_of(one) {
+            told.push(Told { number, place })?;
+        }
+    }
+    Ok(told)
+}
+
 impl Guesses {
-    /// The places of the cities and the rules among some records. Places that don't fit 32 bits are left out.
-    pub(crate) fn of(alloc: Global, records: &[Record]) -> Result<Guesses, NoMemory> {
+    /// The places of the cities and the rules among some records, which are gone through on all processors. Places that
+    /// don't fit 32 bits are left out.
+    pub(crate) fn of<R: Threads + Sync>(
+        rt: &R,
+        alloc: Global,
+        records: &[Record],
+    ) -> Result<Guesses, NoMemory> {
         let slots = records
             .len()
             .max(FEWEST_SLOTS)
             .min(MOST_SLOTS)
             .next_power_of_two();
-        let mut places = vec![in alloc; 0; slots]?;
-        for (place, one) in (0..u32::MAX).zip(records.iter()) {
-            if let Some(number) = spelled_of(one) {
-                if let Some(slot) = places.get_mut(slot_of(number, slots)) {
-                    *slot = place;
-                }
+        let mut guesses = Guesses {
+            places: vec![in alloc; 0; slots]?,
+        };
+        let shares: Vec<Result<Vec<Told>, AllocError>> = records
+            .par_chunks(FEWEST_APART)
+            .with_min_len(1)
+            .map(|share: &[Record]| -> Result<Vec<Told>, AllocError> { told_in(alloc, share) })
+            .collect(rt, alloc)?;
+        let mut first = 0u32;
+        for told in shares {
+            guesses.note(first, told?.as_slice());
+            first = first.saturating_add(FEWEST_APART as u32);
+        }
+        Ok(guesses)
+    }
+
+    /// Notes the places of those that were found in a share of the records, by the place of its first.
+    fn note(&mut self, first: u32, told: &[Told]) {
+        let slots = self.places.len();
+        for one in told {
+            if let Some(slot) = self.places.get_mut(slot_of(one.number, slots)) {
+                *slot = first.saturating_add(one.place);
             }
         }
-        Ok(Guesses { places })
     }
 
     /// Where the record of a key may stand. Nothing is known of the answer: it is a guess, which is looked up, and a

@@ -37,9 +37,10 @@ impl Keyed for Record {
         }
     }
 
-    /// A search looks up rules and fares again and again, so of these no key is made.
+    /// A search looks up cities, rules and fares again and again, so of these no key is made.
     fn has(&self, key: &Key) -> bool {
         match (self, key) {
+            (Record::City(r), Key::City(code)) => code.is(r.code),
             (Record::Rule(filed), Key::Rule(id)) => id.is(filed.rule().id),
             (Record::Fare(r), Key::Fares(from, to, ind)) => {
                 from.is(r.from) && to.is(r.to) && ind.is(r.ind)
