@@ -42,6 +42,11 @@ no_homings tariff trip homing end = record {
   nothing = end;
 }
 
+-- where the numbers of one point are put, those of the points behind it stay
+pub closing_put : (standings : List Standing) (p : ℕ) (new : Standing) (b i j : ℕ) → p < b
+    → cell (slice_index_or (set standings p new) b no_standing).closing i j ≡ cell (slice_index_or standings b no_standing).closing i j
+closing_put standings p new b i j past = ap (λ (s : Standing). cell s.closing i j) (get_or-set_other standings p b new no_standing (λ e. omega arith))
+
 -- one point more
 module _ (tariff : Tariff) (trip : Itinerary) (homing : Homing) (p : ℕ) (before : p < count trip) (row : List (Option ℕ)) (number : Option ℕ) (new : Standing)
     (long_standing : p < length homing.standing) (long_whole : p < length homing.whole) (long_rest : p < length homing.rest) (known : AreHomingsFrom tariff trip (p + 1) homing)

@@ -1,12 +1,14 @@
 -- The numbers of homing from a trip's end back, one point on.
-use Rattle.std.proofs.Common.{◌≡◌, ℕ, ◌+◌, ◌<◌, ◌≤◌, Bool, true, false, List, sym, subst, inl, inr, arith}
-use Rattle.std.specs.Prelude.{Option, None, if◌then◌else◌}
-use Rattle.std.proofs.lemmas.Bool.{cases_Bool}
+use Rattle.std.proofs.Common.{◌≡◌, ℕ, ◌+◌, ◌<◌, ◌≤◌, Bool, true, false, List, [], length, set, sym, subst, inl, inr, arith}
+use Rattle.std.specs.Prelude.{Option, None, if◌then◌else◌, slice_index_or}
+use Rattle.std.proofs.lemmas.Bool.{cases_Bool, cases_eq}
+use Rattle.std.proofs.lemmas.List.{get_or-set_same, get_or-set_other}
 use Rattle.fare_trip.specs.Itinerary.{Itinerary, count}
 use Rattle.fare_tariff.specs.Tariff.{Tariff}
 use Rattle.fare_codes.specs.declared.country.Country.{Country}
 use Rattle.fare_rules.specs.Construction.{begin_after}
 use Rattle.fare_rules.proofs.CoverLemmas.{begins_later}
+use Rattle.fare_bounds.specs.Covers.{rest_at}
 use Rattle.fare_component.specs.declared.table.entry.Entry.{Entry}
 use Rattle.fare_component.specs.Table.{entries_of}
 use Rattle.fare_component.proofs.LawLemmas.{entry_is_of_fare}
@@ -15,7 +17,8 @@ use Rattle.fare_legs.specs.Barred.{unless_barred}
 use Rattle.fare_legs.specs.Ceiling.{below_ceiling}
 use Rattle.fare_legs.specs.Costs.{IsUpTo, back_cost, between_cost, first_cost, heads_to, is_same_city}
 use Rattle.fare_homing.specs.Homing.{homing_at}
-use Rattle.fare_homing.specs.HomingRows.{AreClosings, AreJaws, AreNext, AreWholes, IsBetween, IsPart, IsUnderBoth}
+use Rattle.fare_homing.specs.HomingRows.{AreBetweens, AreClosings, AreJaws, AreNext, AreWholes, IsBetween, IsPart, IsUnderBoth}
+use Rattle.fare_homing.specs.Rows.{cell}
 use Rattle.fare_legs.specs.Least.{IsUnderEach}
 use Rattle.fare_legs.specs.Countries.{heads_in, AreCountries}
 use Rattle.fare_legs.proofs.CountryLemmas.{heads_same}
@@ -81,6 +84,25 @@ closings_same tariff trip ceiling worth after new_after whole new_whole stays ne
       subst (IsUpTo (x + y)) (sym (here j)) (are.between b j x y city part less apart within (subst (IsUpTo y) (afters b j rises.0) up));
   nested = under_same whole new_whole stays new_stays i row new wholes same here are.nested;
 }
+
+-- numbers of parts between are under the same by rows that are the same behind their point
+pub betweens_same : (tariff : Tariff) (trip : Itinerary) (ceiling : Option Ceiling) (after new_after : ℕ → ℕ → Option ℕ) (i : ℕ) (row : ℕ → Option ℕ) → ((b j : ℕ) → i < b → new_after b j ≡ after b j)
+    → AreBetweens tariff trip ceiling after i row → AreBetweens tariff trip ceiling new_after i row
+betweens_same tariff trip ceiling after new_after i row afters are b j x y part less apart within up =
+    let rises = part_after tariff trip (below_ceiling tariff trip ceiling (begin_after trip i) j b (between_cost (heads_to tariff trip (begin_after trip i) b j))) i b x part.part in
+    are b j x y part less apart within (subst (IsUpTo y) (afters b j rises.0) up)
+
+-- the numbers of one point more are put
+pub put_betweens : (tariff : Tariff) (trip : Itinerary) (ceiling : Option Ceiling) (after : ℕ → ℕ → Option ℕ) (rows : List (List (Option ℕ))) (p : ℕ) (row : List (Option ℕ)) → p < length rows
+    → AreBetweens tariff trip ceiling after p (rest_at row) → ((i : ℕ) → p + 1 ≤ i → i < count trip → AreBetweens tariff trip ceiling after i (cell rows i)) → (i : ℕ) → p ≤ i → i < count trip → AreBetweens tariff trip ceiling after i (cell (set rows p row) i)
+put_betweens tariff trip ceiling after rows p row long here known i low high =
+    let Row : ℕ → List (Option ℕ) → Type 0 = λ k line. AreBetweens tariff trip ceiling after k (rest_at line) in
+    elim (cases_eq i p) [
+      | inl same ↦
+          let P : ℕ → Type 0 = λ k. Row k (slice_index_or (set rows p row) k []) in
+          subst P (sym same) (subst (Row p) (sym (get_or-set_same rows p row [] long)) here)
+      | inr other ↦ subst (Row i) (sym (get_or-set_other rows p i row [] other)) (known i (omega arith) high)
+    ]
 
 -- what comes next with what is nested before it is behind the point
 pub closings_of : (tariff : Tariff) (trip : Itinerary) (ceiling : Option Ceiling) (next worth : ℕ → ℕ → Type 0) (after : ℕ → ℕ → Option ℕ) (whole : ℕ → Option ℕ) (stays : ℕ → ℕ → Option ℕ) (stand i : ℕ) (near row : ℕ → Option ℕ)

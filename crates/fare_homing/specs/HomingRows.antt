@@ -58,6 +58,13 @@ pub record IsSecond (tariff : Tariff) (trip : Itinerary) (stand i j worth : ℕ)
   pub last : (x : ℕ) × IsLast tariff trip stand i j x × (x ≤ worth)
   pub owed : is_same_city trip stand (begin_after trip i) ≡ true → (y : ℕ) × IsOwed tariff trip stand j y × (y ≤ worth)
 
+-- numbers are under what a part between costs that begins behind a point, by the point where its unit closes, with what
+-- is behind that until the unit closes elsewhere than where the part ends
+abbrev pub AreBetweens : Tariff → Itinerary → Option Ceiling → (ℕ → ℕ → Option ℕ) → ℕ → (ℕ → Option ℕ) → Type 0
+AreBetweens tariff trip ceiling after i row =
+    (b j x y : ℕ) → IsBetween tariff trip ceiling (begin_after trip i) j b x → b < j → is_same_city trip j b ≡ false
+    → j ≤ count trip → IsUpTo y (after b j) → IsUpTo (x + y) (row j)
+
 -- numbers are under what comes next behind a point of a unit that stands in the city of another, by the point where that
 -- closes: what its last part is worth; or one between, from there, with what is behind that until the unit closes
 -- elsewhere than where the part ends

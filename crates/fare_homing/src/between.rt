@@ -5,7 +5,7 @@ ghost use Rattle.fare_trip.specs.Itinerary.{count};
 ghost use Rattle.fare_bounds.specs.Covers.{rest_at};
 ghost use Rattle.fare_component.specs.Table.{entries_of};
 ghost use Rattle.fare_legs.specs.Costs.{IsUpTo, between_cost, is_same_city};
-ghost use Rattle.fare_homing.specs.HomingRows.{IsBetween};
+ghost use Rattle.fare_homing.specs.HomingRows.{AreBetweens, IsBetween};
 ghost use Rattle.fare_legs.specs.Least.{IsUnderEach};
 ghost use Rattle.fare_rules.specs.Shape.{is_same_country};
 ghost use Rattle.fare_rules.specs.Construction.{begin_after};
@@ -216,29 +216,21 @@ fn reach_between(table: &Table, homing: &Homing, start: &Start, home: usize) -> 
     least
 }
 
-/// A row by the points where a unit closes, lowered to the parts between that may come next.
-pub(crate) fn with_between(
-    table: &Table,
-    homing: &Homing,
-    start: &Start,
-    i: usize,
-    row: &[Floor; MOST_POINTS],
-) -> [Floor; MOST_POINTS]
+/// What the parts between that begin behind a point cost at least, by the point where their unit closes, with what is
+/// behind them until then.
+pub(crate) fn betweens_at(table: &Table, homing: &Homing, start: &Start) -> [Floor; MOST_POINTS]
+    requires point { start.now.point ≡ begin_after table.now.trip start.now.behind }
     requires inside { start.now.point ≤ count table.now.trip }
-    requires rises { i < count table.now.trip }
     requires countries { AreCountries table.now.edition table.now.trip start.now.countries.now }
     requires legs { AreLegsOf table.now.edition table.now.trip [] start.now.point start.now.legs.now }
     requires of_two { AreOfTwo table.now.edition table.now.trip homing.now.of_two }
-    ensures kept { (j most : ℕ) → IsUpTo most (rest_at row.now j) → IsUpTo most (rest_at result j) }
-    ensures between { (b j x y : ℕ) → i < j → start.now.point < b → b < j → j ≤ count table.now.trip
-        → is_same_city table.now.trip j b ≡ false
-        → IsBetween table.now.edition table.now.trip homing.now.unit_ceiling start.now.point j b x
-        → IsUpTo y (closing_from homing.now b b j) → IsUpTo (x + y) (rest_at result j) }
+    ensures { AreBetweens table.now.edition table.now.trip homing.now.unit_ceiling (λ b. closing_from homing.now b b)
+        start.now.behind (rest_at result) }
 {
     let count = table.trip().count();
-    let mut least = *row;
-    for j in i + 1..count + 1 {
-        least[j] = lesser(number_at(&least, j), reach_between(table, homing, start, j));
+    let mut least = [NOTHING; MOST_POINTS];
+    for j in start.point + 1..count + 1 {
+        least[j] = reach_between(table, homing, start, j);
     }
     least
 }

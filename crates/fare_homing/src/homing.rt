@@ -9,7 +9,7 @@ ghost use Rattle.fare_legs.specs.Costs.{are_near};
 ghost use Rattle.fare_homing.specs.Units.{IsBar, IsUnitCeiling};
 ghost use Rattle.fare_homing.specs.Rows.{cell, begun_from, closing_from, jaw_from, no_standing, AreHomingsOf};
 
-use crate::between::{lie_together, start_at};
+use crate::between::{betweens_at, lie_together, start_at};
 use crate::onward::{Onwards, without_barred};
 use crate::reaching::least_onward;
 use crate::standing::standing_at;
@@ -233,12 +233,15 @@ fn make(homing: &mut Homing, table: &Table, price: Option<u64>, bar: Option<Bar>
     homing.bar = bar;
     homing.unit_ceiling = unit_ceiling_of(homing.ceiling, bar);
     homing.rest = rest_at_end(count);
+    let mut betweens = [[NOTHING; MOST_POINTS]; MOST_POINTS];
     for c in (0..count).rev() {
         let start = start_at(table, &legs, &homing.countries, barred, c);
+        let between = betweens_at(table, homing, &start);
+        betweens[c] = between;
         let whole = wholes_at(table, homing, &start);
         homing.whole[c] = whole;
         homing.rest[c] = least_onward(&whole, &homing.rest, c, count + 1);
-        let standing = standing_at(table, &homing.countries, &legs, homing, c);
+        let standing = standing_at(table, &legs, &betweens, homing, c);
         homing.standing[c] = standing;
     }
     homing.onwards = without_barred(&homing.rest);

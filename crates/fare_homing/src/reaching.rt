@@ -9,6 +9,23 @@ ghost use Rattle.fare_homing.specs.Rows.{cell};
 use fare_legs::{Floor, NOTHING, added, lesser, number_at};
 use fare_rules::MOST_POINTS;
 
+/// The lesser of two rows at each place.
+pub(crate) fn lesser_of(
+    row: &[Floor; MOST_POINTS],
+    other: &[Floor; MOST_POINTS],
+) -> [Floor; MOST_POINTS]
+    ensures kept { (j most : ℕ) → IsUpTo most (rest_at row.now j) → IsUpTo most (rest_at result j) }
+    ensures under { (j most : ℕ) → IsUpTo most (rest_at other.now j) → IsUpTo most (rest_at result j) }
+{
+    let mut least = [NOTHING; MOST_POINTS];
+    for j in 0..MOST_POINTS {
+        let one = number_at(row, j);
+        let another = number_at(other, j);
+        least[j] = lesser(one, another);
+    }
+    least
+}
+
 /// A row whose numbers are lowered to a step with what is behind it.
 pub(crate) fn lowered(
     row: &[Floor; MOST_POINTS],

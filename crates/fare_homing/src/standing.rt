@@ -1,22 +1,22 @@
 //! What is behind each point until a unit comes home that stands in the city of one point: its next part begins there,
 //! whatever whole units come before.
 
-ghost use Rattle.std.specs.Prelude.{◌≡◌, ℕ, ◌<◌, ◌≤◌, [], true};
+ghost use Rattle.std.specs.Prelude.{◌≡◌, ℕ, ◌<◌, ◌≤◌, [], Option, true};
 ghost use Rattle.fare_trip.specs.Itinerary.{count};
 ghost use Rattle.fare_rules.specs.Construction.{begin_after};
 ghost use Rattle.fare_bounds.specs.Covers.{rest_at};
+ghost use Rattle.fare_legs.specs.declared.ceiling.Ceiling.{Ceiling};
 ghost use Rattle.fare_legs.specs.Costs.{IsUpTo, is_same_city};
 ghost use Rattle.fare_homing.specs.Homing.{may_go_on};
-ghost use Rattle.fare_homing.specs.HomingRows.{AreClosings, AreJaws, AreNext, IsLast, IsSecond};
+ghost use Rattle.fare_homing.specs.HomingRows.{AreBetweens, AreClosings, AreJaws, AreNext, IsLast, IsSecond};
 ghost use Rattle.fare_legs.specs.Legs.{AreLegsBehind, AreLegsOf};
 ghost use Rattle.fare_legs.specs.Owed.{AreOwed};
 ghost use Rattle.fare_homing.specs.Rows.{cell, closing_from};
 ghost use Rattle.fare_legs.specs.Countries.{AreCountries};
-ghost use Rattle.fare_legs.specs.Threes.{AreOfTwo};
 
-use crate::between::{Start, lie_together, start_at, with_between};
+use crate::between::{Start, lie_together, start_at};
 use crate::homing::{Homing, Standing};
-use crate::reaching::lowered_by;
+use crate::reaching::{lesser_of, lowered_by};
 use fare_codes::Country;
 use fare_component::Table;
 use fare_legs::{Floor, LegRows, NOTHING, owed_from, raised};
@@ -60,29 +60,29 @@ fn last_row(may: bool, start: &Start) -> [Floor; MOST_POINTS]
     }
 }
 
-/// What comes next of a unit that stands in the city of a point, by where it closes, by what its last part costs at least.
+/// What comes next of a unit that stands in the city of a point, by where it closes, by what its last part costs at least
+/// and the parts between.
 fn next_at(
     table: &Table,
-    homing: &Homing,
     start: &Start,
     stand: usize,
+    betweens: &[Floor; MOST_POINTS],
     last: &[Floor; MOST_POINTS],
 ) -> [Floor; MOST_POINTS]
     requires point { start.now.point ≡ begin_after table.now.trip start.now.behind }
     requires inside { start.now.point ≤ count table.now.trip }
     requires stand { stand ≤ start.now.behind }
     requires rises { start.now.behind < count table.now.trip }
-    requires countries { AreCountries table.now.edition table.now.trip start.now.countries.now }
-    requires legs { AreLegsOf table.now.edition table.now.trip [] start.now.point start.now.legs.now }
-    requires of_two { AreOfTwo table.now.edition table.now.trip homing.now.of_two }
-    ensures { AreNext table.now.edition table.now.trip homing.now.unit_ceiling (λ j x. IsUpTo x (rest_at last.now j))
-        (λ b. closing_from homing.now b b) stand start.now.behind (rest_at result) }
+    ensures { (ceiling : Option Ceiling) (after : ℕ → ℕ → Option ℕ)
+        → AreBetweens table.now.edition table.now.trip ceiling after start.now.behind (rest_at betweens.now)
+        → AreNext table.now.edition table.now.trip ceiling (λ j x. IsUpTo x (rest_at last.now j)) after stand
+        start.now.behind (rest_at result) }
 {
     let trip = table.trip();
     let count = trip.count();
     prove!(start.point <= count);
     if trip.point(start.point).is(trip.point(stand)) {
-        with_between(table, homing, start, start.behind, last)
+        lesser_of(last, betweens)
     } else {
         *last
     }
@@ -152,18 +152,21 @@ fn jaws_at(
     lowered_by(&last, &homing.whole[unit.i], stays, unit.i)
 }
 
-/// What is behind each point from one on until a unit comes home that stands in the city of that point.
+/// What is behind each point from one on until a unit comes home that stands in the city of that point, by the parts
+/// between behind each.
 pub(crate) fn standing_at(
     table: &Table,
-    countries: &[Option<Country>; MOST_POINTS],
     legs: &[LegRows; MOST_POINTS],
+    betweens: &[[Floor; MOST_POINTS]; MOST_POINTS],
     homing: &Homing,
     stand: usize,
 ) -> Standing
     requires within { stand < count table.now.trip }
-    requires countries { AreCountries table.now.edition table.now.trip countries.now }
+    requires countries { AreCountries table.now.edition table.now.trip homing.now.countries }
     requires legs { AreLegsBehind table.now.edition table.now.trip [] legs.now }
-    requires of_two { AreOfTwo table.now.edition table.now.trip homing.now.of_two }
+    requires betweens { (i : ℕ) → stand ≤ i → i < count table.now.trip
+        → AreBetweens table.now.edition table.now.trip homing.now.unit_ceiling (λ b. closing_from homing.now b b) i
+        (cell betweens.now i) }
     ensures begins { (i : ℕ) → stand ≤ i → i < count table.now.trip
         → AreClosings table.now.edition table.now.trip homing.now.unit_ceiling
         (IsSecond table.now.edition table.now.trip stand i) (λ b. closing_from homing.now b b)
@@ -185,11 +188,11 @@ pub(crate) fn standing_at(
     let owed = owed_from(table, stand);
     let none: [u32; 0] = [];
     for i in (stand..trip.count()).rev() {
-        let start = start_at(table, legs, countries, none.as_slice(), i);
+        let start = start_at(table, legs, &homing.countries, none.as_slice(), i);
         let last = lasts_at(table, &start, stand);
         let second = seconds_at(table, &start, stand, &last, &owed);
-        let one = next_at(table, homing, &start, stand, &second);
-        let more = next_at(table, homing, &start, stand, &last);
+        let one = next_at(table, &start, stand, &betweens[i], &second);
+        let more = next_at(table, &start, stand, &betweens[i], &last);
         let begun = lowered_by(&one, &homing.whole[i], &standing.begun, i);
         let closing = lowered_by(&more, &homing.whole[i], &standing.closing, i);
         let jaw = jaws_at(table, homing, &start, &standing.jaw, GoingOn { stand, i });

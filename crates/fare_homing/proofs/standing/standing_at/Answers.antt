@@ -4,7 +4,7 @@ use Rattle.std.proofs.lemmas.Bool.{cases_eq}
 use Rattle.std.proofs.lemmas.List.{get_or-set_same, get_or-set_other}
 use Rattle.fare_trip.specs.Itinerary.{count}
 use Rattle.fare_bounds.specs.Covers.{rest_at}
-use Rattle.fare_homing.specs.HomingRows.{AreClosings, AreJaws, AreNext, IsLast, IsSecond}
+use Rattle.fare_homing.specs.HomingRows.{AreBetweens, AreClosings, AreJaws, AreNext, IsLast, IsSecond}
 use Rattle.fare_homing.specs.Rows.{cell, closing_from}
 use Rattle.fare_legs.specs.Costs.{IsUpTo}
 use Rattle.fare_homing.proofs.HomingRowLemmas.{closings_of, closings_same, jaws_same}
@@ -48,8 +48,12 @@ loop-i-preserved c =
     let Last : ℕ → ℕ → Type 0 = λ j x. IsUpTo x (rest_at c.lasts_at-last.result j) in
     let second : (j x : ℕ) → IsSecond tariff trip stand place j x → Second j x = λ j x is. c.seconds_at-second.ensures j x (subst (λ i. IsSecond tariff trip stand i j x) (sym behind) is) in
     let last_one : (j x : ℕ) → IsLast tariff trip stand place j x → Last j x = λ j x is. c.lasts_at-last.ensures j x (subst (λ i. IsLast tariff trip stand i j x) (sym behind) is) in
-    let one : AreNext tariff trip homing.unit_ceiling Second After stand place (rest_at c.next_at-one.result) = subst (λ i. AreNext tariff trip homing.unit_ceiling Second After stand i (rest_at c.next_at-one.result)) behind c.next_at-one.ensures in
-    let more : AreNext tariff trip homing.unit_ceiling Last After stand place (rest_at c.next_at-more.result) = subst (λ i. AreNext tariff trip homing.unit_ceiling Last After stand i (rest_at c.next_at-more.result)) behind c.next_at-more.ensures in
+    let last : c.count-i.result ≡ count trip = c.count-i.ensures.value ∙ ap count c.trip-trip.ensures in
+    let within : place < count trip = omega arith in
+    let Betweens : ℕ → Type 0 = λ i. AreBetweens tariff trip homing.unit_ceiling After i (cell c.args.betweens.now place) in
+    let betweens : Betweens c.start_at-start.result.behind = subst Betweens (sym behind) (c.requires.betweens place (omega arith) within) in
+    let one : AreNext tariff trip homing.unit_ceiling Second After stand place (rest_at c.next_at-one.result) = subst (λ i. AreNext tariff trip homing.unit_ceiling Second After stand i (rest_at c.next_at-one.result)) behind (c.next_at-one.ensures homing.unit_ceiling After betweens) in
+    let more : AreNext tariff trip homing.unit_ceiling Last After stand place (rest_at c.next_at-more.result) = subst (λ i. AreNext tariff trip homing.unit_ceiling Last After stand i (rest_at c.next_at-more.result)) behind (c.next_at-more.ensures homing.unit_ceiling After betweens) in
     let begun_here : Rows (IsSecond tariff trip stand place) (cell begun) place (rest_at new_begun) =
     closings_of tariff trip homing.unit_ceiling Second (IsSecond tariff trip stand place) After (cell homing.whole place) (cell begun) stand place (rest_at c.next_at-one.result) (rest_at new_begun) second one c.lowered_by-begun.ensures.kept c.lowered_by-begun.ensures.under in
     let closing_here : Rows (IsLast tariff trip stand place) (cell closing) place (rest_at new) =
